@@ -1,0 +1,3 @@
+//! Stand-in for parity-db's `column`.
+
+pub type ColId = u8;

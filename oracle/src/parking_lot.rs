@@ -1,0 +1,3 @@
+//! Stand-in for parity-db's `parking_lot`, which chooses between this crate and loom's locks.
+
+pub use ::parking_lot::{RwLock, RwLockWriteGuard};
