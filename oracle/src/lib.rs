@@ -1,5 +1,5 @@
-//! parity-db's `src/log.rs`, byte for byte, with stand-ins for what it imports, and around it a
-//! driver that answers the run protocol, a generator of scripts and a comparison with the port.
+//! parity-db's `src/log.rs`, byte for byte, with stand-ins for what it imports; around it a driver
+//! that answers the run protocol, a generator of scripts and the comparison with the port.
 //! docs/ORACLE.md tells how they belong together.
 
 // Stand-ins for the modules that log.rs imports.
@@ -14,8 +14,16 @@ pub mod table;
 mod table_id;
 
 /// The file as published. It is taken in by `include!` so that the driver can be a child of its
-/// module, which sees the private fields, without a changed byte in it.
+/// module, and so see the private fields, without a changed byte in it.
 pub mod log {
     include!("log.rs");
     pub mod driver;
 }
+
+pub mod comparison;
+mod directory;
+pub mod generator;
+pub mod listed;
+pub mod protocol;
+mod random;
+pub mod scratch;

@@ -5,7 +5,8 @@ use crate::column::ColId;
 crate::table_id::table_id!(TableId, max_log_tables);
 
 impl TableId {
+    /// parity-db packs the column into the number, document 01 keeps it in the directory.
     pub fn col(&self) -> ColId {
-        0
+        unimplemented!("only `end_record` asks for the column, and no opcode drives it yet")
     }
 }

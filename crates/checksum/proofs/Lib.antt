@@ -1,0 +1,8 @@
+-- The laws, for other crates to cite.
+pub mod Append
+pub mod Follow
+pub mod Looked
+pub mod Register
+pub mod Vectors
+pub mod Words
+pub mod Xor

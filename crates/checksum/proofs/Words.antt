@@ -1,0 +1,104 @@
+-- Several bytes into the register at once, as little-endian numbers. Assumes nothing.
+use mathlib.Core.Path.{_≡_, sym, ap, ap₂, _∙_, subst}
+use mathlib.Core.List.{List, [], _∷_}
+use Prim.Native.Nat.{ℕ, zero, suc, _+_, _*_, _≤_, _<_}
+use native.Mathlib.Nat.{add-assoc, add-comm, mul-comm, mul-suc, zero-lt-suc}
+use native.Mathlib.Omega.{arith}
+use lib.Bits.{bitXor, xor-comm, xor-zero-r, xor-shifted}
+use lib.ListN.{length, take, drop, take-append-drop, length-drop}
+use lib.Seq.{drop-drop, length-take-le, getD-drop}
+use Rattle.words.specs.Words.{little, littleAt}
+use Rattle.words.proofs.Little.{Bytes}
+use Rattle.checksum.specs.Checksum.{bitsIn, updated}
+use Rattle.checksum.specs.Tables.{shifts}
+use Rattle.checksum.proofs.Register.{bits-in, shifts-xor, shifts-add, shifts-up, updated-append}
+use Rattle.checksum.proofs.Xor.{xor-assoc}
+
+pub updated-little : (r : ℕ) (bs : List ℕ) → Bytes bs → updated r bs ≡ shifts (8 * length bs) (bitXor r (little bs))
+unfolding updated shifts little
+updated-little r [] h = sym (xor-zero-r r)
+updated-little r (b ∷ bs) h =
+    updated-little (bitsIn 8 r b) bs (λ k. h (suc k))
+    ∙ ap (shifts (8 * length bs))
+    (ap (λ (x : ℕ). bitXor x (little bs)) (bits-in 8 r b (h zero))
+    ∙ ap (bitXor (shifts 8 (bitXor r b))) (sym (shifts-up 8 (little bs)))
+    ∙ sym (shifts-xor 8 (bitXor r b) (little bs * 256))
+    ∙ ap (shifts 8)
+    (xor-assoc r b (little bs * 256)
+    ∙ ap (bitXor r)
+    (xor-comm b (little bs * 256)
+    ∙ xor-shifted (little bs) 8 b (h zero)
+    ∙ ap (λ (x : ℕ). x + b) (mul-comm (little bs) 256)
+    ∙ add-comm (256 * little bs) b)))
+    ∙ sym (shifts-add 8 (8 * length bs) (bitXor r (b + 256 * little bs)))
+    ∙ ap (λ (n : ℕ). shifts n (bitXor r (b + 256 * little bs))) (add-comm 8 (8 * length bs) ∙ sym (mul-suc 8 (length bs)))
+
+take-bytes : (n : ℕ) (bs : List ℕ) → Bytes bs → Bytes (take n bs)
+take-bytes zero bs h k = zero-lt-suc 255
+take-bytes (suc n) [] h k = h k
+take-bytes (suc n) (b ∷ bs) h zero = h zero
+take-bytes (suc n) (b ∷ bs) h (suc k) = take-bytes n bs (λ i. h (suc i)) k
+
+-- two words
+pub eight-words : (r a b : ℕ) → shifts 32 (bitXor (shifts 32 (bitXor r a)) b) ≡ bitXor (shifts 64 (bitXor r a)) (shifts 32 b)
+eight-words r a b = shifts-xor 32 (shifts 32 (bitXor r a)) b ∙ ap (λ (x : ℕ). bitXor x (shifts 32 b)) (sym (shifts-add 32 32 (bitXor r a)))
+
+more-words : (x y c m : ℕ) → shifts 32 (bitXor (bitXor (shifts m x) y) c) ≡ bitXor (bitXor (shifts (m + 32) x) (shifts 32 y)) (shifts 32 c)
+more-words x y c m =
+    shifts-xor 32 (bitXor (shifts m x) y) c
+    ∙ ap (λ (z : ℕ). bitXor z (shifts 32 c)) (shifts-xor 32 (shifts m x) y ∙ ap (λ (z : ℕ). bitXor z (shifts 32 y)) (sym (shifts-add m 32 x)))
+
+-- four words
+pub sixteen-words : (r a b c d : ℕ)
+    → shifts 32 (bitXor (shifts 32 (bitXor (shifts 32 (bitXor (shifts 32 (bitXor r a)) b)) c)) d)
+    ≡ bitXor (shifts 128 (bitXor r a)) (bitXor (bitXor (shifts 96 b) (shifts 64 c)) (shifts 32 d))
+sixteen-words r a b c d =
+    ap (λ (z : ℕ). shifts 32 (bitXor (shifts 32 (bitXor z c)) d)) (eight-words r a b)
+    ∙ ap (λ (z : ℕ). shifts 32 (bitXor z d))
+    (more-words (bitXor r a) (shifts 32 b) c 64
+    ∙ ap (λ (z : ℕ). bitXor (bitXor (shifts 96 (bitXor r a)) z) (shifts 32 c)) (sym (shifts-add 32 32 b))
+    ∙ xor-assoc (shifts 96 (bitXor r a)) (shifts 64 b) (shifts 32 c))
+    ∙ more-words (bitXor r a) (bitXor (shifts 64 b) (shifts 32 c)) d 96
+    ∙ xor-assoc (shifts 128 (bitXor r a)) (shifts 32 (bitXor (shifts 64 b) (shifts 32 c))) (shifts 32 d)
+    ∙ ap (λ (z : ℕ). bitXor (shifts 128 (bitXor r a)) (bitXor z (shifts 32 d)))
+    (shifts-xor 32 (shifts 64 b) (shifts 32 c) ∙ ap₂ bitXor (sym (shifts-add 64 32 b)) (sym (shifts-add 32 32 c)))
+
+module _ (bs : List ℕ) (h : Bytes bs) where
+  -- the next n of the bytes from i on
+  pub updated-word : (n r i : ℕ) → i + n ≤ length bs
+      → updated r (drop i bs) ≡ updated (shifts (8 * n) (bitXor r (littleAt n bs i))) (drop (i + n) bs)
+  updated-word n r i l =
+      ap (updated r) (sym (take-append-drop n (drop i bs)))
+      ∙ updated-append r (take n (drop i bs)) (drop n (drop i bs))
+      ∙ ap₂ updated
+      (updated-little r (take n (drop i bs)) (take-bytes n (drop i bs) (λ k. subst (λ (x : ℕ). x < 256) (sym (getD-drop i bs k 0)) (h (i + k))))
+      ∙ ap (λ (k : ℕ). shifts (8 * k) (bitXor r (littleAt n bs i))) (length-take-le n (drop i bs) (omega (arith, length-drop i bs))))
+      (drop-drop n i bs)
+
+  -- the next four, behind j of those from i on
+  next-four : (r i j : ℕ) → i + (j + 4) ≤ length bs
+      → updated r (drop (i + j) bs) ≡ updated (shifts 32 (bitXor r (littleAt 4 bs (i + j)))) (drop (i + (j + 4)) bs)
+  next-four r i j l =
+      updated-word 4 r (i + j) (omega arith)
+      ∙ ap (λ (k : ℕ). updated (shifts 32 (bitXor r (littleAt 4 bs (i + j)))) (drop k bs)) (add-assoc i j 4)
+
+  pub updated-eight : (r i : ℕ) → i + 8 ≤ length bs
+      → updated r (drop i bs) ≡ updated (bitXor (shifts 64 (bitXor r (littleAt 4 bs i))) (shifts 32 (littleAt 4 bs (i + 4)))) (drop (i + 8) bs)
+  updated-eight r i l =
+      updated-word 4 r i (omega arith)
+      ∙ next-four (shifts 32 (bitXor r (littleAt 4 bs i))) i 4 l
+      ∙ ap (λ (x : ℕ). updated x (drop (i + 8) bs)) (eight-words r (littleAt 4 bs i) (littleAt 4 bs (i + 4)))
+
+  pub updated-sixteen : (r i : ℕ) → i + 16 ≤ length bs
+      → updated r (drop i bs)
+      ≡ updated (bitXor (shifts 128 (bitXor r (littleAt 4 bs i))) (bitXor (bitXor (shifts 96 (littleAt 4 bs (i + 4))) (shifts 64 (littleAt 4 bs (i + 8)))) (shifts 32 (littleAt 4 bs (i + 12))))) (drop (i + 16) bs)
+  updated-sixteen r i l =
+      let a : ℕ = shifts 32 (bitXor r (littleAt 4 bs i)) in
+      let b : ℕ = shifts 32 (bitXor a (littleAt 4 bs (i + 4))) in
+      let c : ℕ = shifts 32 (bitXor b (littleAt 4 bs (i + 8))) in
+      updated-word 4 r i (omega arith)
+      ∙ next-four a i 4 (omega arith)
+      ∙ next-four b i 8 (omega arith)
+      ∙ next-four c i 12 l
+      ∙ ap (λ (x : ℕ). updated x (drop (i + 16) bs))
+      (sixteen-words r (littleAt 4 bs i) (littleAt 4 bs (i + 4)) (littleAt 4 bs (i + 8)) (littleAt 4 bs (i + 12)))

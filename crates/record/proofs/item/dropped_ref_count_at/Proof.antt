@@ -1,0 +1,36 @@
+-- `dropped_ref_count_at` meets its contract. Assumes nothing.
+use Prim.Native.Nat.{_+_}
+use mathlib.Core.Path.{_≡_, refl, sym, ap, _∙_}
+use Rattle.directory.specs.declared.table.TableKind.the-variants.{RefCount}
+use Rattle.record.specs.Parts.{gotTable}
+use Rattle.record.specs.Record.{dropRefCount}
+use Rattle.record.specs.declared.item.TableAnswer.{TableAnswer}
+use Rattle.record.proofs.Parts.{dropped-stop, dropped-met}
+use borrow.Author.Needs.{needs}
+use Rattle.record.proofs.item.dropped_ref_count_at.Statement.{statement}
+use Rattle.record.proofs.item.dropped_ref_count_at.Tie as tie
+use Rattle.record.proofs.item.dropped_ref_count_at.Reads as reads
+use Rattle.record.proofs.item.dropped_ref_count_at.Lts as lts
+use Rattle.record.proofs.item.table_at.Reads as table-at-reads
+
+table-at-requires : tie.Need-table-at-requires
+table-at-requires c κs = search needs
+
+enum-known-a : tie.Need-enum-known-a
+enum-known-a c = search needs
+
+enum-known-number : tie.Need-enum-known-number
+enum-known-number c = search needs
+
+add-t11 : tie.Need-add-t11
+add-t11 c = search needs
+
+returns : tie.Need-returns
+returns c = dropped-stop _ _ _ RefCount dropRefCount _ (sym (ap (λ (x : TableAnswer). gotTable x (c .before .before .before .before .before .args .body + 2)) (c .before .a .given .1)) ∙ c .before .before .before .table-at .ensures)
+
+returns-2 : tie.Need-returns-2
+returns-2 c = dropped-met _ _ _ RefCount dropRefCount _ (sym (ap (λ (x : TableAnswer). gotTable x (c .before .before .before .before .before .args .body + 2)) (c .before .number .given .1)) ∙ c .before .before .before .table-at .ensures)
+
+pub dropped-ref-count-at-spec : {M : Type 1} → statement M
+dropped-ref-count-at-spec =
+    tie.close (tie.spec table-at-requires enum-known-a enum-known-number add-t11 returns returns-2)

@@ -1,0 +1,38 @@
+-- `ended_at` meets its contract. Assumes nothing.
+use mathlib.Core.Path.{_≡_, refl, sym, ap, _∙_}
+use mathlib.Core.Bool.{Bool}
+use native.Mathlib.Nat.{add-zero}
+use Rattle.record.proofs.Parts.{tested, ended-short, ended-met}
+use borrow.Author.Needs.{needs}
+use Rattle.record.proofs.item.ended_at.Statement.{statement}
+use Rattle.record.proofs.item.ended_at.Tie as tie
+use Rattle.record.proofs.item.ended_at.Reads as reads
+use Rattle.record.proofs.item.ended_at.Lts as lts
+use Rattle.record.proofs.item.sum_holds.Reads as sum-holds-reads
+use Rattle.words.proofs.u32_at.Reads as u32-at-reads
+
+sub-if1 : tie.Need-sub-if1
+sub-if1 c = search needs
+
+returns : tie.Need-returns
+returns c = sym (ended-short _ _ _ _ (c .if1 .taken))
+
+u32-at-requires : tie.Need-u32-at-requires
+u32-at-requires c κs = search needs
+
+sum-holds-requires : tie.Need-sum-holds-requires
+sum-holds-requires c κs = search needs
+
+add-t13 : tie.Need-add-t13
+add-t13 c = search needs
+
+returns-2 : tie.Need-returns-2
+returns-2 c = sym (ended-met _ _ _ _ _ (c .before .before .before .if1 .left) (c .before .before .u32-at .ensures) ∙ rw (sym (c .before .sum-holds .ensures) ∙ c .if2 .taken, add-zero))
+
+returns-3 : tie.Need-returns-3
+returns-3 c = sym (ended-met _ _ _ _ _ (c .before .before .before .if1 .left) (c .before .before .u32-at .ensures) ∙ rw (sym (c .before .sum-holds .ensures) ∙ c .if2 .left))
+
+pub ended-at-spec : {M : Type 1} → statement M
+ended-at-spec =
+    tie.close
+    (tie.spec sub-if1 returns u32-at-requires sum-holds-requires add-t13 returns-2 returns-3)

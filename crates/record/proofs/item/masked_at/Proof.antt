@@ -1,0 +1,56 @@
+-- `masked_at` meets its contract. Assumes nothing.
+use Prim.Native.Nat.{_+_}
+use mathlib.Core.Path.{_≡_, refl, sym, ap, _∙_}
+use native.Mathlib.Omega.{arith}
+use Rattle.record.specs.Parts.{gotKey}
+use Rattle.record.specs.Record.{key, chunk, masked}
+use Rattle.record.specs.declared.item.KeyAnswer.{KeyAnswer}
+use Rattle.record.proofs.Formats.{within, then-stop, then-got}
+use borrow.Author.Needs.{needs}
+use Rattle.record.proofs.item.masked_at.Statement.{statement}
+use Rattle.record.proofs.item.masked_at.Tie as tie
+use Rattle.record.proofs.item.masked_at.Reads as reads
+use Rattle.record.proofs.item.masked_at.Lts as lts
+use Rattle.record.proofs.item.chunk_at.Reads as chunk-at-reads
+use Rattle.record.proofs.item.key_at.Reads as key-at-reads
+
+key-at-requires : tie.Need-key-at-requires
+key-at-requires c κs = search needs
+
+enum-known-a : tie.Need-enum-known-a
+enum-known-a c = search needs
+
+enum-known-k : tie.Need-enum-known-k
+enum-known-k c = search needs
+
+add-chunk-at : tie.Need-add-chunk-at
+add-chunk-at c = search needs
+
+chunk-at-requires : tie.Need-chunk-at-requires
+chunk-at-requires c κs =
+    let a = c .before .before .before .before .before .args in
+    (c .before .before .before .before .before .pre .0, within (key (a .d) (a .kind)) _ _ _ _ (c .before .before .before .before .before .pre .1) (sym (c .before .before .before .key-at .ensures) ∙ ap (λ (x : KeyAnswer). gotKey x (c .before .before .before .before .before .args .body + 10)) (c .before .k .given .1)) .inside)
+
+returns : tie.Need-returns
+unfolding masked
+returns c =
+    let a = c .before .before .before .before .before .args in
+    then-stop (key (a .d) (a .kind)) (chunk (a .kind) (a .width)) _ _ _ (sym (ap (λ (x : KeyAnswer). gotKey x (c .before .before .before .before .before .args .body + 10)) (c .before .a .given .1)) ∙ c .before .before .before .key-at .ensures)
+
+returns-2 : tie.Need-returns-2
+unfolding masked
+returns-2 c =
+    let a = c .before .before .before .before .before .before .args in
+    c .chunk-at .ensures ∙ then-got (key (a .d) (a .kind)) (chunk (a .kind) (a .width)) _ _ _ _ (sym (ap (λ (x : KeyAnswer). gotKey x (c .before .before .before .before .before .before .args .body + 10)) (c .before .before .k .given .1)) ∙ c .before .before .before .before .key-at .ensures)
+
+pub masked-at-spec : {M : Type 1} → statement M
+masked-at-spec =
+    tie.close
+    (tie.spec
+    key-at-requires
+    enum-known-a
+    enum-known-k
+    add-chunk-at
+    chunk-at-requires
+    returns
+    returns-2)

@@ -1,0 +1,57 @@
+-- `valued_at` meets its contract. Assumes nothing.
+use Prim.Native.Nat.{_+_}
+use mathlib.Core.Path.{_≡_, refl, sym, ap, _∙_}
+use native.Mathlib.Omega.{arith}
+use Rattle.directory.specs.declared.table.TableKind.the-variants.{Value}
+use Rattle.record.specs.Parts.{gotKey}
+use Rattle.record.specs.Record.{key, value, valued}
+use Rattle.record.specs.declared.item.KeyAnswer.{KeyAnswer}
+use Rattle.record.proofs.Formats.{within, then-stop, then-got}
+use borrow.Author.Needs.{needs}
+use Rattle.record.proofs.item.valued_at.Statement.{statement}
+use Rattle.record.proofs.item.valued_at.Tie as tie
+use Rattle.record.proofs.item.valued_at.Reads as reads
+use Rattle.record.proofs.item.valued_at.Lts as lts
+use Rattle.record.proofs.item.key_at.Reads as key-at-reads
+use Rattle.record.proofs.item.value_at.Reads as value-at-reads
+
+key-at-requires : tie.Need-key-at-requires
+key-at-requires c κs = search needs
+
+enum-known-a : tie.Need-enum-known-a
+enum-known-a c = search needs
+
+enum-known-k : tie.Need-enum-known-k
+enum-known-k c = search needs
+
+add-value-at : tie.Need-add-value-at
+add-value-at c = search needs
+
+value-at-requires : tie.Need-value-at-requires
+value-at-requires c κs =
+    let a = c .before .before .before .before .before .args in
+    within (key (a .d) Value) _ _ _ _ (c .before .before .before .before .before .pre) (sym (c .before .before .before .key-at .ensures) ∙ ap (λ (x : KeyAnswer). gotKey x (c .before .before .before .before .before .args .body + 10)) (c .before .k .given .1)) .inside
+
+returns : tie.Need-returns
+unfolding valued
+returns c =
+    let a = c .before .before .before .before .before .args in
+    then-stop (key (a .d) Value) value _ _ _ (sym (ap (λ (x : KeyAnswer). gotKey x (c .before .before .before .before .before .args .body + 10)) (c .before .a .given .1)) ∙ c .before .before .before .key-at .ensures)
+
+returns-2 : tie.Need-returns-2
+unfolding valued
+returns-2 c =
+    let a = c .before .before .before .before .before .before .args in
+    c .value-at .ensures ∙ then-got (key (a .d) Value) value _ _ _ _ (sym (ap (λ (x : KeyAnswer). gotKey x (c .before .before .before .before .before .before .args .body + 10)) (c .before .before .k .given .1)) ∙ c .before .before .before .before .key-at .ensures)
+
+pub valued-at-spec : {M : Type 1} → statement M
+valued-at-spec =
+    tie.close
+    (tie.spec
+    key-at-requires
+    enum-known-a
+    enum-known-k
+    add-value-at
+    value-at-requires
+    returns
+    returns-2)

@@ -1,0 +1,31 @@
+-- `LogReader::next` meets its contract. Assumes nothing.
+use mathlib.Core.Path.{sym, _∙_}
+use Rattle.record.specs.Next.{nextOf}
+use borrow.Author.Needs.{needs}
+use Rattle.record.proofs.reader.LogReader.next.Statement.{statement}
+use Rattle.record.proofs.reader.LogReader.next.Tie as tie
+use Rattle.record.proofs.reader.LogReader.next.Reads as reads
+use Rattle.record.proofs.reader.LogReader.next.Lts as lts
+use Rattle.directory.proofs.directory.Directory.kept.Reads as kept-reads
+use Rattle.record.proofs.reader.LogReader.step.Reads as step-reads
+use Rattle.record.proofs.reader.refuse.Reads as refuse-reads
+
+kept-requires : tie.Need-kept-requires
+kept-requires c κs = search needs
+
+step-requires : tie.Need-step-requires
+step-requires c κs = search needs
+
+refuse-requires : tie.Need-refuse-requires
+refuse-requires c κs = search needs
+
+returns : tie.Need-returns
+unfolding nextOf
+returns c = rw (sym (c .before .before .kept .ensures) ∙ c .before .if1 .taken) (c .step .ensures)
+
+returns-2 : tie.Need-returns-2
+unfolding nextOf
+returns-2 c = rw (sym (c .before .before .kept .ensures) ∙ c .before .if1 .left) (c .refuse .ensures)
+
+pub next-spec : {M : Type 1} → statement M
+next-spec = tie.close (tie.spec kept-requires step-requires refuse-requires returns returns-2)

@@ -1,0 +1,63 @@
+use Rattle.record.proofs.Parts.{item-step}
+use denote.Ref.{now}
+-- `LogReader::step_inside` meets its contract: what was read lies within the log. Assumes nothing.
+use mathlib.Core.Path.{_≡_, refl, sym, ap, _∙_}
+use Prim.Native.Nat.{ℕ, _+_}
+use native.Mathlib.Omega.{arith}
+use Rattle.record.specs.Format.{Got, got, readAt}
+use Rattle.record.specs.Parts.{gotItem}
+use Rattle.record.specs.Next.{stepped}
+use Rattle.record.specs.Record.{Item, inside}
+use Rattle.record.specs.declared.item.ItemAnswer.{ItemAnswer}
+use Rattle.record.proofs.Formats.{Within, within}
+use borrow.Author.Needs.{needs}
+use Rattle.record.proofs.reader.LogReader.step_inside.Statement.{statement}
+use Rattle.record.proofs.reader.LogReader.step_inside.Tie as tie
+use Rattle.record.proofs.reader.LogReader.step_inside.Reads as reads
+use Rattle.record.proofs.reader.LogReader.step_inside.Lts as lts
+use Rattle.record.proofs.item.item_at.Reads as item-at-reads
+use Rattle.record.proofs.reader.LogReader.after.Reads as after-reads
+use Rattle.record.proofs.reader.refuse.Reads as refuse-reads
+
+item-at-requires : tie.Need-item-at-requires
+item-at-requires c κs = search needs
+
+enum-known-a : tie.Need-enum-known-a
+enum-known-a c = search needs
+
+refuse-requires : tie.Need-refuse-requires
+refuse-requires c κs = search needs
+
+enum-known-i : tie.Need-enum-known-i
+enum-known-i c = search needs
+
+add-after : tie.Need-add-after
+add-after c =
+    let a = c .before .before .before .before .before .before .args in
+    let w = within (inside (a .directory) (a .self .validate) (a .self .crc32)) _ _ _ _ (c .before .before .before .before .before .before .pre) (sym (c .before .before .before .before .item-at .ensures) ∙ ap gotItem (c .before .before .i .given .1)) in
+    omega (arith, w .inside)
+
+after-requires : tie.Need-after-requires
+after-requires c κs =
+    let a = c .before .before .before .before .before .before .args in
+    let w = within (inside (a .directory) (a .self .validate) (a .self .crc32)) _ _ _ _ (c .before .before .before .before .before .before .pre) (sym (c .before .before .before .before .item-at .ensures) ∙ ap gotItem (c .before .before .i .given .1)) in
+    (w .behind, w .inside)
+
+returns : tie.Need-returns
+returns c = let a = c .before .before .before .before .before .before .args in c .refuse .ensures ∙ ap (λ (g : Got Item). stepped (now (a .log)) (a .self) g) (sym (ap gotItem (c .before .before .a .given .1)) ∙ c .before .before .before .before .item-at .ensures)
+
+returns-2 : tie.Need-returns-2
+returns-2 c = item-step _ _ _ _ _ (sym (ap gotItem (c .before .before .before .i .given .1)) ∙ c .before .before .before .before .before .item-at .ensures) (c .after .ensures)
+
+pub step-inside-spec : {M : Type 1} → statement M
+step-inside-spec =
+    tie.close
+    (tie.spec
+    item-at-requires
+    enum-known-a
+    refuse-requires
+    enum-known-i
+    add-after
+    after-requires
+    returns
+    returns-2)

@@ -1,0 +1,5 @@
+pub mod Answer
+pub mod Format
+pub mod Next
+pub mod Parts
+pub mod Record

@@ -1,0 +1,86 @@
+-- `LogReader::next`: one step of the reader (document 01, "The opening of a record": "A step answers with the action, the place of its
+-- payload and the cursor after it, or a refusal."; log.rs 250-331).
+use mathlib.Core.Bool.{Bool, true, false}
+use mathlib.Core.List.{List}
+use Prim.Native.Nat.{ℕ, _-_}
+use lib.Dec.{ltb}
+use lib.ListN.{length, take, drop}
+use Rattle.words.specs.Choice.{if_then_else_}
+use Rattle.checksum.specs.Checksum.{allOnes, updated}
+use Rattle.directory.specs.Directory.{directoryKept}
+use Rattle.directory.specs.declared.directory.Directory.{Directory}
+use Rattle.record.specs.Format.{Got, stopped, got, readAt}
+use Rattle.record.specs.Record.{Item, inside, opening}
+use Rattle.record.specs.declared.answer.Answer.{Answer}
+use Rattle.record.specs.declared.answer.Answer.the-variants.{BadState, BadArgument}
+use Rattle.record.specs.declared.answer.Refusal.{Refusal}
+use Rattle.record.specs.declared.action.LogAction.{LogAction}
+use Rattle.record.specs.declared.action.LogAction.the-variants.{BeginRecord, InsertIndex, InsertValue, InsertRefCount, EndRecord, DropTable, DropRefCountTable}
+use Rattle.record.specs.declared.reader.LogReader.{LogReader}
+use Rattle.record.specs.declared.reader.Stepped.{Stepped}
+use Rattle.record.specs.declared.reader.Step.{Step}
+use Rattle.record.specs.declared.reader.Step.the-variants.{Took, Refused}
+
+abbrev pub refused : Answer → Step
+refused answer = Refused (record { answer = answer })
+
+abbrev pub isEnd : LogAction → Bool
+isEnd EndRecord = true
+isEnd BeginRecord = false
+isEnd (InsertIndex a) = false
+isEnd (InsertValue a) = false
+isEnd (InsertRefCount a) = false
+isEnd (DropTable t) = false
+isEnd (DropRefCountTable t) = false
+
+-- a new reader, between records (log.rs 226-235)
+abbrev pub readerAt : ℕ → Bool → LogReader
+readerAt position validate = record { position = position; record_id = 0; crc32 = allOnes; validate = validate; inside = false }
+
+-- the reader at a later place of its record; if it validates, its checksum has taken the bytes between (log.rs 251-258, 334-341)
+unfoldable pub forwardTo : List ℕ → LogReader → ℕ → LogReader
+forwardTo log r end = record {
+  position = end;
+  record_id = r .record_id;
+  crc32 = if r .validate then updated (r .crc32) (take (end - r .position) (drop (r .position) log)) else r .crc32;
+  validate = r .validate;
+  inside = r .inside;
+}
+
+-- behind the end tag the reader stands between records, and the next one's checksum starts anew (log.rs 300: `mem::take`)
+abbrev pub closed : LogReader → ℕ → LogReader
+closed r end = record { position = end; record_id = r .record_id; crc32 = allOnes; validate = r .validate; inside = false }
+
+unfoldable pub readerAfter : List ℕ → LogReader → LogAction → ℕ → LogReader
+readerAfter log r action end = if isEnd action then closed r end else forwardTo log r end
+
+-- a step inside a record: the payload is the last bytes it took
+abbrev pub stepped : List ℕ → LogReader → Got Item → Step
+stepped log r (stopped answer) = refused answer
+stepped log r (got item end) = Took (record {
+  action = item .action;
+  start = end - item .payload;
+  length = item .payload;
+  reader = readerAfter log r (item .action) end;
+})
+
+-- an opening: the id is the record's, and the checksum starts with the begin tag (log.rs 221-230, 261-266)
+abbrev pub opened : List ℕ → LogReader → Got ℕ → Step
+opened log r (stopped answer) = refused answer
+opened log r (got id end) = Took (record {
+  action = BeginRecord;
+  start = end;
+  length = 0;
+  reader = forwardTo log (record { position = r .position; record_id = id; crc32 = allOnes; validate = r .validate; inside = true }) end;
+})
+
+-- "then for reading 14, then faults in byte order"
+unfoldable pub stepOf : Directory → List ℕ → LogReader → Step
+stepOf d log r =
+    if ltb (length log) (r .position) then refused BadArgument else
+    if r .inside then stepped log r (readAt (inside d (r .validate) (r .crc32)) (r .position) log) else
+    opened log r (readAt (opening (r .validate)) (r .position) log)
+
+-- "Order in every call: 13, then .."
+unfoldable pub nextOf : Directory → List ℕ → LogReader → Step
+nextOf d log r = if directoryKept d then stepOf d log r else refused BadState

@@ -1,0 +1,226 @@
+// What stands inside a record, from a position on: the tag, and what the tag says is behind it.
+ghost use mathlib.Core.Path.{_≡_};
+ghost use Prim.Native.Nat.{_+_, _≤_, _<_};
+ghost use lib.ListN.{length};
+ghost use Rattle.record.specs.Format.{readAt};
+ghost use Rattle.record.specs.Parts.{gotKey, gotTable, gotItem};
+ghost use Rattle.record.specs.Record.{key, chunk, masked, value, valued, table, dropped, dropIndex, dropRefCount, sumHolds, ended, inside};
+use super::action::LogAction;
+use super::answer::Answer;
+use super::mask::entries_length;
+use directory::Directory;
+use directory::Found;
+use directory::IndexTableId;
+use directory::RefCountTableId;
+use directory::TableKind;
+
+// A table's number and an index, both tested, with the length of the table's values.
+pub struct Key {
+    pub table: u16,
+    pub index: u64,
+    pub length: u16,
+}
+
+pub enum KeyAnswer {
+    Known(Key),
+    NoKey(Answer),
+}
+
+pub enum TableAnswer {
+    Table(u16),
+    NoTable(Answer),
+}
+
+// An action and its payload's place; it ends where its payload ends.
+pub struct ReadItem {
+    pub action: LogAction,
+    pub start: usize,
+    pub length: usize,
+}
+
+pub enum ItemAnswer {
+    Read(ReadItem),
+    NoItem(Answer),
+}
+
+// Table and index, behind the tag of an insertion.
+fn key_at(d: Directory, log: &[u8], body: usize, kind: TableKind) -> KeyAnswer
+    requires { ⌜ body ≤ length (now log) ⌝ }
+    ensures { λ r. ⌜ gotKey r (body + 10) ≡ readAt (key d kind) body (now (log .entry)) ⌝ }
+{
+    if log.len() - body < 10 {
+        return KeyAnswer::NoKey(Answer::Cut);
+    }
+    let table = words::u16_at(log, body);
+    let index = words::u64_at(log, body + 2);
+    match d.find(kind, table) {
+        Found::Nothing => KeyAnswer::NoKey(Answer::NoTable),
+        Found::At(_, t) => {
+            let count = t.count as u64;
+            if index < count {
+                KeyAnswer::Known(Key {
+                    table: table,
+                    index: index,
+                    length: t.length,
+                })
+            } else {
+                KeyAnswer::NoKey(Answer::NoIndex)
+            }
+        }
+    }
+}
+
+// The mask and its entries, behind a key.
+fn chunk_at(log: &[u8], start: usize, kind: TableKind, width: usize, k: Key) -> ItemAnswer
+    requires { ⌜ (width ≤ 16) × (start ≤ length (now log)) ⌝ }
+    ensures { λ r. ⌜ gotItem r ≡ readAt (chunk kind width k) start (now (log .entry)) ⌝ }
+{
+    if log.len() - start < 8 {
+        return ItemAnswer::NoItem(Answer::Cut);
+    }
+    let mask = words::u64_at(log, start);
+    let entries = entries_length(mask, width);
+    if log.len() - (start + 8) < entries {
+        return ItemAnswer::NoItem(Answer::Cut);
+    }
+    ItemAnswer::Read(ReadItem {
+        action: LogAction::insert(kind, k.table, k.index),
+        start: start,
+        length: 8 + entries,
+    })
+}
+
+// Tags 2 and 6.
+fn masked_at(d: Directory, log: &[u8], body: usize, kind: TableKind, width: usize) -> ItemAnswer
+    requires { ⌜ (width ≤ 16) × (body ≤ length (now log)) ⌝ }
+    ensures { λ r. ⌜ gotItem r ≡ readAt (masked d kind width) body (now (log .entry)) ⌝ }
+{
+    match key_at(d, log, body, kind) {
+        KeyAnswer::NoKey(a) => ItemAnswer::NoItem(a),
+        KeyAnswer::Known(k) => chunk_at(log, body + 10, kind, width, k),
+    }
+}
+
+// The value, behind a key.
+fn value_at(log: &[u8], start: usize, k: Key) -> ItemAnswer
+    requires { ⌜ start ≤ length (now log) ⌝ }
+    ensures { λ r. ⌜ gotItem r ≡ readAt (value k) start (now (log .entry)) ⌝ }
+{
+    let length = k.length as usize;
+    if log.len() - start < length {
+        return ItemAnswer::NoItem(Answer::Cut);
+    }
+    ItemAnswer::Read(ReadItem {
+        action: LogAction::insert(TableKind::Value, k.table, k.index),
+        start: start,
+        length: length,
+    })
+}
+
+// Tag 3.
+fn valued_at(d: Directory, log: &[u8], body: usize) -> ItemAnswer
+    requires { ⌜ body ≤ length (now log) ⌝ }
+    ensures { λ r. ⌜ gotItem r ≡ readAt (valued d) body (now (log .entry)) ⌝ }
+{
+    match key_at(d, log, body, TableKind::Value) {
+        KeyAnswer::NoKey(a) => ItemAnswer::NoItem(a),
+        KeyAnswer::Known(k) => value_at(log, body + 10, k),
+    }
+}
+
+// Whether the checksum over all up to the end tag is that number, or nobody asks.
+fn sum_holds(validate: bool, register: u32, sum: u32) -> bool
+    ensures { λ r. ⌜ r ≡ sumHolds validate register sum ⌝ }
+{
+    if !validate {
+        return true;
+    }
+    sum == checksum::finish(checksum::update(register, b"\x04"))
+}
+
+// Tag 4.
+fn ended_at(log: &[u8], body: usize, validate: bool, register: u32) -> ItemAnswer
+    requires { ⌜ body ≤ length (now log) ⌝ }
+    ensures { λ r. ⌜ gotItem r ≡ readAt (ended validate register) body (now (log .entry)) ⌝ }
+{
+    if log.len() - body < 4 {
+        return ItemAnswer::NoItem(Answer::Cut);
+    }
+    let sum = words::u32_at(log, body);
+    if sum_holds(validate, register, sum) {
+        ItemAnswer::Read(ReadItem {
+            action: LogAction::EndRecord,
+            start: body + 4,
+            length: 0,
+        })
+    } else {
+        ItemAnswer::NoItem(Answer::WrongSum)
+    }
+}
+
+// A table's number, behind the tag of a drop.
+fn table_at(d: Directory, log: &[u8], body: usize, kind: TableKind) -> TableAnswer
+    requires { ⌜ body ≤ length (now log) ⌝ }
+    ensures { λ r. ⌜ gotTable r (body + 2) ≡ readAt (table d kind) body (now (log .entry)) ⌝ }
+{
+    if log.len() - body < 2 {
+        return TableAnswer::NoTable(Answer::Cut);
+    }
+    let number = words::u16_at(log, body);
+    match d.find(kind, number) {
+        Found::Nothing => TableAnswer::NoTable(Answer::NoTable),
+        Found::At(_, _) => TableAnswer::Table(number),
+    }
+}
+
+// Tag 5.
+fn dropped_index_at(d: Directory, log: &[u8], body: usize) -> ItemAnswer
+    requires { ⌜ body ≤ length (now log) ⌝ }
+    ensures { λ r. ⌜ gotItem r ≡ readAt (dropped d TableKind.Index dropIndex) body (now (log .entry)) ⌝ }
+{
+    match table_at(d, log, body, TableKind::Index) {
+        TableAnswer::NoTable(a) => ItemAnswer::NoItem(a),
+        TableAnswer::Table(number) => ItemAnswer::Read(ReadItem {
+            action: LogAction::DropTable(IndexTableId(number)),
+            start: body + 2,
+            length: 0,
+        }),
+    }
+}
+
+// Tag 7.
+fn dropped_ref_count_at(d: Directory, log: &[u8], body: usize) -> ItemAnswer
+    requires { ⌜ body ≤ length (now log) ⌝ }
+    ensures { λ r. ⌜ gotItem r ≡ readAt (dropped d TableKind.RefCount dropRefCount) body (now (log .entry)) ⌝ }
+{
+    match table_at(d, log, body, TableKind::RefCount) {
+        TableAnswer::NoTable(a) => ItemAnswer::NoItem(a),
+        TableAnswer::Table(number) => ItemAnswer::Read(ReadItem {
+            action: LogAction::DropRefCountTable(RefCountTableId(number)),
+            start: body + 2,
+            length: 0,
+        }),
+    }
+}
+
+// The decision on the tag, inside a record.
+pub fn item_at(d: Directory, log: &[u8], at: usize, validate: bool, register: u32) -> ItemAnswer
+    requires { ⌜ at ≤ length (now log) ⌝ }
+    ensures { λ r. ⌜ gotItem r ≡ readAt (inside d validate register) at (now (log .entry)) ⌝ }
+{
+    if log.len() - at < 1 {
+        return ItemAnswer::NoItem(Answer::Cut);
+    }
+    let tag = log[at];
+    let body = at + 1;
+    match tag {
+        1 => ItemAnswer::NoItem(Answer::OutOfPlace),
+        2 => masked_at(d, log, body, TableKind::Index, 8),
+        3 => valued_at(d, log, body),
+        4 => ended_at(log, body, validate, register),
+        5 => dropped_index_at(d, log, body),
+        6 => masked_at(d, log, body, TableKind::RefCount, 16),
+        7 => dropped_ref_count_at(d, log, body),
+        0 | 8..=255 => ItemAnswer::NoItem(Answer::UnknownTag),
+    }
+}

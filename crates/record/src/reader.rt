@@ -1,0 +1,169 @@
+// The reader: where it stands in a log, and its step to the next action.
+ghost use mathlib.Core.Path.{_≡_};
+ghost use mathlib.Core.Bool.{true, false};
+ghost use Prim.Native.Nat.{_+_, _≤_};
+ghost use lib.ListN.{length};
+ghost use Rattle.checksum.specs.Checksum.{allOnes};
+ghost use Rattle.record.specs.Format.{readAt};
+ghost use Rattle.record.specs.Next.{refused, readerAt, forwardTo, readerAfter, stepped, opened, stepOf, nextOf};
+ghost use Rattle.record.specs.Record.{inside, opening};
+use super::action::LogAction;
+use super::answer::Answer;
+use super::answer::Refusal;
+use super::item::ItemAnswer;
+use super::item::item_at;
+use super::opening::IdAnswer;
+use super::opening::opening_at;
+use directory::Directory;
+
+// `inside` says whether a record was begun and not ended; then `record_id` is its id and, if validating, `crc32` the checksum's register
+// over its bytes so far.
+pub struct LogReader {
+    pub position: usize,
+    pub record_id: u64,
+    pub crc32: u32,
+    pub validate: bool,
+    pub inside: bool,
+}
+
+// An action that was read, its payload's place in the log, and the reader behind it.
+pub struct Stepped {
+    pub action: LogAction,
+    pub start: usize,
+    pub length: usize,
+    pub reader: LogReader,
+}
+
+pub enum Step {
+    Took(Stepped),
+    Refused(Refusal),
+}
+
+fn refuse(answer: Answer) -> Step
+    ensures { λ r. ⌜ r ≡ refused answer ⌝ }
+{
+    Step::Refused(Refusal { answer: answer })
+}
+
+impl LogReader {
+    // A reader between records.
+    pub fn new(position: usize, validate: bool) -> LogReader
+        ensures { λ r. ⌜ r ≡ readerAt position validate ⌝ }
+    {
+        LogReader {
+            position: position,
+            record_id: 0,
+            crc32: checksum::START,
+            validate: validate,
+            inside: false,
+        }
+    }
+
+    pub fn record_id(self) -> u64
+        ensures { λ r. ⌜ r ≡ self .record_id ⌝ }
+    {
+        self.record_id
+    }
+
+    fn forward(self, log: &[u8], end: usize) -> LogReader
+        requires { ⌜ (self .position ≤ end) × (end ≤ length (now log)) ⌝ }
+        ensures { λ r. ⌜ r ≡ forwardTo (now (log .entry)) self end ⌝ }
+    {
+        let at = self.position;
+        let mut r = self;
+        r.position = end;
+        if self.validate {
+            r.crc32 = checksum::update(self.crc32, &log[at..end]);
+        }
+        r
+    }
+
+    fn after(self, log: &[u8], action: LogAction, end: usize) -> LogReader
+        requires { ⌜ (self .position ≤ end) × (end ≤ length (now log)) ⌝ }
+        ensures { λ r. ⌜ r ≡ readerAfter (now (log .entry)) self action end ⌝ }
+    {
+        if action.is_end() {
+            LogReader {
+                position: end,
+                record_id: self.record_id,
+                crc32: checksum::START,
+                validate: self.validate,
+                inside: false,
+            }
+        } else {
+            self.forward(log, end)
+        }
+    }
+
+    // Inside a record.
+    fn step_inside(self, directory: Directory, log: &[u8]) -> Step
+        requires { ⌜ self .position ≤ length (now log) ⌝ }
+        ensures { λ r. ⌜ r ≡ stepped (now (log .entry)) self (readAt (inside directory (self .validate) (self .crc32)) (self .position) (now (log .entry))) ⌝ }
+    {
+        match item_at(directory, log, self.position, self.validate, self.crc32) {
+            ItemAnswer::NoItem(a) => refuse(a),
+            ItemAnswer::Read(i) => {
+                let action = i.action;
+                let reader = self.after(log, action, i.start + i.length);
+                Step::Took(Stepped {
+                    action: action,
+                    start: i.start,
+                    length: i.length,
+                    reader: reader,
+                })
+            }
+        }
+    }
+
+    // Between records.
+    fn step_opening(self, log: &[u8]) -> Step
+        requires { ⌜ self .position ≤ length (now log) ⌝ }
+        ensures { λ r. ⌜ r ≡ opened (now (log .entry)) self (readAt (opening (self .validate)) (self .position) (now (log .entry))) ⌝ }
+    {
+        let at = self.position;
+        match opening_at(log, at, self.validate) {
+            IdAnswer::NotOpened(a) => refuse(a),
+            IdAnswer::Opened(id) => {
+                let begun = LogReader {
+                    position: at,
+                    record_id: id,
+                    crc32: checksum::START,
+                    validate: self.validate,
+                    inside: true,
+                };
+                let end = at + 1 + 8;
+                Step::Took(Stepped {
+                    action: LogAction::BeginRecord,
+                    start: end,
+                    length: 0,
+                    reader: begun.forward(log, end),
+                })
+            }
+        }
+    }
+
+    // A step under a directory that was tested already: a walk over many actions tests it once.
+    pub fn step(self, directory: Directory, log: &[u8]) -> Step
+        ensures { λ r. ⌜ r ≡ stepOf directory (now (log .entry)) self ⌝ }
+    {
+        if log.len() < self.position {
+            return refuse(Answer::BadArgument);
+        }
+        if self.inside {
+            self.step_inside(directory, log)
+        } else {
+            self.step_opening(log)
+        }
+    }
+
+    // The next action of the log.
+    pub fn next(self, directory: Directory, log: &[u8]) -> Step
+        ensures { λ r. ⌜ r ≡ nextOf directory (now (log .entry)) self ⌝ }
+    {
+        if directory.kept() {
+            self.step(directory, log)
+        } else {
+            refuse(Answer::BadState)
+        }
+    }
+}

@@ -1,0 +1,138 @@
+//! The letters of the run protocol: opcodes, hex lines, the fields of a command, a step's answer.
+
+/// The opcodes that the driver answers.
+pub mod op {
+    pub const DIR: u8 = 0x01;
+    pub const LOG: u8 = 0x03;
+    pub const CRC: u8 = 0x04;
+    pub const STEP_AT: u8 = 0x0b;
+    pub const STEP: u8 = 0x0c;
+}
+
+/// The tags of a record's actions.
+pub mod tag {
+    pub const BEGIN: u8 = 1;
+    pub const INDEX: u8 = 2;
+    pub const VALUE: u8 = 3;
+    pub const END: u8 = 4;
+    pub const DROP_INDEX: u8 = 5;
+    pub const REF_COUNT: u8 = 6;
+    pub const DROP_REF_COUNT: u8 = 7;
+}
+
+/// What an opcode that is not driven yet is answered with.
+pub const NOT_DRIVEN: u8 = 0xff;
+
+/// A script is a list of commands, each as bytes.
+pub type Script = Vec<Vec<u8>>;
+
+pub fn is_step(command: &[u8]) -> bool {
+    matches!(command[0], op::STEP_AT | op::STEP)
+}
+
+pub fn to_hex(bytes: &[u8]) -> String {
+    const DIGITS: &[u8; 16] = b"0123456789abcdef";
+    let mut line = String::with_capacity(2 * bytes.len());
+    for byte in bytes {
+        line.push(DIGITS[(byte >> 4) as usize] as char);
+        line.push(DIGITS[(byte & 15) as usize] as char);
+    }
+    line
+}
+
+/// Commands or answers, one a line.
+pub fn lines_of(rows: &[Vec<u8>]) -> String {
+    rows.iter().map(|row| to_hex(row) + "\n").collect()
+}
+
+/// The bytes of a line of hex, or none if it isn't one.
+pub fn from_hex(line: &str) -> Option<Vec<u8>> {
+    let digit = |byte: u8| (byte as char).to_digit(16);
+    line.as_bytes()
+        .chunks(2)
+        .map(|pair| match *pair {
+            [high, low] => Some((digit(high)? << 4 | digit(low)?) as u8),
+            _ => None,
+        })
+        .collect()
+}
+
+/// The fields of a command or an answer, taken from the front; it panics where they run out.
+pub struct Fields<'a>(pub &'a [u8]);
+
+impl<'a> Fields<'a> {
+    fn take<const N: usize>(&mut self) -> [u8; N] {
+        let (taken, rest) = self.0.split_first_chunk().expect("a command is too short");
+        self.0 = rest;
+        *taken
+    }
+
+    pub fn u8(&mut self) -> u8 {
+        self.take::<1>()[0]
+    }
+
+    pub fn u16(&mut self) -> u16 {
+        u16::from_le_bytes(self.take())
+    }
+
+    pub fn u32(&mut self) -> u32 {
+        u32::from_le_bytes(self.take())
+    }
+
+    pub fn u64(&mut self) -> u64 {
+        u64::from_le_bytes(self.take())
+    }
+
+    pub fn blob(&mut self) -> &'a [u8] {
+        let length = self.u32() as usize;
+        let (taken, rest) = self.0.split_at(length);
+        self.0 = rest;
+        taken
+    }
+}
+
+/// The command of an opcode and a blob.
+pub fn with_blob(opcode: u8, blob: &[u8]) -> Vec<u8> {
+    [&[opcode], &(blob.len() as u32).to_le_bytes()[..], blob].concat()
+}
+
+/// What STEP tells when its answer is 0.
+#[derive(Debug, Default, PartialEq)]
+pub struct Stepped {
+    pub tag: u8,
+    pub table: u16,
+    pub index: u64,
+    pub id: u64,
+    pub payload_start: u64,
+    pub payload_length: u64,
+    pub cursor: u64,
+}
+
+impl Stepped {
+    const ANSWER_LENGTH: usize = 44;
+
+    pub fn answer(&self) -> Vec<u8> {
+        let mut answer = vec![0, self.tag];
+        answer.extend(self.table.to_le_bytes());
+        let numbers = [self.index, self.id, self.payload_start, self.payload_length, self.cursor];
+        answer.extend(numbers.into_iter().flat_map(u64::to_le_bytes));
+        answer
+    }
+
+    /// None if the step was refused.
+    pub fn from_answer(answer: &[u8]) -> Option<Stepped> {
+        if answer.len() != Self::ANSWER_LENGTH || answer[0] != 0 {
+            return None;
+        }
+        let mut fields = Fields(&answer[1..]);
+        Some(Stepped {
+            tag: fields.u8(),
+            table: fields.u16(),
+            index: fields.u64(),
+            id: fields.u64(),
+            payload_start: fields.u64(),
+            payload_length: fields.u64(),
+            cursor: fields.u64(),
+        })
+    }
+}

@@ -1,0 +1,92 @@
+//! The cases of document 01 that a step can show, answered by the Rust.
+
+use oracle::{
+    log::driver::Driver,
+    protocol::{from_hex, op, with_blob},
+};
+
+/// Index table 1, value table 2 of length 20 and reference count table 3, each with 8 places.
+const DIRECTORY: &str = "0103000100000800000001020000080014000203000008000000";
+
+/// The numbers answered when a log is walked from its front, validating or not.
+fn walk(log: &str, steps: usize, validate: u8) -> Vec<u8> {
+    let mut driver = Driver::new().unwrap();
+    driver.answer(&from_hex(DIRECTORY).unwrap());
+    driver.answer(&with_blob(op::LOG, &from_hex(log).unwrap()));
+    let step_at = [&[op::STEP_AT], &[0; 8][..], &[validate]].concat();
+    let commands = std::iter::once(step_at).chain(std::iter::repeat(vec![op::STEP, validate]));
+    commands.take(steps).map(|command| driver.answer(&command)[0]).collect()
+}
+
+#[test]
+fn records_of_known_length() {
+    let records = [
+        (14, "0101000000000000000412d35e1c"),
+        (
+            49,
+            "01010000000000000002010000000000000000000500000000000000000102030405060708090a0b0c0d0e0f\
+             0405fa2bd0",
+        ),
+        (
+            45,
+            "0101000000000000000302000000000000000000000102030405060708090a0b0c0d0e0f10111213\
+             04400fe5b8",
+        ),
+        (17, "01010000000000000005010004748d3678"),
+        (
+            49,
+            "01010000000000000006030000000000000000000100000000000000000102030405060708090a0b0c0d0e0f\
+             04b8c18b57",
+        ),
+    ];
+    for (length, log) in records {
+        assert_eq!(log.len() / 2, length);
+        let actions = if length == 14 { 2 } else { 3 };
+        let mut expected = vec![0; actions];
+        expected.push(1);
+        assert_eq!(walk(log, actions + 1, 1), expected, "{log}");
+    }
+}
+
+#[test]
+fn openings() {
+    let not_validating = 0;
+    for (log, number) in [
+        ("", 1),
+        ("0101010101010101", 1),
+        ("02", 1),
+        ("02010000000000000000", 1),
+        ("0201000000000000000000", 4),
+        ("08", 3),
+        ("00", 3),
+        ("0501", 1),
+        ("050100", 4),
+        ("04942b6f", 1),
+        ("0400000000", 4),
+    ] {
+        assert_eq!(walk(log, 1, not_validating), [number], "{log}");
+    }
+}
+
+#[test]
+fn end_tag_as_an_opening_when_validating() {
+    let validating = 1;
+    for (log, number) in [("04942b6f", 1), ("0400000000", 8), ("04942b6fd5", 4)] {
+        assert_eq!(walk(log, 1, validating), [number], "{log}");
+    }
+}
+
+/// A running checksum is that of the bytes read while validating.
+#[test]
+fn validation_switched_inside_a_record() {
+    let mut driver = Driver::new().unwrap();
+    let log = from_hex("0101000000000000000412d35e1c").unwrap();
+    driver.answer(&with_blob(op::LOG, &log));
+    let mut number = |line| driver.answer(&from_hex(line).unwrap())[0];
+    assert_eq!([number("0b000000000000000000"), number("0c01"), number("0c00")], [0, 8, 0]);
+}
+
+#[test]
+fn an_opcode_that_is_not_driven() {
+    assert_eq!(Driver::new().unwrap().answer(&[0x1c]), [0xff]);
+}
