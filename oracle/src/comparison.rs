@@ -1,4 +1,4 @@
-//! A script's answers by the Rust and by the port, line by line.
+//! The answers of the Rust and of the port to a script, line by line.
 
 use crate::{
     listed::{Listed, Watch, LISTED},
@@ -11,7 +11,8 @@ use std::fmt;
 pub struct Tally {
     same: u64,
     listed: [u64; LISTED.len()],
-    skipped: u64,
+    /// Steps behind a listed difference. The Rust has gone on where 01 stays, so they count apart.
+    behind: u64,
     checksums: u64,
     /// How often each number was the port's answer.
     numbers: [u64; 16],
@@ -34,7 +35,7 @@ impl fmt::Display for Tally {
         for (difference, count) in LISTED.iter().zip(self.listed) {
             writeln!(f, "  {count:8} {}, answer {}", difference.name, difference.demanded)?;
         }
-        writeln!(f, "{} steps skipped behind a listed difference", self.skipped)?;
+        writeln!(f, "{} steps behind a listed difference are as 01 demands", self.behind)?;
         writeln!(f, "{} checksums agree", self.checksums)?;
         write!(f, "answers:")?;
         for (number, count) in self.numbers.iter().enumerate().filter(|(_, count)| **count > 0) {
@@ -50,64 +51,69 @@ pub struct Difference {
     pub why: String,
 }
 
-/// Compares the answers to a script that starts from nothing; the port's are lines as written.
-pub fn compare(
-    script: &Script,
-    rust: &[Vec<u8>],
-    port: &[String],
-    tally: &mut Tally,
-) -> Result<(), Difference> {
+/// The answers to a script that starts from nothing.
+pub struct Answers {
+    pub rust: Vec<Vec<u8>>,
+    /// As `Demanded` gives them.
+    pub demanded: Vec<Vec<u8>>,
+    /// Lines as written.
+    pub port: Vec<String>,
+}
+
+pub fn compare(script: &Script, answers: &Answers, tally: &mut Tally) -> Result<(), Difference> {
     let mut watch = Watch::default();
-    // After a listed difference the two cursors differ, until the next STEP_AT.
+    // After a listed difference the two cursors are apart, up to the next STEP_AT.
     let mut apart = false;
-    for (at, (command, rust)) in script.iter().zip(rust).enumerate() {
+    for (at, command) in script.iter().enumerate() {
         let differs = |why| Difference { at, why };
-        let port = port.get(at).ok_or_else(|| differs("the port wrote no line for it".into()))?;
+        let rust = &answers.rust[at];
+        let no_line = || differs("the port wrote no line for it".into());
+        let port = answers.port.get(at).ok_or_else(no_line)?;
         watch.handed(command);
         apart &= command[0] != op::STEP_AT;
         if !is_step(command) {
-            same(rust, port).map_err(differs)?;
+            same("the Rust", rust, port).map_err(differs)?;
             tally.checksums += u64::from(command[0] == op::CRC);
         } else if apart {
-            tally.skipped += 1;
+            same("01 wants", &answers.demanded[at], port).map_err(differs)?;
+            tally.behind += 1;
         } else if let Some(place) = watch.listed() {
             as_listed(&LISTED[place], rust, port).map_err(differs)?;
             tally.listed[place] += 1;
             tally.count_number(LISTED[place].demanded);
             apart = true;
         } else {
-            same(rust, port).map_err(differs)?;
+            same("the Rust", rust, port).map_err(differs)?;
             tally.same += 1;
             tally.count_number(rust[0]);
             watch.answered(rust);
         }
     }
-    if port.len() > script.len() {
-        let why = format!("the port wrote {} lines beyond it", port.len() - script.len());
-        return Err(Difference { at: script.len() - 1, why });
-    }
-    Ok(())
+    no_further_lines(script, &answers.port)
 }
 
-fn same(rust: &[u8], port: &str) -> Result<(), String> {
-    if to_hex(rust) == port {
+fn no_further_lines(script: &Script, port: &[String]) -> Result<(), Difference> {
+    if port.len() <= script.len() {
         return Ok(());
     }
-    Err(format!("the Rust: {}\nthe port: {}", shown(rust), shown_line(port)))
+    let why = format!("the port wrote {} lines beyond it", port.len() - script.len());
+    Err(Difference { at: script.len() - 1, why })
+}
+
+fn same(whose: &str, answer: &[u8], port: &str) -> Result<(), String> {
+    if to_hex(answer) == port {
+        return Ok(());
+    }
+    Err(format!("{whose}: {}\nthe port: {}", shown(answer), shown_line(port)))
 }
 
 fn as_listed(listed: &Listed, rust: &[u8], port: &str) -> Result<(), String> {
     let demanded = [listed.demanded];
-    if to_hex(&demanded) == port && listed.fits_the_rust(rust) {
-        return Ok(());
+    if listed.fits_the_rust(rust) {
+        return same("01 wants", &demanded, port)
+            .map_err(|why| format!("{}\nthe Rust: {}\n{why}", listed.name, shown(rust)));
     }
-    Err(format!(
-        "a listed difference ({}), but not as listed\n01 wants: {}\nthe Rust: {}\nthe port: {}",
-        listed.name,
-        shown(&demanded),
-        shown(rust),
-        shown_line(port)
-    ))
+    Err(format!("{}, but not as listed\nthe Rust: {}", listed.name, shown(rust)))
 }
 
 fn shown(answer: &[u8]) -> String {

@@ -23,7 +23,7 @@ pub struct Generator {
     small: bool,
 }
 
-const FORMS: [fn(&mut Generator); 13] = [
+const FORMS: [fn(&mut Generator); 14] = [
     Generator::whole_records,
     Generator::damaged_records,
     Generator::faulty_actions,
@@ -33,6 +33,7 @@ const FORMS: [fn(&mut Generator); 13] = [
     Generator::positions,
     Generator::broken_directories,
     Generator::changes_under_a_cursor,
+    Generator::validation_switched,
     Generator::checksum_mended,
     Generator::noise,
     Generator::long_records,
@@ -67,7 +68,7 @@ impl Generator {
     /// A short script of all forms, to be kept.
     pub fn sample(seed: u64) -> Script {
         let mut generator = Generator { small: true, ..Generator::new(seed) };
-        generator.all_forms(70);
+        generator.all_forms(60);
         generator.script
     }
 
@@ -231,6 +232,22 @@ impl Generator {
         self.steps(log.ends.len() - before, validate);
     }
 
+    /// The running checksum covers only what is read while validating.
+    fn validation_switched(&mut self) {
+        let directory = self.hand_directory();
+        let log = self.records(&directory, 1, 4);
+        self.hand_log(&log.bytes);
+        let switch = self.random.between(1, log.ends.len() - 1);
+        for (first, then) in
+            [(Validate::Always, Validate::Never), (Validate::Never, Validate::Always)]
+        {
+            self.step_at(0, first);
+            self.steps(switch - 1, first);
+            self.steps(log.ends.len() - switch, then);
+            self.steps(1, first);
+        }
+    }
+
     /// A wrong checksum leaves the cursor, the running checksum too: the right one is accepted.
     fn checksum_mended(&mut self) {
         let directory = self.hand_directory();
@@ -281,9 +298,8 @@ impl Generator {
 
     fn checksums(&mut self) {
         let most = match self.random.below(100) {
-            _ if self.small => 150,
-            0 => LONGEST,
-            1..=20 => 2_000,
+            0 if !self.small => LONGEST,
+            0..=20 => 2_000,
             _ => 80,
         };
         let length = self.random.between(0, most);

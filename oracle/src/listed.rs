@@ -3,7 +3,7 @@
 use crate::{
     directory::{Directory, Kind, Table},
     log::driver::Driver,
-    protocol::{is_step, op, tag, Fields, Stepped},
+    protocol::{is_step, number, op, tag, Fields, Stepped},
 };
 use std::io;
 
@@ -11,25 +11,35 @@ use std::io;
 pub struct Listed {
     pub name: &'static str,
     pub demanded: u8,
-    /// First bytes of the Rust's answer. It may come to the end (2) where it passes over a fault.
+    /// First bytes of the Rust's answer: it passes over the fault, and may then come to the end.
     rust: &'static [u8],
     /// Asked of a step inside a record, with the bytes from its position on.
     applies: fn(&Directory, &[u8]) -> bool,
 }
 
 pub const LISTED: [Listed; 4] = [
-    Listed { name: "begin inside a record", demanded: 4, rust: &[0], applies: begin_inside },
+    Listed {
+        name: "begin inside a record",
+        demanded: number::BEGIN_MISPLACED,
+        rust: &[number::DONE],
+        applies: begin_inside,
+    },
     Listed {
         name: "begin inside a record, its id cut",
-        demanded: 4,
-        rust: &[2],
+        demanded: number::BEGIN_MISPLACED,
+        rust: &[number::ENDS_INSIDE],
         applies: begin_inside_cut,
     },
-    Listed { name: "unknown table", demanded: 6, rust: &[0, 2], applies: unknown_table },
+    Listed {
+        name: "unknown table",
+        demanded: number::UNKNOWN_TABLE,
+        rust: &[number::DONE, number::ENDS_INSIDE],
+        applies: unknown_table,
+    },
     Listed {
         name: "index not below the count",
-        demanded: 7,
-        rust: &[0, 2],
+        demanded: number::INDEX_TOO_LARGE,
+        rust: &[number::DONE, number::ENDS_INSIDE],
         applies: index_not_below_count,
     },
 ];

@@ -1,4 +1,4 @@
-//! The letters of the run protocol: opcodes, hex lines, the fields of a command, a step's answer.
+//! The letters of the run protocol: opcodes, numbers, tags, hex lines, fields, a step's answer.
 
 /// The opcodes that the driver answers.
 pub mod op {
@@ -7,6 +7,20 @@ pub mod op {
     pub const CRC: u8 = 0x04;
     pub const STEP_AT: u8 = 0x0b;
     pub const STEP: u8 = 0x0c;
+}
+
+/// The numbered answers of document 01 that the driver and the listed differences name.
+pub mod number {
+    pub const DONE: u8 = 0;
+    pub const END_OF_LOG: u8 = 1;
+    pub const ENDS_INSIDE: u8 = 2;
+    pub const UNKNOWN_TAG: u8 = 3;
+    pub const BEGIN_MISPLACED: u8 = 4;
+    pub const UNKNOWN_TABLE: u8 = 6;
+    pub const INDEX_TOO_LARGE: u8 = 7;
+    pub const CHECKSUM_DIFFERS: u8 = 8;
+    pub const RULE_BROKEN: u8 = 13;
+    pub const BEYOND_THE_END: u8 = 14;
 }
 
 /// The tags of a record's actions.
@@ -112,7 +126,7 @@ impl Stepped {
     const ANSWER_LENGTH: usize = 44;
 
     pub fn answer(&self) -> Vec<u8> {
-        let mut answer = vec![0, self.tag];
+        let mut answer = vec![number::DONE, self.tag];
         answer.extend(self.table.to_le_bytes());
         let numbers = [self.index, self.id, self.payload_start, self.payload_length, self.cursor];
         answer.extend(numbers.into_iter().flat_map(u64::to_le_bytes));
@@ -121,7 +135,7 @@ impl Stepped {
 
     /// None if the step was refused.
     pub fn from_answer(answer: &[u8]) -> Option<Stepped> {
-        if answer.len() != Self::ANSWER_LENGTH || answer[0] != 0 {
+        if answer.len() != Self::ANSWER_LENGTH || answer[0] != number::DONE {
             return None;
         }
         let mut fields = Fields(&answer[1..]);

@@ -1,7 +1,7 @@
-//! The comparison passes over listed differences and nothing else.
+//! The comparison lets listed differences pass, and nothing else.
 
 use oracle::{
-    comparison::{compare, leading_to, Difference, Tally},
+    comparison::{compare, leading_to, Answers, Tally},
     generator::Generator,
     listed::Demanded,
     log::driver::Driver,
@@ -10,26 +10,22 @@ use oracle::{
 
 struct Run {
     script: Script,
-    rust: Vec<Vec<u8>>,
-    port: Vec<String>,
+    answers: Answers,
 }
 
 impl Run {
-    /// A script with the Rust's answers, and those that document 01 demands as the port's.
+    /// A script, with the answers that document 01 demands as the port's.
     fn of(script: Script) -> Run {
-        let mut driver = Driver::new().unwrap();
-        let mut demanded = Demanded::new().unwrap();
+        let (mut driver, mut by_rule) = (Driver::new().unwrap(), Demanded::new().unwrap());
         let rust = script.iter().map(|command| driver.answer(command)).collect();
-        let port = script.iter().map(|command| to_hex(&demanded.answer(command))).collect();
-        Run { script, rust, port }
-    }
-
-    fn compare(&self) -> Result<(), Difference> {
-        compare(&self.script, &self.rust, &self.port, &mut Tally::default())
+        let demanded: Vec<_> = script.iter().map(|command| by_rule.answer(command)).collect();
+        let port = demanded.iter().map(|answer| to_hex(answer)).collect();
+        Run { script, answers: Answers { rust, demanded, port } }
     }
 
     fn differs_at(&self) -> Option<usize> {
-        self.compare().err().map(|difference| difference.at)
+        let compared = compare(&self.script, &self.answers, &mut Tally::default());
+        compared.err().map(|difference| difference.at)
     }
 }
 
@@ -48,45 +44,48 @@ fn begin_inside() -> Run {
 
 #[test]
 fn demanded_answers_agree() {
-    assert!(begin_inside().compare().is_ok());
-    assert!(Run::of(Generator::sample(1)).compare().is_ok());
+    assert_eq!(begin_inside().differs_at(), None);
+    assert_eq!(Run::of(Generator::sample(1)).differs_at(), None);
 }
 
 #[test]
 fn every_other_answer_is_a_difference() {
     let mut run = Run::of(Generator::sample(2));
-    let mut found = 0;
     for at in 0..run.script.len() {
-        let right = std::mem::replace(&mut run.port[at], "05".into());
-        found += usize::from(run.differs_at() == Some(at));
-        run.port[at] = right;
+        let right = std::mem::replace(&mut run.answers.port[at], "05".into());
+        assert_eq!(run.differs_at(), Some(at));
+        run.answers.port[at] = right;
     }
-    // What follows a listed difference isn't compared, up to the next STEP_AT.
-    assert!(found > run.script.len() * 9 / 10);
 }
 
 #[test]
 fn the_rusts_own_answer_is_a_difference_where_one_is_listed() {
     let mut run = begin_inside();
-    run.port[3] = to_hex(&run.rust[3]);
+    run.answers.port[3] = to_hex(&run.answers.rust[3]);
     assert_eq!(run.differs_at(), Some(3));
 }
 
 #[test]
-fn a_chain_is_skipped_behind_a_listed_difference_up_to_the_next_opening() {
+fn the_rust_must_differ_as_listed() {
     let mut run = begin_inside();
-    run.port[4] = "05".into();
-    assert_eq!(run.differs_at(), None);
-    run.port[5] = "05".into();
-    assert_eq!(run.differs_at(), Some(5));
+    run.answers.rust[3] = vec![4];
+    assert_eq!(run.differs_at(), Some(3));
+}
+
+#[test]
+fn behind_a_listed_difference_the_port_must_stay_where_the_rust_goes_on() {
+    let mut run = begin_inside();
+    assert_ne!(to_hex(&run.answers.rust[4]), run.answers.port[4]);
+    run.answers.port[4] = to_hex(&run.answers.rust[4]);
+    assert_eq!(run.differs_at(), Some(4));
 }
 
 #[test]
 fn missing_and_needless_lines_are_differences() {
     let mut run = begin_inside();
-    run.port.push("00".into());
+    run.answers.port.push("00".into());
     assert_eq!(run.differs_at(), Some(5));
-    run.port.truncate(3);
+    run.answers.port.truncate(3);
     assert_eq!(run.differs_at(), Some(3));
 }
 

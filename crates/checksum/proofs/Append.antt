@@ -2,13 +2,13 @@
 use mathlib.Core.Path.{_≡_, refl, sym, ap, _∙_}
 use mathlib.Core.List.{List, [], _∷_, _++_}
 use Prim.Native.Nat.{ℕ, _+_, _-_, _*_, _^_, _<_}
-use native.Mathlib.Nat.{mod-eq-of-lt, add-comm, mul-suc}
+use native.Mathlib.Nat.{mod-eq-of-lt}
 use native.Mathlib.Omega.{arith}
 use lib.Bits.{bitXor, xor-comm, xor-self, xor-zero-r, xor-add-and, and-mask}
 use lib.ListN.{length}
 use Rattle.checksum.specs.Checksum.{allOnes, bitsIn, updated, finished, checksumOf}
 use Rattle.checksum.specs.Tables.{shifts}
-use Rattle.checksum.proofs.Register.{bits-xor, shifts-add, updated-append, updated-lt}
+use Rattle.checksum.proofs.Register.{bits-xor, shifts-byte, updated-append, updated-lt}
 use Rattle.checksum.proofs.Xor.{xor-assoc}
 
 less-of : (y x n : ℕ) → y + x * 2 ≡ x + n → n - x ≡ y
@@ -29,8 +29,7 @@ updated-xor r s [] = refl
 updated-xor r s (b ∷ bs) =
     ap (λ (x : ℕ). updated x bs) (bits-xor 8 r s b)
     ∙ updated-xor (shifts 8 r) (bitsIn 8 s b) bs
-    ∙ ap (λ (x : ℕ). bitXor x (updated (bitsIn 8 s b) bs))
-    (sym (shifts-add 8 (8 * length bs) r) ∙ ap (λ (n : ℕ). shifts n r) (add-comm 8 (8 * length bs) ∙ sym (mul-suc 8 (length bs))))
+    ∙ ap (λ (x : ℕ). bitXor x (updated (bitsIn 8 s b) bs)) (shifts-byte (length bs) r)
 
 back : (u : ℕ) → u < 2 ^ 32 → u ≡ bitXor (finished u) allOnes
 back u h =

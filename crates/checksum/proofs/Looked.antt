@@ -1,5 +1,5 @@
 -- A number moved many places, digit by digit through a table. Assumes nothing.
-use mathlib.Core.Path.{_≡_, refl, sym, ap, ap₂, _∙_, subst}
+use mathlib.Core.Path.{_≡_, sym, ap, ap₂, _∙_, subst}
 use mathlib.Core.List.{List}
 use Prim.Native.Nat.{ℕ, zero, suc, _+_, _-_, _*_, _/_, _%_, _^_, _≤_, _<_}
 use native.Mathlib.Nat.{add-zero, zero-mul, zero-add, suc-mul, mul-suc, add-comm, mod-lt, mul-one, mul-zero, mul-le-mul-right}
@@ -15,8 +15,8 @@ use Rattle.checksum.proofs.Follow.{follow, followed, upFrom, getD-upFro
 use Rattle.checksum.proofs.Register.{shifts-add, shifts-parts, shifts-zero}
 use Rattle.checksum.proofs.Xor.{xor-assoc}
 
--- the rule, from tests that antt computes: the first part by the register itself, and each other part from the one before it through the
--- first, which spares most of the shifts
+-- the rule, from tests that antt computes: the first part by the register itself, and each other one from the part before it by a look into
+-- the first, since the register's way takes antt more than twice as long
 module _ (w n : ℕ) (t : List ℕ) where
   abbrev through : ℕ → ℕ
   through x = bitXor (x / 2 ^ w) (getD t (x % 2 ^ w) 0)

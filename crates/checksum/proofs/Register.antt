@@ -2,7 +2,7 @@
 use mathlib.Core.Path.{_≡_, refl, sym, ap, ap₂, _∙_, subst}
 use mathlib.Core.List.{List, [], _∷_, _++_}
 use Prim.Native.Nat.{ℕ, zero, suc, _+_, _*_, _/_, _%_, _^_, _≤_, _<_}
-use native.Mathlib.Nat.{zero-add, suc-add, mul-assoc, mul-one, mod-lt, pow-suc, mul-div-cancel, mul-mod-left, div-eq-of-lt}
+use native.Mathlib.Nat.{zero-add, suc-add, add-comm, mul-assoc, mul-one, mul-suc, mod-lt, pow-suc, mul-div-cancel, mul-mod-left, div-eq-of-lt}
 use native.Mathlib.Numerals.{add-one}
 use native.Mathlib.Omega.{arith}
 use lib.Arith.{lt-one}
@@ -46,6 +46,9 @@ pub shifts-add : (m n r : ℕ) → shifts (m + n) r ≡ shifts n (shifts m r)
 unfolding shifts
 shifts-add zero n r = ap (λ (k : ℕ). shifts k r) (zero-add n)
 shifts-add (suc m) n r = ap (λ (k : ℕ). shifts k r) (suc-add m n) ∙ shifts-add m n (shift r)
+
+pub shifts-byte : (n r : ℕ) → shifts (8 * n) (shifts 8 r) ≡ shifts (8 * suc n) r
+shifts-byte n r = sym (shifts-add 8 (8 * n) r) ∙ ap (λ (k : ℕ). shifts k r) (add-comm 8 (8 * n) ∙ sym (mul-suc 8 n))
 
 pub shifts-up : (n y : ℕ) → shifts n (y * 2 ^ n) ≡ y
 unfolding shifts

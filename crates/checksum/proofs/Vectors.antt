@@ -1,4 +1,4 @@
--- Two values of the definition that others publish. Assumes nothing.
+-- Two values of the definition, by computing; the program `vectors` compares more of them. Assumes nothing.
 use mathlib.Core.Path.{_≡_, refl}
 use mathlib.Core.List.{[], _∷_}
 use Rattle.checksum.specs.Checksum.{shift, bitsIn, updated, finished, checksumOf}

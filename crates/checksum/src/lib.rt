@@ -1,5 +1,6 @@
-// CRC-32 of ITU-T V.42, in place of crc32fast. A table is built where a function that names it starts, on every path through it:
-// so each has a function of its own (`rest`, `bulk`), and is lent from there to what looks in it.
+// CRC-32 of ITU-T V.42, in place of crc32fast::Hasher: a register by value, and no state besides.
+// A function builds each table that it names on the stack where it starts, on every path through it. So each table has a function of its
+// own (`rest`, `bulk`), which lends it to what looks in it; and a caller does well to hand over a record whole, and not field by field.
 ghost use mathlib.Core.Path.{_≡_};
 ghost use Prim.Native.Nat.{_+_, _*_, _/_, _≤_};
 ghost use lib.Bits.{bitXor};
@@ -13,7 +14,7 @@ use tables::BYTES;
 use tables::NIBBLES;
 use words::u32_at;
 
-// What a register holds before the first byte.
+// The register before the first byte.
 pub const START: u32 = 4294967295;
 
 // A number moved 32 places and 4 more for each of base, by its digits of 4 bits.
@@ -27,8 +28,8 @@ fn by_nibbles(t: &[u32; 256], number: u32, base: usize) -> u32
     let mut left: usize = 8;
     while 0 < left {
         left -= 1;
-        r = r ^ t[(base + left) * 16 + (x % 16) as usize];
-        x = x / 16;
+        r ^= t[(base + left) * 16 + (x % 16) as usize];
+        x /= 16;
     }
     r
 }
@@ -44,8 +45,8 @@ fn by_bytes(t: &[u32; 4096], number: u32, base: usize) -> u32
     let mut left: usize = 4;
     while 0 < left {
         left -= 1;
-        r = r ^ t[(base + left) * 256 + (x % 256) as usize];
-        x = x / 256;
+        r ^= t[(base + left) * 256 + (x % 256) as usize];
+        x /= 256;
     }
     r
 }
@@ -59,20 +60,21 @@ fn byte_in(t: &[u32; 256], r: u32, b: u8) -> u32
     (r / 256) ^ (t[(x / 16) as usize] ^ t[16 + (x % 16) as usize])
 }
 
-// Eight bytes into the register, as two numbers.
+// Eight bytes into the register, as two numbers. The register's own part is looked up last, here and below: it waits for the turn before,
+// and the other parts need not.
 fn eight_in(t: &[u32; 256], r: u32, a: u32, b: u32) -> u32
     requires { ⌜ Moved 4 16 (now t) ⌝ }
-    ensures { λ q. ⌜ q ≡ bitXor (shifts 64 (bitXor r a)) (shifts 32 b) ⌝ }
+    ensures { λ q. ⌜ q ≡ bitXor (shifts 32 b) (shifts 64 (bitXor r a)) ⌝ }
 {
-    by_nibbles(t, r ^ a, 8) ^ by_nibbles(t, b, 0)
+    by_nibbles(t, b, 0) ^ by_nibbles(t, r ^ a, 8)
 }
 
 // Sixteen bytes into the register, as four numbers.
 fn sixteen_in(t: &[u32; 4096], r: u32, a: u32, b: u32, c: u32, d: u32) -> u32
     requires { ⌜ Moved 8 16 (now t) ⌝ }
-    ensures { λ q. ⌜ q ≡ bitXor (shifts 128 (bitXor r a)) (bitXor (bitXor (shifts 96 b) (shifts 64 c)) (shifts 32 d)) ⌝ }
+    ensures { λ q. ⌜ q ≡ bitXor (bitXor (shifts 32 d) (bitXor (shifts 64 c) (shifts 96 b))) (shifts 128 (bitXor r a)) ⌝ }
 {
-    by_bytes(t, r ^ a, 12) ^ (by_bytes(t, b, 8) ^ by_bytes(t, c, 4) ^ by_bytes(t, d, 0))
+    by_bytes(t, d, 0) ^ (by_bytes(t, c, 4) ^ by_bytes(t, b, 8)) ^ by_bytes(t, r ^ a, 12)
 }
 
 // The register after the bytes from a place on, eight at a time and then one at a time.
@@ -94,7 +96,7 @@ fn few(t: &[u32; 256], register: u32, bytes: &[u8], from: usize) -> u32
     r
 }
 
-// The register after all the bytes that sixteen at a time take.
+// The register after as many of the bytes as sixteen at a time take: the rest then brings it where all of them bring it.
 fn many(t: &[u32; 4096], register: u32, bytes: &[u8]) -> u32
     requires { ⌜ Moved 8 16 (now t) ⌝ }
     ensures { λ q. ⌜ updated q (drop (length (now (bytes .entry)) / 16 * 16) (now (bytes .entry))) ≡ updated register (now (bytes .entry)) ⌝ }
@@ -128,7 +130,7 @@ fn bulk(register: u32, bytes: &[u8]) -> u32
     many(&BYTES, register, bytes)
 }
 
-// The large table pays only from some length on.
+// Below 1,024 bytes the large table costs more to build than it saves.
 pub fn update(register: u32, bytes: &[u8]) -> u32
     ensures { λ r. ⌜ r ≡ updated register (now (bytes .entry)) ⌝ }
 {

@@ -1,4 +1,6 @@
-// The two tables.
+// The tables, each in sixteen parts. Their rule is `Moved` of specs/Tables.antt, and the functions that name them prove it.
+
+// Entry v of part j is the 4-bit digit v, moved 4 * (j + 1) places.
 pub const NIBBLES: [u32; 256] = [
     0,
     498536548,
@@ -258,6 +260,7 @@ pub const NIBBLES: [u32; 256] = [
     3642757804,
 ];
 
+// Entry v of part j is the byte v, moved 8 * (j + 1) places.
 pub const BYTES: [u32; 4096] = [
     0,
     1996959894,

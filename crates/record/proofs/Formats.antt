@@ -75,9 +75,21 @@ within {A} (give b) at log a end h e =
     let q : at ≡ end = cc in
     record { behind = omega arith; inside = omega arith }
 
+-- a first need is behind
+pub within-need : {A : Type 0} (k : ℕ) (short : Answer) (f : List ℕ → Format A) (at : ℕ) (log : List ℕ) (a : A) (end : ℕ) → at ≤ length log
+    → readAt (need k short f) at log ≡ got a end → at + k ≤ end
+unfolding readAt
+within-need {A} k short f at log a end h e = go (ltb (length log - at) k) refl
+  where
+    go : (t : Bool) → ltb (length log - at) k ≡ t → at + k ≤ end
+    go true q = let z : _≡_ {A = ℕ} 0 1 = cc (rw q at e) in absurd (omega arith)
+    go false q =
+        let m : k ≤ length log - at = ltb-false (length log - at) k q in
+        within (f (take k (drop at log))) (at + k) log a end (omega arith) (rw q at e) .behind
+
 -- ---- nothing behind its bytes matters
 
-same-part : (k at end : ℕ) (log more : List ℕ) → end ≤ length log → at + k ≤ end → take k (drop at (take end log ++ more)) ≡ take k (drop at log)
+pub same-part : (k at end : ℕ) (log more : List ℕ) → end ≤ length log → at + k ≤ end → take k (drop at (take end log ++ more)) ≡ take k (drop at log)
 same-part k at end log more h m =
     let l : length (take end log) ≡ end = length-take-le end log h in
     let b : at ≤ length (take end log) = omega arith in

@@ -1,2 +1,4 @@
+pub mod Cases
 pub mod Formats
 pub mod Parts
+pub mod Steps

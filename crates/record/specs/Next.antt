@@ -1,5 +1,5 @@
 -- `LogReader::next`: one step of the reader (document 01, "The opening of a record": "A step answers with the action, the place of its
--- payload and the cursor after it, or a refusal."; log.rs 250-331).
+-- payload and the cursor after it, or a refusal."; log.rs 251-330).
 use mathlib.Core.Bool.{Bool, true, false}
 use mathlib.Core.List.{List}
 use Prim.Native.Nat.{ℕ, _-_}
@@ -37,7 +37,7 @@ isEnd (DropRefCountTable t) = false
 abbrev pub readerAt : ℕ → Bool → LogReader
 readerAt position validate = record { position = position; record_id = 0; crc32 = allOnes; validate = validate; inside = false }
 
--- the reader at a later place of its record; if it validates, its checksum has taken the bytes between (log.rs 251-258, 334-341)
+-- the reader at a later place of its record; if it validates, its checksum has taken the bytes between (log.rs 252-259, 332-339)
 unfoldable pub forwardTo : List ℕ → LogReader → ℕ → LogReader
 forwardTo log r end = record {
   position = end;
@@ -47,7 +47,7 @@ forwardTo log r end = record {
   inside = r .inside;
 }
 
--- behind the end tag the reader stands between records, and the next one's checksum starts anew (log.rs 300: `mem::take`)
+-- behind the end tag the reader stands between records, and the next one's checksum starts anew (log.rs 302: `mem::take`)
 abbrev pub closed : LogReader → ℕ → LogReader
 closed r end = record { position = end; record_id = r .record_id; crc32 = allOnes; validate = r .validate; inside = false }
 
@@ -64,15 +64,13 @@ stepped log r (got item end) = Took (record {
   reader = readerAfter log r (item .action) end;
 })
 
--- an opening: the id is the record's, and the checksum starts with the begin tag (log.rs 221-230, 261-266)
+-- an opening: the id is the record's, and the checksum starts with the begin tag (log.rs 226-235, 264-269)
+abbrev pub beginning : LogReader → ℕ → LogReader
+beginning r id = record { position = r .position; record_id = id; crc32 = allOnes; validate = r .validate; inside = true }
+
 abbrev pub opened : List ℕ → LogReader → Got ℕ → Step
 opened log r (stopped answer) = refused answer
-opened log r (got id end) = Took (record {
-  action = BeginRecord;
-  start = end;
-  length = 0;
-  reader = forwardTo log (record { position = r .position; record_id = id; crc32 = allOnes; validate = r .validate; inside = true }) end;
-})
+opened log r (got id end) = Took (record { action = BeginRecord; start = end; length = 0; reader = forwardTo log (beginning r id) end })
 
 -- "then for reading 14, then faults in byte order"
 unfoldable pub stepOf : Directory → List ℕ → LogReader → Step

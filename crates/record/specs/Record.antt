@@ -1,5 +1,5 @@
 -- A record's bytes and how they are read (document 01, "Record bytes", "Numbered answers", "The opening of a record").
--- The order of the lines is the order of the checks, and each line that may refuse has its number. Beside it: `LogReader::next`, log.rs 250-331.
+-- The order of the lines is the order of the checks, and each line that may refuse has its number. Beside it: `LogReader::next`, log.rs 251-330.
 use mathlib.Core.Bool.{Bool, not, _||_}
 use mathlib.Core.List.{List, [], _∷_}
 use Prim.Native.Nat.{ℕ, _+_, _*_}
@@ -28,7 +28,7 @@ pub record Item : Type 0 where
   pub action : LogAction
   pub payload : ℕ
 
--- the actions of the three kinds of insertion (log.rs 43-71: an action carries table and index)
+-- the actions of the three kinds of insertion (log.rs 41-68: an action carries table and index)
 abbrev pub insertOf : TableKind → ℕ → ℕ → LogAction
 insertOf Index table index = InsertIndex (record { table = record { 0 = table }; index = index })
 insertOf Value table index = InsertValue (record { table = record { 0 = table }; index = index })
@@ -70,7 +70,7 @@ chunk kind width k = do
   bytes (ones (little mask) * width) Cut  -- 2
   give (record { action = insertOf kind (k .table) (k .index); payload = 8 + ones (little mask) * width })
 
--- tags 2 and 6 (log.rs 268-275, 286-293)
+-- tags 2 and 6 (log.rs 270-278, 288-296)
 unfoldable pub masked : Directory → TableKind → ℕ → Format Item
 masked d kind width = do
   k ← key d kind
@@ -82,7 +82,7 @@ value k = do
   bytes (k .length) Cut  -- 2
   give (record { action = insertOf Value (k .table) (k .index); payload = k .length })
 
--- tag 3 (log.rs 277-284)
+-- tag 3 (log.rs 279-287)
 unfoldable pub valued : Directory → Format Item
 valued d = do
   k ← key d Value
@@ -95,7 +95,7 @@ table d kind = do
   known (findTable d kind (little number))  -- 6
   give (little number)
 
--- tags 5 and 7 (log.rs 315-326)
+-- tags 5 and 7 (log.rs 316-327)
 unfoldable pub dropped : Directory → TableKind → (ℕ → LogAction) → Format Item
 dropped d kind action = do
   number ← table d kind
@@ -105,7 +105,7 @@ dropped d kind action = do
 unfoldable pub sumHolds : Bool → ℕ → ℕ → Bool
 sumHolds validate register sum = not validate || eqb sum (finished (updated register (4 ∷ [])))
 
--- tag 4 (log.rs 295-313)
+-- tag 4 (log.rs 297-315)
 unfoldable pub ended : Bool → ℕ → Format Item
 ended validate register = do
   sum ← bytes 4 Cut  -- 2
@@ -136,7 +136,7 @@ early k = do
   bytes k EndOfLog  -- 1
   refuse OutOfPlace  -- 4
 
--- "Tag 1 with under 8 more bytes gives 1."; the id (log.rs 261-266)
+-- "Tag 1 with under 8 more bytes gives 1."; the id (log.rs 264-269)
 unfoldable pub begun : Format ℕ
 begun = do
   id ← bytes 8 EndOfLog  -- 1
@@ -160,7 +160,7 @@ openingBy validate tag =
     if eqb tag 7 then early 2 else
     refuse UnknownTag  -- 3
 
--- "At the position: no byte left gives 1. Otherwise a decision on the tag byte." (log.rs 1038-1052, `read_next`)
+-- "At the position: no byte left gives 1. Otherwise a decision on the tag byte." (log.rs 1049-1063, `read_next`)
 unfoldable pub opening : Bool → Format ℕ
 opening validate = do
   tag ← byte EndOfLog  -- 1

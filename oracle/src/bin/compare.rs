@@ -2,8 +2,9 @@
 //! COUNT steps are compared, and prints the first difference, or what agreed.
 
 use oracle::{
-    comparison::{compare, leading_to, Difference, Tally},
+    comparison::{compare, leading_to, Answers, Difference, Tally},
     generator::Generator,
+    listed::Demanded,
     log::driver::Driver,
     protocol::{lines_of, to_hex, Script},
     scratch::Scratch,
@@ -26,8 +27,8 @@ fn main() -> Result<ExitCode, Box<dyn Error>> {
     let mut tally = Tally::default();
     while tally.steps() < count {
         let script = generator.batch();
-        let (rust, port) = run_both(&script, Path::new(port))?;
-        if let Err(difference) = compare(&script, &rust, &port, &mut tally) {
+        let answers = run_both(&script, Path::new(port))?;
+        if let Err(difference) = compare(&script, &answers, &mut tally) {
             println!("seed {seed}: {} steps agree, then a difference", tally.steps());
             show(&script, &difference)?;
             return Ok(ExitCode::FAILURE);
@@ -37,22 +38,27 @@ fn main() -> Result<ExitCode, Box<dyn Error>> {
     Ok(ExitCode::SUCCESS)
 }
 
-/// The Rust's answers, and the port's lines as written. The port is a process of its own, and
-/// reads from and writes to files, so that neither side waits for the other.
-fn run_both(script: &Script, port: &Path) -> io::Result<(Vec<Vec<u8>>, Vec<String>)> {
+/// The port is a process of its own. It reads from and writes to files, so that neither side waits
+/// for the other.
+fn run_both(script: &Script, port: &Path) -> io::Result<Answers> {
     let folder = Scratch::new()?;
-    let (commands, answers) = (folder.path().join("commands"), folder.path().join("answers"));
+    let (commands, lines) = (folder.path().join("commands"), folder.path().join("lines"));
     fs::write(&commands, lines_of(script))?;
-    let mut running =
-        Command::new(port).stdin(File::open(&commands)?).stdout(File::create(&answers)?).spawn()?;
-    let mut driver = Driver::new()?;
+    let mut running = Command::new(port)
+        .stdin(File::open(&commands)?)
+        .stdout(File::create(&lines)?)
+        .spawn()
+        .map_err(|error| io::Error::other(format!("{}: {error}", port.display())))?;
+    let (mut driver, mut by_rule) = (Driver::new()?, Demanded::new()?);
     let rust = script.iter().map(|command| driver.answer(command)).collect();
+    let demanded = script.iter().map(|command| by_rule.answer(command)).collect();
     let ended = running.wait()?;
     if !ended.success() {
         eprintln!("{}: {ended}", port.display());
     }
-    let written = fs::read(&answers)?;
-    Ok((rust, String::from_utf8_lossy(&written).lines().map(str::to_string).collect()))
+    let written = fs::read(&lines)?;
+    let port = String::from_utf8_lossy(&written).lines().map(str::to_string).collect();
+    Ok(Answers { rust, demanded, port })
 }
 
 /// Prints a difference, and keeps the commands that lead to it as a script.

@@ -6,11 +6,9 @@ mod step;
 use self::{log_file::LogFile, step::Cursor};
 use crate::{
     directory::Directory,
-    protocol::{op, Fields, NOT_DRIVEN},
+    protocol::{number, op, Fields, NOT_DRIVEN},
 };
 use std::io;
-
-const DONE: u8 = 0;
 
 pub struct Driver {
     directory: Directory,
@@ -41,12 +39,12 @@ impl Driver {
 
     fn dir(&mut self, fields: &mut Fields) -> Vec<u8> {
         self.directory = Directory::from_fields(fields);
-        vec![DONE]
+        vec![number::DONE]
     }
 
     fn log(&mut self, fields: &mut Fields) -> Vec<u8> {
         self.log_file.replace(fields.blob());
-        vec![DONE]
+        vec![number::DONE]
     }
 }
 

@@ -10,18 +10,9 @@ use super::{
 use crate::{
     directory::{Directory, Kind},
     error::{Error, Result},
-    protocol::{Fields, Stepped},
+    protocol::{number, Fields, Stepped},
 };
 use std::io::ErrorKind;
-
-// Numbered answers of document 01.
-const END_OF_LOG: u8 = 1;
-const ENDS_INSIDE: u8 = 2;
-const UNKNOWN_TAG: u8 = 3;
-const NOT_A_BEGIN: u8 = 4;
-const CHECKSUM_DIFFERS: u8 = 8;
-const BREAKS_A_RULE: u8 = 13;
-const BEYOND_THE_END: u8 = 14;
 
 pub struct Cursor {
     position: u64,
@@ -57,10 +48,10 @@ impl Driver {
     /// 13 and 14 come first and concern additions of document 01; all else is the Rust's word.
     fn try_step(&mut self, validate: bool) -> std::result::Result<(Stepped, Cursor), u8> {
         if !self.directory.keeps_the_rules() {
-            return Err(BREAKS_A_RULE);
+            return Err(number::RULE_BROKEN);
         }
         if self.cursor.position > self.log_file.length() {
-            return Err(BEYOND_THE_END);
+            return Err(number::BEYOND_THE_END);
         }
         self.log_file.go_to(self.cursor.position);
         match &self.cursor.begun {
@@ -72,7 +63,7 @@ impl Driver {
     fn open_record(&self, validate: bool) -> std::result::Result<(Stepped, Cursor), u8> {
         match self.log_file.read_next(validate) {
             Ok(Some(reader)) => Ok(self.stepped(begun_by(&reader), reader)),
-            Ok(None) => Err(END_OF_LOG),
+            Ok(None) => Err(number::END_OF_LOG),
             Err(error) => Err(number_of(error)),
         }
     }
@@ -116,7 +107,7 @@ fn keyed(tag: u8, table: u16, index: u64) -> Stepped {
     Stepped { tag, table, index, ..Stepped::default() }
 }
 
-/// `next` leaves the payload to its caller, who reads it as the tables of parity-db do.
+/// `next` leaves the payload to its caller: read here as document 01 has it, "Record bytes".
 fn read_payload(reader: &mut LogReader, of: &Stepped, directory: &Directory) -> Result<()> {
     match of.tag {
         INSERT_INDEX => read_entries(reader, ENTRY_BYTES),
@@ -140,12 +131,12 @@ fn read_entries(reader: &mut LogReader, entry_bytes: usize) -> Result<()> {
 
 fn number_of(error: Error) -> u8 {
     match error {
-        Error::Io(error) if error.kind() == ErrorKind::UnexpectedEof => ENDS_INSIDE,
+        Error::Io(error) if error.kind() == ErrorKind::UnexpectedEof => number::ENDS_INSIDE,
         Error::Io(error) => panic!("reading the log's file: {error}"),
         Error::Corruption(text) => match text.as_str() {
-            "Bad log entry type" => UNKNOWN_TAG,
-            "Bad log record structure" => NOT_A_BEGIN,
-            "Log record CRC-32 mismatch" => CHECKSUM_DIFFERS,
+            "Bad log entry type" => number::UNKNOWN_TAG,
+            "Bad log record structure" => number::BEGIN_MISPLACED,
+            "Log record CRC-32 mismatch" => number::CHECKSUM_DIFFERS,
             _ => panic!("log.rs has no such text: {text}"),
         },
     }
