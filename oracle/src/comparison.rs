@@ -111,9 +111,9 @@ fn as_listed(listed: &Listed, rust: &[u8], port: &str) -> Result<(), String> {
     let demanded = [listed.demanded];
     if listed.fits_the_rust(rust) {
         return same("01 wants", &demanded, port)
-            .map_err(|why| format!("{}\nthe Rust: {}\n{why}", listed.name, shown(rust)));
+            .map_err(|why| format!("listed: {}\nthe Rust: {}\n{why}", listed.name, shown(rust)));
     }
-    Err(format!("{}, but not as listed\nthe Rust: {}", listed.name, shown(rust)))
+    Err(format!("listed: {}, but the Rust doesn't answer so: {}", listed.name, shown(rust)))
 }
 
 fn shown(answer: &[u8]) -> String {

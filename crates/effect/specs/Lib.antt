@@ -1,0 +1,3 @@
+pub mod Effect
+pub mod Meaning
+pub mod Order

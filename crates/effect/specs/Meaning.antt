@@ -1,0 +1,83 @@
+-- Demand 2, with no order and no stores in it: "an accepted record sets exactly the entries its masks name and the values it lists, zeroes
+-- the tables it drops, and touches nothing else". What an action says of each byte of the image.
+use mathlib.Core.Path.{_≡_}
+use mathlib.Core.Bool.{Bool, _&&_}
+use mathlib.Core.List.{List, [], _∷_}
+use mathlib.Core.Option.{Option, none, some}
+use Prim.Native.Nat.{ℕ, zero, suc, _+_, _-_, _*_, _/_, _%_, _<_}
+use lib.Count.{onesIn}
+use lib.Dec.{eqb, leb, ltb}
+use lib.ListN.{length, getD}
+use Rattle.words.specs.Choice.{if_then_else_}
+use Rattle.directory.specs.Table.{sizeOf}
+use Rattle.directory.specs.declared.table.TableKind.the-variants.{Index, Value, RefCount}
+use Rattle.directory.specs.declared.directory.Directory.{Directory}
+use Rattle.record.specs.declared.action.LogAction.{LogAction}
+use Rattle.record.specs.declared.action.LogAction.the-variants.{BeginRecord, InsertIndex, InsertValue, InsertRefCount, EndRecord, DropTable, DropRefCountTable}
+use Rattle.effect.specs.Effect.{Written, maskIn, entriesIn, Place, placeOf, unit}
+
+-- the first of two answers that is one
+abbrev pub orElse : Option ℕ → Option ℕ → Option ℕ
+orElse (some a) o = some a
+orElse none o = o
+
+-- bit s of a mask
+unfoldable pub bit : ℕ → ℕ → Bool
+bit m zero = eqb (m % 2) 1
+bit m (suc s) = bit (m / 2) s
+
+-- p is one of the n positions from `at` on
+unfoldable pub within : ℕ → ℕ → ℕ → Bool
+within at n p = leb at p && ltb p (at + n)
+
+-- "exactly the entries its masks name": of a chunk of 64 slots of w bytes at `at`, byte j of slot s is byte j of the payload's r-th entry if
+-- bit s is set, r being how many set bits are below it
+unfoldable pub masked : ℕ → ℕ → ℕ → List ℕ → ℕ → Option ℕ
+masked w at mask entries p =
+    let s : ℕ = (p - at) / w in
+    let j : ℕ = (p - at) % w in
+    if within at (64 * w) p && bit mask s then some (getD entries (onesIn s mask * w + j) 0) else none
+
+-- "and the values it lists"
+unfoldable pub valued : ℕ → ℕ → List ℕ → ℕ → Option ℕ
+valued at n bytes p = if within at n p then some (getD bytes (p - at) 0) else none
+
+unfoldable pub ofIndex : Option Place → ℕ → (ℕ → ℕ → Option ℕ) → Option ℕ
+ofIndex none i f = none
+ofIndex (some P) i f = if ltb i (P .table .count) then f (P .at + i * unit (P .table)) (unit (P .table)) else none
+
+-- "zeroes the tables it drops"
+unfoldable pub ofDrop : Option Place → ℕ → Option ℕ
+ofDrop none p = none
+ofDrop (some P) p = if within (P .at) (sizeOf (P .table)) p then some 0 else none
+
+-- the byte that an action says is to stand at p, if it says any
+unfoldable pub saidBy : Directory → LogAction → List ℕ → ℕ → Option ℕ
+saidBy d (InsertIndex a) payload p = ofIndex (placeOf d Index (a .table .0)) (a .index) (λ at u. masked 8 at (maskIn payload) (entriesIn payload) p)
+saidBy d (InsertValue a) payload p = ofIndex (placeOf d Value (a .table .0)) (a .index) (λ at u. valued at u payload p)
+saidBy d (InsertRefCount a) payload p = ofIndex (placeOf d RefCount (a .table .0)) (a .index) (λ at u. masked 16 at (maskIn payload) (entriesIn payload) p)
+saidBy d (DropTable t) payload p = ofDrop (placeOf d Index (t .0)) p
+saidBy d (DropRefCountTable t) payload p = ofDrop (placeOf d RefCount (t .0)) p
+saidBy d BeginRecord payload p = none
+saidBy d EndRecord payload p = none
+
+abbrev pub says : Directory → Written → ℕ → Option ℕ
+says d w p = saidBy d (w .action) (w .payload) p
+
+-- what a record says of p: the last of its actions that says anything of it
+unfoldable pub lastSaid : Directory → List Written → ℕ → Option ℕ
+lastSaid d [] p = none
+lastSaid d (w ∷ ws) p = orElse (lastSaid d ws p) (says d w p)
+
+-- the payload has the length that the record's bytes give it: the reader takes no other
+unfoldable pub SizedBy : Directory → LogAction → List ℕ → Type 0
+SizedBy d (InsertIndex a) payload = length payload ≡ 8 + onesIn 64 (maskIn payload) * 8
+SizedBy d (InsertValue a) payload = (P : Place) → placeOf d Value (a .table .0) ≡ some P → length payload ≡ unit (P .table)
+SizedBy d (InsertRefCount a) payload = length payload ≡ 8 + onesIn 64 (maskIn payload) * 16
+SizedBy d (DropTable t) payload = Unit {0}
+SizedBy d (DropRefCountTable t) payload = Unit {0}
+SizedBy d BeginRecord payload = Unit {0}
+SizedBy d EndRecord payload = Unit {0}
+
+abbrev pub Sized : Directory → Written → Type 0
+Sized d w = SizedBy d (w .action) (w .payload)
