@@ -1,3 +1,0 @@
-pub mod Parts
-pub mod Replay
-pub mod Run
