@@ -1,49 +1,16 @@
 //! The answers of the Rust and of the port to a script, line by line.
 
+mod tally;
+
+pub use self::tally::Tally;
 use crate::{
-    listed::{Listed, Watch, LISTED},
-    protocol::{from_hex, is_step, op, to_hex, Script, Stepped},
+    demanded::{ByRule, Demanded},
+    listed::Listed,
+    log::driver::Driver,
+    part::Part,
+    protocol::{from_hex, op, to_hex, Script, Stepped},
 };
-use std::fmt;
-
-/// What has been compared so far.
-#[derive(Default)]
-pub struct Tally {
-    same: u64,
-    listed: [u64; LISTED.len()],
-    /// Steps behind a listed difference. The Rust has gone on where 01 stays, so they count apart.
-    behind: u64,
-    checksums: u64,
-    /// How often each number was the port's answer.
-    numbers: [u64; 16],
-}
-
-impl Tally {
-    pub fn steps(&self) -> u64 {
-        self.same + self.listed.iter().sum::<u64>()
-    }
-
-    fn count_number(&mut self, number: u8) {
-        self.numbers[number as usize] += 1;
-    }
-}
-
-impl fmt::Display for Tally {
-    fn fmt(&self, f: &mut fmt::Formatter) -> fmt::Result {
-        let listed = self.steps() - self.same;
-        writeln!(f, "{} steps agree, {listed} of them as listed differences:", self.steps())?;
-        for (difference, count) in LISTED.iter().zip(self.listed) {
-            writeln!(f, "  {count:8} {}, answer {}", difference.name, difference.demanded)?;
-        }
-        writeln!(f, "{} steps behind a listed difference are as 01 demands", self.behind)?;
-        writeln!(f, "{} checksums agree", self.checksums)?;
-        write!(f, "answers:")?;
-        for (number, count) in self.numbers.iter().enumerate().filter(|(_, count)| **count > 0) {
-            write!(f, " {number}: {count}")?;
-        }
-        Ok(())
-    }
-}
+use std::io;
 
 /// The first command that the two sides answer differently.
 pub struct Difference {
@@ -54,42 +21,49 @@ pub struct Difference {
 /// The answers to a script that starts from nothing.
 pub struct Answers {
     pub rust: Vec<Vec<u8>>,
-    /// As `Demanded` gives them.
-    pub demanded: Vec<Vec<u8>>,
-    /// Lines as written.
-    pub port: Vec<String>,
+    pub demanded: Vec<ByRule>,
 }
 
-pub fn compare(script: &Script, answers: &Answers, tally: &mut Tally) -> Result<(), Difference> {
-    let mut watch = Watch::default();
-    // After a listed difference the two cursors are apart, up to the next STEP_AT.
-    let mut apart = false;
+impl Answers {
+    pub fn to(script: &Script) -> io::Result<Answers> {
+        let (mut driver, mut by_rule) = (Driver::new()?, Demanded::new()?);
+        let rust = script.iter().map(|command| driver.answer(command)).collect();
+        let demanded = script.iter().map(|command| by_rule.by_rule(command)).collect();
+        Ok(Answers { rust, demanded })
+    }
+}
+
+/// Holds the port's lines, as written, against the answers.
+pub fn compare(
+    script: &Script,
+    answers: &Answers,
+    port: &[String],
+    tally: &mut Tally,
+) -> Result<(), Difference> {
+    // After a listed difference the two sides' states of that part are apart.
+    let mut apart = [false; Part::ALL.len()];
     for (at, command) in script.iter().enumerate() {
         let differs = |why| Difference { at, why };
-        let rust = &answers.rust[at];
+        let (rust, demanded) = (&answers.rust[at], &answers.demanded[at]);
         let no_line = || differs("the port wrote no line for it".into());
-        let port = answers.port.get(at).ok_or_else(no_line)?;
-        watch.handed(command);
-        apart &= command[0] != op::STEP_AT;
-        if !is_step(command) {
-            same("the Rust", rust, port).map_err(differs)?;
-            tally.checksums += u64::from(command[0] == op::CRC);
-        } else if apart {
-            same("01 wants", &answers.demanded[at], port).map_err(differs)?;
-            tally.behind += 1;
-        } else if let Some(place) = watch.listed() {
-            as_listed(&LISTED[place], rust, port).map_err(differs)?;
-            tally.listed[place] += 1;
-            tally.count_number(LISTED[place].demanded);
-            apart = true;
+        let line = port.get(at).ok_or_else(no_line)?;
+        for part in Part::ALL {
+            apart[part as usize] &= !part.brings_together(command, &demanded.answer);
+        }
+        let called = Part::called_by(command);
+        if Part::shown_by(command).is_some_and(|part| apart[part as usize]) {
+            same("01 wants", &demanded.answer, line).map_err(differs)?;
+            tally.count_behind(called);
+        } else if let (Some(listed), Some(part)) = (demanded.listed, called) {
+            as_listed(listed, rust, &demanded.answer, line).map_err(differs)?;
+            tally.count_listed(part, listed, &demanded.answer);
+            apart[part as usize] = true;
         } else {
-            same("the Rust", rust, port).map_err(differs)?;
-            tally.same += 1;
-            tally.count_number(rust[0]);
-            watch.answered(rust);
+            same("the Rust", rust, line).map_err(differs)?;
+            tally.count_same(command, rust);
         }
     }
-    no_further_lines(script, &answers.port)
+    no_further_lines(script, port)
 }
 
 fn no_further_lines(script: &Script, port: &[String]) -> Result<(), Difference> {
@@ -107,13 +81,13 @@ fn same(whose: &str, answer: &[u8], port: &str) -> Result<(), String> {
     Err(format!("{whose}: {}\nthe port: {}", shown(answer), shown_line(port)))
 }
 
-fn as_listed(listed: &Listed, rust: &[u8], port: &str) -> Result<(), String> {
-    let demanded = [listed.demanded];
+fn as_listed(listed: Listed, rust: &[u8], demanded: &[u8], port: &str) -> Result<(), String> {
+    let name = listed.name();
     if listed.fits_the_rust(rust) {
-        return same("01 wants", &demanded, port)
-            .map_err(|why| format!("listed: {}\nthe Rust: {}\n{why}", listed.name, shown(rust)));
+        return same("01 wants", demanded, port)
+            .map_err(|why| format!("listed: {name}\nthe Rust: {}\n{why}", shown(rust)));
     }
-    Err(format!("listed: {}, but the Rust doesn't answer so: {}", listed.name, shown(rust)))
+    Err(format!("listed: {name}, but the Rust doesn't answer so: {}", shown(rust)))
 }
 
 fn shown(answer: &[u8]) -> String {
@@ -127,17 +101,32 @@ fn shown_line(line: &str) -> String {
     from_hex(line).map_or_else(|| format!("{line:?}, which isn't hex"), |answer| shown(&answer))
 }
 
-/// The commands that lead to a difference: the last DIR and LOG before the last STEP_AT, and all
-/// from that STEP_AT on.
-pub fn leading_to(script: &Script, at: usize) -> Script {
-    if !is_step(&script[at]) {
-        return vec![script[at].clone()];
+/// Commands by which the port's reader takes the records that the Rust writes of a script's lists,
+/// one at each look at a list. The Rust goes in hash order, so they aren't the same in every run.
+pub fn walks_through_records(script: &Script) -> io::Result<Script> {
+    let mut driver = Driver::new()?;
+    let mut walks = Script::new();
+    let of_lists =
+        |command: &&Vec<u8>| Part::shown_by(command).is_none_or(|part| part == Part::Lists);
+    for command in script.iter().filter(of_lists) {
+        driver.answer(command);
+        if command[0] == op::LIST_SUM && driver.list_keeps_the_rules() {
+            let record = driver.written_record();
+            walks.extend(driver.walk_through(&record));
+        }
     }
-    let last =
-        |opcode, before: usize| script[..before].iter().rposition(|command| command[0] == opcode);
-    let chain = last(op::STEP_AT, at + 1).unwrap_or(0);
-    let mut places: Vec<usize> =
-        [last(op::DIR, chain), last(op::LOG, chain)].into_iter().flatten().collect();
+    Ok(walks)
+}
+
+/// The commands that lead to a difference: the last DIR and LOG before its chain of calls, and all
+/// from that chain's start on.
+pub fn leading_to(script: &Script, at: usize) -> Script {
+    let Some(part) = Part::shown_by(&script[at]) else {
+        return vec![script[at].clone()];
+    };
+    let chain = script[..=at].iter().rposition(|command| part.starts_with(command)).unwrap_or(0);
+    let last = |opcode| script[..chain].iter().rposition(|command| command[0] == opcode);
+    let mut places: Vec<usize> = [last(op::DIR), last(op::LOG)].into_iter().flatten().collect();
     places.sort();
     places.extend(chain..=at);
     places.into_iter().map(|place| script[place].clone()).collect()

@@ -31,6 +31,19 @@ impl Table {
         };
         self.column <= 7 && (1..=4096).contains(&self.count) && length_fits
     }
+
+    /// How many bytes a chunk or value takes.
+    pub fn place_bytes(&self) -> usize {
+        match self.kind {
+            Kind::Index => 512,
+            Kind::Value => self.length as usize,
+            Kind::RefCount => 1024,
+        }
+    }
+
+    pub fn bytes(&self) -> usize {
+        self.count as usize * self.place_bytes()
+    }
 }
 
 #[derive(Debug, Default, Clone)]
@@ -84,5 +97,17 @@ impl Directory {
 
     pub fn find(&self, kind: Kind, number: u16) -> Option<&Table> {
         self.tables.iter().find(|table| table.kind == kind && table.number == number)
+    }
+
+    /// "The tables lie in one lent image in directory order without gaps".
+    pub fn image_length(&self) -> usize {
+        self.tables.iter().map(Table::bytes).sum()
+    }
+
+    /// Where the bytes of a table lie in the image, and the table.
+    pub fn place_of(&self, kind: Kind, number: u16) -> Option<(usize, &Table)> {
+        let table = self.find(kind, number)?;
+        let before = self.tables.iter().take_while(|other| !std::ptr::eq(*other, table));
+        Some((before.map(Table::bytes).sum(), table))
     }
 }

@@ -21,9 +21,13 @@ pub mod log {
 }
 
 pub mod comparison;
+pub mod demanded;
 mod directory;
 pub mod generator;
 pub mod listed;
+mod names;
+pub mod part;
 pub mod protocol;
 mod random;
 pub mod scratch;
+mod written;

@@ -3,10 +3,32 @@
 /// The opcodes that the driver answers.
 pub mod op {
     pub const DIR: u8 = 0x01;
+    pub const IMAGE: u8 = 0x02;
     pub const LOG: u8 = 0x03;
     pub const CRC: u8 = 0x04;
+    pub const NEWLIST: u8 = 0x05;
+    pub const INS_INDEX: u8 = 0x06;
+    pub const INS_VALUE: u8 = 0x07;
+    pub const INS_REF: u8 = 0x08;
+    pub const DROP: u8 = 0x09;
+    pub const DROP_REF: u8 = 0x0a;
     pub const STEP_AT: u8 = 0x0b;
     pub const STEP: u8 = 0x0c;
+    pub const REPLAY: u8 = 0x0d;
+    pub const RUN: u8 = 0x0e;
+    pub const IMAGE_SUM: u8 = 0x0f;
+    pub const OPEN: u8 = 0x10;
+    pub const FLUSH: u8 = 0x14;
+    pub const READ_NEXT: u8 = 0x15;
+    pub const REPLAY_NEXT: u8 = 0x16;
+    pub const CLEAN: u8 = 0x17;
+    pub const CLEAR_REPLAY: u8 = 0x18;
+    pub const KILL: u8 = 0x19;
+    pub const STATE: u8 = 0x1c;
+    pub const FORGE_QUEUES: u8 = 0x1f;
+    pub const FORGE_LIST: u8 = 0x21;
+    pub const LIST_SUM: u8 = 0x23;
+    pub const FORGE_DROP: u8 = 0x24;
 }
 
 /// The numbered answers of document 01 that the driver and the listed differences name.
@@ -16,10 +38,14 @@ pub mod number {
     pub const ENDS_INSIDE: u8 = 2;
     pub const UNKNOWN_TAG: u8 = 3;
     pub const BEGIN_MISPLACED: u8 = 4;
+    pub const OTHER_ID: u8 = 5;
     pub const UNKNOWN_TABLE: u8 = 6;
     pub const INDEX_TOO_LARGE: u8 = 7;
     pub const CHECKSUM_DIFFERS: u8 = 8;
+    pub const NO_ROOM: u8 = 9;
+    pub const USED_UP: u8 = 12;
     pub const RULE_BROKEN: u8 = 13;
+    /// Also a slot above 63, and a chunk or value of the wrong length.
     pub const BEYOND_THE_END: u8 = 14;
 }
 
@@ -37,12 +63,11 @@ pub mod tag {
 /// What an opcode that is not driven yet is answered with.
 pub const NOT_DRIVEN: u8 = 0xff;
 
+/// What a call is answered with in which the Rust fails with an error that has no number.
+pub const RUST_FAILS: u8 = 0xfe;
+
 /// A script is a list of commands, each as bytes.
 pub type Script = Vec<Vec<u8>>;
-
-pub fn is_step(command: &[u8]) -> bool {
-    matches!(command[0], op::STEP_AT | op::STEP)
-}
 
 pub fn to_hex(bytes: &[u8]) -> String {
     const DIGITS: &[u8; 16] = b"0123456789abcdef";
@@ -97,6 +122,11 @@ impl<'a> Fields<'a> {
         u64::from_le_bytes(self.take())
     }
 
+    pub fn nums(&mut self) -> Vec<u32> {
+        let count = self.u16();
+        (0..count).map(|_| self.u32()).collect()
+    }
+
     pub fn blob(&mut self) -> &'a [u8] {
         let length = self.u32() as usize;
         let (taken, rest) = self.0.split_at(length);
@@ -108,6 +138,12 @@ impl<'a> Fields<'a> {
 /// The command of an opcode and a blob.
 pub fn with_blob(opcode: u8, blob: &[u8]) -> Vec<u8> {
     [&[opcode], &(blob.len() as u32).to_le_bytes()[..], blob].concat()
+}
+
+/// Puts `nums` behind an answer.
+pub fn put_nums(answer: &mut Vec<u8>, nums: &[u32]) {
+    answer.extend((nums.len() as u16).to_le_bytes());
+    answer.extend(nums.iter().flat_map(|num| num.to_le_bytes()));
 }
 
 /// What STEP tells when its answer is 0.
@@ -124,6 +160,10 @@ pub struct Stepped {
 
 impl Stepped {
     const ANSWER_LENGTH: usize = 44;
+
+    pub fn has_payload(&self) -> bool {
+        matches!(self.tag, tag::INDEX | tag::VALUE | tag::REF_COUNT)
+    }
 
     pub fn answer(&self) -> Vec<u8> {
         let mut answer = vec![number::DONE, self.tag];

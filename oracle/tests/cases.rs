@@ -1,4 +1,4 @@
-//! The cases of document 01 that a step can show, answered by the Rust.
+//! The cases of document 01 that the driven commands can show, answered by the Rust.
 
 use oracle::{
     log::driver::Driver,
@@ -86,7 +86,44 @@ fn validation_switched_inside_a_record() {
     assert_eq!([number("0b000000000000000000"), number("0c01"), number("0c00")], [0, 8, 0]);
 }
 
+fn answers(lines: &[&str]) -> Vec<Vec<u8>> {
+    let mut driver = Driver::new().unwrap();
+    lines.iter().map(|line| driver.answer(&from_hex(line).unwrap())).collect()
+}
+
+#[test]
+fn slot_63_and_64() {
+    let chunk = "00".repeat(512);
+    let insert = |slot: &str| format!("0601000000000000000000{slot}00020000{chunk}");
+    assert_eq!(answers(&[DIRECTORY, &insert("3f"), &insert("40")]), [[0], [0], [14]]);
+}
+
+/// Size 10, minimum 10; then minimum 9.
+#[test]
+fn a_flush_needs_more_than_the_minimum() {
+    let appending_0_of_size_10 = "1f01000000000a00000000000000000000000000000000000000000100000000";
+    let flushed = answers(&[appending_0_of_size_10, "140a00000000000000", "140900000000000000"]);
+    assert_eq!(flushed[1..], [[0, 0], [0, 1]]);
+}
+
+/// 17 are due in the pool: the highest is removed.
+#[test]
+fn the_pool_keeps_the_lowest() {
+    let mut queues = String::from("1f0000000000000000000000000000000000000000");
+    // 3 in cleanup; 0, 1, 2 and 4 to 16 in the pool.
+    queues += "010003000000";
+    queues += "1000";
+    for number in (0..17).filter(|number| *number != 3) {
+        queues += &format!("{number:02x}000000");
+    }
+    queues += "00001100000000";
+    let cleaned = answers(&[&queues, "170100000000000000"]);
+    let (emptied, removed) = ([1, 0, 3, 0, 0, 0], [1, 0, 16, 0, 0, 0]);
+    assert_eq!(cleaned[1], [&[0, 0], &emptied[..], &removed].concat());
+}
+
 #[test]
 fn an_opcode_that_is_not_driven() {
-    assert_eq!(Driver::new().unwrap().answer(&[0x1c]), [0xff]);
+    let overlays = 0x1d;
+    assert_eq!(Driver::new().unwrap().answer(&[overlays]), [0xff]);
 }

@@ -1,1 +1,12 @@
-
+pub mod Again
+pub mod Bytes
+pub mod Demand2
+pub mod Demand3
+pub mod Exact
+pub mod Masks
+pub mod Places
+pub mod Reach
+pub mod Settle
+pub mod Sized
+pub mod Spots
+pub mod Steps

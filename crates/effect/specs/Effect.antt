@@ -1,6 +1,5 @@
 -- What an action does to the image, and a record: its actions in written order (document 01, "Record bytes" and "Replay"; added: log.rs
 -- hands its actions out and knows no tables).
-use mathlib.Core.Bool.{Bool, true, false}
 use mathlib.Core.List.{List, [], _∷_}
 use mathlib.Core.Option.{Option, none, some}
 use Prim.Native.Nat.{ℕ, zero, suc, _+_, _*_, _/_, _%_}
@@ -24,6 +23,9 @@ use Rattle.record.specs.declared.action.LogAction.the-variants.{BeginRecord, In
 pub record Written : Type 0 where
   pub action : LogAction
   pub payload : List ℕ
+
+abbrev pub written : LogAction → List ℕ → Written
+written action payload = record { action = action; payload = payload }
 
 -- "mask 8, then 8 bytes per set bit"
 abbrev pub maskIn : List ℕ → ℕ

@@ -1,3 +1,4 @@
 pub mod Effect
 pub mod Meaning
 pub mod Order
+pub mod Parts

@@ -4,8 +4,8 @@ use mathlib.Core.Path.{_≡_}
 use mathlib.Core.Bool.{Bool, _&&_}
 use mathlib.Core.List.{List, [], _∷_}
 use mathlib.Core.Option.{Option, none, some}
-use Prim.Native.Nat.{ℕ, zero, suc, _+_, _-_, _*_, _/_, _%_, _<_}
-use lib.Count.{onesIn}
+use Prim.Native.Nat.{ℕ, zero, suc, _+_, _-_, _*_, _/_, _%_}
+use lib.Count.{onesIn, ones}
 use lib.Dec.{eqb, leb, ltb}
 use lib.ListN.{length, getD}
 use Rattle.words.specs.Choice.{if_then_else_}
@@ -69,11 +69,19 @@ unfoldable pub lastSaid : Directory → List Written → ℕ → Option ℕ
 lastSaid d [] p = none
 lastSaid d (w ∷ ws) p = orElse (lastSaid d ws p) (says d w p)
 
+-- "mask 8, then 8 bytes per set bit" (16 for a reference count)
+abbrev pub Entries : ℕ → List ℕ → Type 0
+Entries width payload = length payload ≡ 8 + ones (maskIn payload) * width
+
+-- "Every value of a table has exactly that table's length."
+abbrev pub OneValue : Option Place → List ℕ → Type 0
+OneValue place payload = (P : Place) → place ≡ some P → length payload ≡ unit (P .table)
+
 -- the payload has the length that the record's bytes give it: the reader takes no other
 unfoldable pub SizedBy : Directory → LogAction → List ℕ → Type 0
-SizedBy d (InsertIndex a) payload = length payload ≡ 8 + onesIn 64 (maskIn payload) * 8
-SizedBy d (InsertValue a) payload = (P : Place) → placeOf d Value (a .table .0) ≡ some P → length payload ≡ unit (P .table)
-SizedBy d (InsertRefCount a) payload = length payload ≡ 8 + onesIn 64 (maskIn payload) * 16
+SizedBy d (InsertIndex a) payload = Entries 8 payload
+SizedBy d (InsertValue a) payload = OneValue (placeOf d Value (a .table .0)) payload
+SizedBy d (InsertRefCount a) payload = Entries 16 payload
 SizedBy d (DropTable t) payload = Unit {0}
 SizedBy d (DropRefCountTable t) payload = Unit {0}
 SizedBy d BeginRecord payload = Unit {0}

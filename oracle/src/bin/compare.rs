@@ -1,11 +1,11 @@
-//! compare PORT SEED COUNT: runs random scripts through the Rust and through the program PORT until
-//! COUNT steps are compared, and prints the first difference, or what agreed.
+//! compare PORT SEED COUNT [PART]: runs random scripts of all parts, or of one, through the Rust and
+//! through the program PORT until COUNT answers are compared, and prints the first difference, or
+//! what agreed.
 
 use oracle::{
-    comparison::{compare, leading_to, Answers, Difference, Tally},
+    comparison::{compare, leading_to, walks_through_records, Answers, Difference, Tally},
     generator::Generator,
-    listed::Demanded,
-    log::driver::Driver,
+    part::Part,
     protocol::{lines_of, to_hex, Script},
     scratch::Scratch,
 };
@@ -19,28 +19,33 @@ use std::{
 
 fn main() -> Result<ExitCode, Box<dyn Error>> {
     let words: Vec<String> = std::env::args().collect();
-    let [_, port, seed, count] = &words[..] else {
-        return Err("usage: compare PORT SEED COUNT".into());
+    let [_, port, seed, count, part @ ..] = &words[..] else {
+        return Err("usage: compare PORT SEED COUNT [PART]".into());
     };
+    let parts = Part::named(part.first().map(String::as_str)).ok_or("there is no such part")?;
     let count: u64 = count.parse()?;
-    let mut generator = Generator::new(seed.parse()?);
+    let mut generator = Generator::new(seed.parse()?, &parts);
     let mut tally = Tally::default();
-    while tally.steps() < count {
-        let script = generator.batch();
-        let answers = run_both(&script, Path::new(port))?;
-        if let Err(difference) = compare(&script, &answers, &mut tally) {
-            println!("seed {seed}: {} steps agree, then a difference", tally.steps());
-            show(&script, &difference)?;
-            return Ok(ExitCode::FAILURE);
+    while tally.calls(&parts) < count {
+        let batch = generator.batch();
+        let walks = walks_through_records(&batch)?;
+        tally.count_records_of_the_rust(&walks);
+        for script in [batch, walks].into_iter().filter(|script| !script.is_empty()) {
+            let (answers, lines) = run_both(&script, Path::new(port))?;
+            if let Err(difference) = compare(&script, &answers, &lines, &mut tally) {
+                println!("seed {seed}: {} answers agree, then a difference", tally.calls(&parts));
+                show(&script, &difference)?;
+                return Ok(ExitCode::FAILURE);
+            }
         }
     }
-    println!("seed {seed}: {tally}");
+    print!("seed {seed}\n{tally}");
     Ok(ExitCode::SUCCESS)
 }
 
 /// The port is a process of its own. It reads from and writes to files, so that neither side waits
 /// for the other.
-fn run_both(script: &Script, port: &Path) -> io::Result<Answers> {
+fn run_both(script: &Script, port: &Path) -> io::Result<(Answers, Vec<String>)> {
     let folder = Scratch::new()?;
     let (commands, lines) = (folder.path().join("commands"), folder.path().join("lines"));
     fs::write(&commands, lines_of(script))?;
@@ -49,16 +54,14 @@ fn run_both(script: &Script, port: &Path) -> io::Result<Answers> {
         .stdout(File::create(&lines)?)
         .spawn()
         .map_err(|error| io::Error::other(format!("{}: {error}", port.display())))?;
-    let (mut driver, mut by_rule) = (Driver::new()?, Demanded::new()?);
-    let rust = script.iter().map(|command| driver.answer(command)).collect();
-    let demanded = script.iter().map(|command| by_rule.answer(command)).collect();
+    let answers = Answers::to(script)?;
     let ended = running.wait()?;
     if !ended.success() {
         eprintln!("{}: {ended}", port.display());
     }
     let written = fs::read(&lines)?;
-    let port = String::from_utf8_lossy(&written).lines().map(str::to_string).collect();
-    Ok(Answers { rust, demanded, port })
+    let lines = String::from_utf8_lossy(&written).lines().map(str::to_string).collect();
+    Ok((answers, lines))
 }
 
 /// Prints a difference, and keeps the commands that lead to it as a script.

@@ -2,7 +2,7 @@
 //! driver demanded: the same, but listed differences are answered as document 01 demands.
 
 use oracle::{
-    listed::Demanded,
+    demanded::Demanded,
     log::driver::Driver,
     protocol::{from_hex, to_hex},
 };

@@ -15,6 +15,42 @@ pub fn random_directory(random: &mut Random) -> Directory {
     directory
 }
 
+/// The same with fewer places, so that the image has at most so many bytes, 16 chunks or more.
+pub fn directory_for_image(random: &mut Random, most_bytes: usize) -> Directory {
+    let mut directory = random_directory(random);
+    let share = most_bytes / directory.tables.len().max(1);
+    for table in &mut directory.tables {
+        table.count = end_or_between(random, 1, (share / table.place_bytes()).min(4096));
+    }
+    directory
+}
+
+/// A few tables of a few places, so that keys repeat.
+pub fn crowded_directory(random: &mut Random) -> Directory {
+    let mut directory = Directory::default();
+    for _ in 0..random.between(1, 3) {
+        add_table(random, &mut directory, &Kind::ALL);
+    }
+    for table in &mut directory.tables {
+        table.count = random.between(1, 3) as u16;
+    }
+    directory
+}
+
+/// One table or two of each kind, with more places than a list has room for.
+pub fn wide_directory(random: &mut Random) -> Directory {
+    let mut directory = Directory::default();
+    for kind in Kind::ALL {
+        for _ in 0..random.between(1, 2) {
+            add_table(random, &mut directory, &[kind]);
+        }
+    }
+    for table in &mut directory.tables {
+        table.count = random.between(64, 4096) as u16;
+    }
+    directory
+}
+
 /// Adds a table of one of the kinds, under a number that the kind doesn't have yet.
 fn add_table(random: &mut Random, directory: &mut Directory, kinds: &[Kind]) {
     let kind = random.pick(kinds);

@@ -5,6 +5,7 @@ use crate::{
     directory::{Directory, Kind, Table},
     protocol::tag,
 };
+use std::ops::RangeInclusive;
 
 /// Actions that are refused inside a record. The large indices are 0 or negative to a program that
 /// keeps too few of their bits.
@@ -25,11 +26,77 @@ impl Generator {
     pub fn records(&mut self, directory: &Directory, most: usize, most_actions: usize) -> LogBytes {
         let mut log = LogBytes::default();
         for _ in 0..self.random.between(1, most) {
-            log.begin(self.id());
-            self.actions(&mut log, directory, most_actions);
-            log.end();
+            let id = self.id();
+            self.record(&mut log, id, directory, most_actions);
         }
         log
+    }
+
+    /// Likewise, with ids that rise by 1, and start again at 0 behind the last.
+    pub fn run_of_records(
+        &mut self,
+        directory: &Directory,
+        first_id: u64,
+        count: usize,
+        most_actions: usize,
+    ) -> LogBytes {
+        let mut log = LogBytes::default();
+        for place in 0..count as u64 {
+            self.record(&mut log, first_id.wrapping_add(place), directory, most_actions);
+        }
+        log
+    }
+
+    pub fn record(
+        &mut self,
+        log: &mut LogBytes,
+        id: u64,
+        directory: &Directory,
+        most_actions: usize,
+    ) {
+        log.begin(id);
+        self.actions(log, directory, most_actions);
+        log.end();
+    }
+
+    /// A record of more than 65,536 bytes: its keys repeat. None if no table is one of reference
+    /// counts.
+    pub fn long_record(&mut self, directory: &Directory) -> Option<LogBytes> {
+        let mut ref_counts = directory.tables.iter().filter(|table| table.kind == Kind::RefCount);
+        let table = ref_counts.next()?;
+        let mut log = LogBytes::default();
+        log.begin(self.id());
+        while log.bytes.len() < 66_000 {
+            self.full_chunk(&mut log, table);
+            self.actions(&mut log, directory, 1);
+        }
+        log.end();
+        Some(log)
+    }
+
+    /// Bytes without a plan, most of them tags.
+    pub fn noise_log(&mut self, directory: &Directory) -> LogBytes {
+        let mut log = LogBytes::default();
+        if self.random.one_in(2) {
+            log.begin(self.id());
+            self.actions(&mut log, directory, 1);
+        }
+        for _ in 0..self.random.below(40) {
+            let bound = self.random.pick(&[9, 9, 9, 256]);
+            log.bytes.push(self.random.below(bound) as u8);
+        }
+        log
+    }
+
+    /// A log short enough to be cut at every byte.
+    pub fn short_log(&mut self, make: impl Fn(&mut Generator) -> LogBytes) -> LogBytes {
+        let longest = if self.small { 60 } else { 250 };
+        loop {
+            let log = make(self);
+            if log.bytes.len() <= longest {
+                return log;
+            }
+        }
     }
 
     pub fn id(&mut self) -> u64 {
@@ -59,7 +126,7 @@ impl Generator {
         }
     }
 
-    fn index_below(&mut self, count: u16) -> u64 {
+    pub fn index_below(&mut self, count: u16) -> u64 {
         let any = self.random.below(count as usize);
         self.random.pick(&[0, count as usize - 1, any]) as u64
     }
@@ -80,7 +147,7 @@ impl Generator {
     }
 
     /// The longest action there is; the table must be one of reference counts.
-    pub fn full_chunk(&mut self, log: &mut LogBytes, table: &Table) {
+    fn full_chunk(&mut self, log: &mut LogBytes, table: &Table) {
         let payload = self.entries(u64::MAX, 16);
         log.keyed(tag::REF_COUNT, table.number, self.index_below(table.count), &payload);
     }
@@ -117,7 +184,7 @@ impl Generator {
     }
 
     /// A number that the kind doesn't have; often another kind has it.
-    fn unknown_number(&mut self, directory: &Directory, kind: Kind) -> u16 {
+    pub fn unknown_number(&mut self, directory: &Directory, kind: Kind) -> u16 {
         let others = directory.tables.iter().map(|table| table.number);
         let mut unknown: Vec<u16> =
             others.filter(|number| directory.find(kind, *number).is_none()).collect();
@@ -170,6 +237,16 @@ impl Generator {
     /// Changes the bytes of a log somewhere; starts and ends stay those of the whole log.
     pub fn damage(&mut self, log: &mut LogBytes) {
         let place = self.random.below(log.bytes.len());
+        self.damage_at(log, place);
+    }
+
+    /// The same, most often in one of the last records or actions: so many bytes before the end.
+    pub fn damage_near_the_end(&mut self, log: &mut LogBytes, most: usize) {
+        let before = self.random.between(1, most.min(log.bytes.len()));
+        self.damage_at(log, log.bytes.len() - before);
+    }
+
+    fn damage_at(&mut self, log: &mut LogBytes, place: usize) {
         let any = self.random.number() as u8;
         match self.random.below(6) {
             0 => log.bytes[place] ^= 1 << self.random.below(8),
@@ -200,6 +277,21 @@ impl Generator {
             *byte ^= 1 << self.random.below(8);
         }
     }
+}
+
+/// So many bytes stand behind a tag at most: two more than the longest part of fixed length.
+const MOST_BEHIND: usize = 12;
+
+/// Tags, each with every small number of bytes behind it.
+pub fn with_few_bytes(tags: RangeInclusive<u8>) -> Vec<(u8, usize)> {
+    tags.flat_map(|tag| (0..=MOST_BEHIND).map(move |behind| (tag, behind))).collect()
+}
+
+/// The known tags, and a few of the others.
+pub fn known_tags_with_few_bytes() -> Vec<(u8, usize)> {
+    let known = with_few_bytes(tag::BEGIN..=tag::DROP_REF_COUNT);
+    let unknown = [(8, 0), (255, MOST_BEHIND)];
+    [&[(0, 0), (0, MOST_BEHIND)], &known[..], &unknown].concat()
 }
 
 fn insert_tag_of(kind: Kind) -> u8 {

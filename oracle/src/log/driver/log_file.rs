@@ -1,11 +1,10 @@
 //! The bytes that LOG hands over, as a real file that log.rs is reading.
 
-use super::super::{Log, LogReader, Reading};
-use crate::{
-    error::Result,
-    options::{Options, COLUMNS},
-    scratch::Scratch,
+use super::{
+    super::{Log, LogReader, Reading},
+    state,
 };
+use crate::{error::Result, protocol::number, scratch::Scratch};
 use std::{
     fs::{self, File},
     io::{self, BufReader, Seek, SeekFrom},
@@ -18,7 +17,7 @@ const NUMBER: u32 = 0;
 pub struct LogFile {
     /// A `Log` that does nothing but read this file.
     log: Log,
-    length: u64,
+    bytes: Vec<u8>,
     /// Where log.rs stands in the file, where that is known: saves a seek at every step.
     stands_at: Option<u64>,
     path: PathBuf,
@@ -29,29 +28,36 @@ pub struct LogFile {
 impl LogFile {
     pub fn new() -> io::Result<LogFile> {
         let folder = Scratch::new()?;
-        let options =
-            Options { path: folder.path().to_path_buf(), columns: [(); COLUMNS], sync_wal: false };
-        let log = Log::open(&options).expect("a Log over an empty folder");
+        let log = state::open(folder.path()).expect("a Log over an empty folder");
         let path = folder.path().join("bytes");
         fs::write(&path, [])?;
-        let file = LogFile { log, length: 0, stands_at: None, path, _folder: folder };
+        let file = LogFile { log, bytes: Vec::new(), stands_at: None, path, _folder: folder };
         file.read_from(File::open(&file.path)?);
         Ok(file)
     }
 
-    pub fn length(&self) -> u64 {
-        self.length
+    pub fn bytes(&self) -> &[u8] {
+        &self.bytes
     }
 
     pub fn replace(&mut self, bytes: &[u8]) {
         fs::write(&self.path, bytes).expect("writing the log's file");
-        self.length = bytes.len() as u64;
+        self.bytes = bytes.to_vec();
         self.stands_at = None;
+    }
+
+    /// The Rust knows no position beyond the end, so that 14 is told here.
+    pub fn try_to_go_to(&mut self, position: u64) -> std::result::Result<(), u8> {
+        if position > self.bytes.len() as u64 {
+            return Err(number::BEYOND_THE_END);
+        }
+        self.go_to(position);
+        Ok(())
     }
 
     /// Puts log.rs at a position. Where it stands afterwards is known again only if told by
     /// `read_up_to`.
-    pub fn go_to(&mut self, position: u64) {
+    fn go_to(&mut self, position: u64) {
         if self.stands_at.take() != Some(position) {
             let mut reading = self.log.reading.write();
             let file = &mut reading.as_mut().expect("the file being read").file;

@@ -1,0 +1,10 @@
+pub mod Checked
+pub mod Cut
+pub mod CutLog
+pub mod Ends
+pub mod Opening
+pub mod Places
+pub mod Records
+pub mod Rest
+pub mod Stop
+pub mod Sum

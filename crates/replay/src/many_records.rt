@@ -1,0 +1,65 @@
+// Records one behind the other.
+ghost use mathlib.Core.Path.{_≡_};
+ghost use Prim.Native.Nat.{suc};
+ghost use lib.ListN.{length};
+ghost use Rattle.directory.specs.Directory.{imageLength};
+ghost use Rattle.replay.specs.Run.{runFrom, runOf};
+use super::check::EndAnswer;
+use super::one_record::replay_tested;
+use super::one_record::tables_kept;
+use directory::Directory;
+use record::Answer;
+
+pub struct Ran {
+    pub answer: Answer,
+    pub position: usize,
+    pub count: u64,
+}
+
+// A run under a directory and an image that were tested already.
+fn run_tested(d: Directory, log: &[u8], at: usize, expected: u64, image: &mut [u8]) -> Ran
+    requires { ⌜ length (now image) ≡ imageLength d ⌝ }
+    ensures { λ r. ⌜ (r ≡ runFrom (suc (length (now (log .entry)))) d (now (log .entry)) at expected 0 (now (image .entry)) .ran) × (now (image .exit) ≡ runFrom (suc (length (now (log .entry)))) d (now (log .entry)) at expected 0 (now (image .entry)) .image) ⌝ }
+{
+    let mut position = at;
+    let mut id = expected;
+    let mut count = 0;
+    loop {
+        match replay_tested(d, log, position, id, image) {
+            EndAnswer::NotEnded(a) => {
+                return Ran {
+                    answer: a,
+                    position: position,
+                    count: count,
+                };
+            }
+            EndAnswer::Ended(end) => {
+                position = end;
+                count += 1;
+                if id == 18446744073709551615 {
+                    return Ran {
+                        answer: Answer::UsedUp,
+                        position: position,
+                        count: count,
+                    };
+                }
+                id += 1;
+            }
+        }
+    }
+}
+
+// Replays from a position, the expected id rising by 1, up to the first answer other than 0.
+pub fn run(d: Directory, log: &[u8], at: usize, expected: u64, image: &mut [u8]) -> Ran
+    ensures { λ r. ⌜ (r ≡ runOf d (now (log .entry)) at expected (now (image .entry)) .ran) × (now (image .exit) ≡ runOf d (now (log .entry)) at expected (now (image .entry)) .image) ⌝ }
+{
+    if tables_kept(d, image) {
+        run_tested(d, log, at, expected, image)
+    } else {
+        Ran {
+            answer: Answer::BadState,
+            position: at,
+            count: 0,
+        }
+    }
+}

@@ -1,0 +1,99 @@
+// One record, in two passes over its bytes: checked, then applied.
+ghost use mathlib.Core.Path.{_≡_};
+ghost use Prim.Native.Nat.{suc};
+ghost use lib.ListN.{length};
+ghost use Rattle.directory.specs.Directory.{imageLength};
+ghost use Rattle.replay.specs.Parts.{endIn, Opened};
+ghost use Rattle.replay.specs.Replay.{restOf, recordAt, tablesKept, judged, replayedAs, imageAfter};
+use super::apply::apply_rest;
+use super::check::EndAnswer;
+use super::check::checked_rest;
+use directory::Directory;
+use record::Answer;
+use record::LogReader;
+use record::Step;
+
+pub struct Replayed {
+    pub answer: Answer,
+    pub position: usize,
+}
+
+// The record behind its opening: checked to its end, then applied.
+fn replay_opened(
+    d: Directory,
+    log: &[u8],
+    at: usize,
+    opened: LogReader,
+    image: &mut [u8],
+) -> EndAnswer
+    requires { ⌜ (length (now image) ≡ imageLength d) × Opened (now log) at opened ⌝ }
+    ensures { λ e. ⌜ (e ≡ endIn (restOf (suc (length (now (log .entry)))) d (now (log .entry)) opened)) × (now (image .exit) ≡ imageAfter d (now (image .entry)) (restOf (suc (length (now (log .entry)))) d (now (log .entry)) opened)) ⌝ }
+{
+    match checked_rest(d, log, at, opened) {
+        EndAnswer::NotEnded(a) => EndAnswer::NotEnded(a),
+        EndAnswer::Ended(end) => {
+            apply_rest(d, log, opened, image);
+            EndAnswer::Ended(end)
+        }
+    }
+}
+
+// A record under a directory and an image that were tested already.
+pub fn replay_tested(
+    d: Directory,
+    log: &[u8],
+    at: usize,
+    expected: u64,
+    image: &mut [u8],
+) -> EndAnswer
+    requires { ⌜ length (now image) ≡ imageLength d ⌝ }
+    ensures { λ e. ⌜ (e ≡ endIn (recordAt d (now (log .entry)) at expected)) × (now (image .exit) ≡ imageAfter d (now (image .entry)) (recordAt d (now (log .entry)) at expected)) ⌝ }
+{
+    match LogReader::new(at, true).step(d, log) {
+        Step::Refused(x) => {
+            let a = x.answer;
+            EndAnswer::NotEnded(a)
+        }
+        Step::Took(s) => {
+            let opened = s.reader;
+            if opened.record_id == expected {
+                replay_opened(d, log, at, opened, image)
+            } else {
+                EndAnswer::NotEnded(Answer::WrongId)
+            }
+        }
+    }
+}
+
+// Whether the directory keeps its rules and the image is its.
+pub fn tables_kept(d: Directory, image: &[u8]) -> bool
+    ensures { λ r. ⌜ r ≡ tablesKept d (now (image .entry)) ⌝ }
+{
+    if d.kept() {
+        image.len() == d.image_length()
+    } else {
+        false
+    }
+}
+
+// Replays the record at a position, if it is whole and acceptable and has the expected id.
+pub fn replay(d: Directory, log: &[u8], at: usize, expected: u64, image: &mut [u8]) -> Replayed
+    ensures { λ r. ⌜ (r ≡ replayedAs at (judged d (now (log .entry)) at expected (now (image .entry)))) × (now (image .exit) ≡ imageAfter d (now (image .entry)) (judged d (now (log .entry)) at expected (now (image .entry)))) ⌝ }
+{
+    if !tables_kept(d, image) {
+        return Replayed {
+            answer: Answer::BadState,
+            position: at,
+        };
+    }
+    match replay_tested(d, log, at, expected, image) {
+        EndAnswer::NotEnded(a) => Replayed {
+            answer: a,
+            position: at,
+        },
+        EndAnswer::Ended(end) => Replayed {
+            answer: Answer::Done,
+            position: end,
+        },
+    }
+}

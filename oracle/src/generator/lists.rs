@@ -1,0 +1,388 @@
+//! The forms for change lists.
+
+use super::{
+    directories::{crowded_directory, wide_directory, BREAKS},
+    Form, Generator,
+};
+use crate::{
+    directory::{Directory, Kind, Table},
+    protocol::{op, with_blob},
+};
+
+pub const FORMS: [Form; 7] = [
+    Generator::random_lists,
+    Generator::full_lists,
+    Generator::wrong_arguments,
+    Generator::lists_under_broken_directories,
+    Generator::lists_under_other_directories,
+    Generator::forged_lists_that_fit,
+    Generator::forged_lists_that_break_a_rule,
+];
+
+type Forge = fn(&mut Generator, &Directory);
+
+/// Ways to break a rule of a list by forging. Those told to be shown leave a list that any state
+/// type has room for, with no key twice, so that it can be looked at.
+const LIST_BREAKS: [(Forge, bool); 11] = [
+    (Generator::forge_mask_0, true),
+    (Generator::forge_unknown_table, true),
+    (Generator::forge_index_too_large, true),
+    (Generator::forge_short_value, true),
+    (Generator::forge_long_value, false),
+    (Generator::forge_key_twice, false),
+    (Generator::forge_unknown_drop, true),
+    (|generator, directory| generator.forge_too_many(directory, Kind::Index, 33), false),
+    (|generator, directory| generator.forge_too_many(directory, Kind::Value, 33), false),
+    (|generator, directory| generator.forge_too_many(directory, Kind::RefCount, 17), false),
+    (Generator::forge_too_many_drops, false),
+];
+
+impl Generator {
+    /// Inserts of all kinds and drops, keys repeating, in all slots.
+    fn random_lists(&mut self) {
+        let directory = self.hand_list_directory();
+        self.hand_list();
+        for _ in 0..self.random.between(0, 40) {
+            self.good_change(&directory);
+            if self.random.one_in(10) {
+                self.look_at_list();
+            }
+        }
+        self.look_at_list();
+    }
+
+    /// Past the room of each kind; listed keys are still taken then, and other faults come first.
+    fn full_lists(&mut self) {
+        let directory = self.hand_wide_directory();
+        self.hand_list();
+        for kind in Kind::ALL {
+            let table = *directory.tables.iter().find(|table| table.kind == kind).expect("wide");
+            let keys = self.random.between(15, 36);
+            let first = self.random.below(table.count as usize - keys);
+            let mut indices: Vec<usize> = (first..first + keys).collect();
+            if self.random.one_in(2) {
+                indices.reverse();
+            }
+            for index in &indices {
+                self.good_insert(&table, *index as u64);
+            }
+            for _ in 0..3 {
+                let again = self.random.pick(&indices);
+                self.good_insert(&table, again as u64);
+                self.insert_with(&table, table.number, table.count.into(), 0, 0);
+                self.insert_with(&table, table.number, 0, 64, 0);
+            }
+        }
+        for opcode in [op::DROP, op::DROP_REF] {
+            for _ in 0..self.random.between(14, 19) {
+                self.drop_any(&directory, opcode);
+            }
+        }
+        self.look_at_list();
+    }
+
+    /// Each argument right and wrong beside each other: which number comes first.
+    fn wrong_arguments(&mut self) {
+        let directory = self.hand_wide_directory();
+        self.hand_list();
+        for table in &directory.tables {
+            self.good_change(&directory);
+            for faults in 0..16 {
+                let has = |bit: u32| faults >> bit & 1 == 1;
+                let unknown = self.unknown_number(&directory, table.kind);
+                let number = if has(0) { unknown } else { table.number };
+                let large = self.random.pick(&[table.count.into(), 1 << 16, 1 << 32, u64::MAX]);
+                let index = if has(1) { large } else { self.index_below(table.count) };
+                let slot = if has(2) { self.random.pick(&[64, 65, 127, 128, 255]) } else { 63 };
+                let longer = if has(3) { self.random.pick(&[-1, 1, -8, 8, 512]) } else { 0 };
+                self.insert_with(table, number, index, slot, longer);
+            }
+            for opcode in [op::DROP, op::DROP_REF] {
+                self.drop_table(opcode, table.number);
+            }
+        }
+        self.look_at_list();
+    }
+
+    fn lists_under_broken_directories(&mut self) {
+        let good = self.hand_wide_directory();
+        self.hand_list();
+        self.good_change(&good);
+        for broken in BREAKS {
+            let mut directory = good.clone();
+            broken(&mut self.random, &mut directory);
+            self.script.push(directory.command());
+            self.each_call(&good);
+            self.script.push(good.command());
+            self.good_change(&good);
+        }
+        self.look_at_list();
+    }
+
+    /// A directory that a listed key, value or drop may not fit, then the old one again.
+    fn lists_under_other_directories(&mut self) {
+        let old = self.hand_list_directory();
+        self.hand_list();
+        for _ in 0..self.random.between(1, 4) {
+            self.good_change(&old);
+        }
+        let mut other = old.clone();
+        for _ in 0..self.random.between(1, 2) {
+            self.change_a_table(&mut other);
+        }
+        self.script.push(other.command());
+        self.each_call(&other);
+        self.script.push(old.command());
+        self.good_change(&old);
+        self.look_at_list();
+    }
+
+    fn change_a_table(&mut self, directory: &mut Directory) {
+        if directory.tables.is_empty() {
+            return;
+        }
+        let place = self.random.below(directory.tables.len());
+        let table = &mut directory.tables[place];
+        match self.random.below(4) {
+            0 => {
+                directory.tables.remove(place);
+            }
+            1 => table.count = 1,
+            2 if table.kind == Kind::Value => table.length = table.length % 512 + 1,
+            _ => table.column = (table.column + 1) % 8,
+        }
+    }
+
+    /// Forged entries that keep the rules, before any other; then inserts, into them too.
+    fn forged_lists_that_fit(&mut self) {
+        let directory = self.hand_wide_directory();
+        self.hand_list();
+        let mut forged = Vec::new();
+        for index in 0..self.random.between(1, 6) as u64 {
+            let table = self.random.pick(&directory.tables);
+            let mask = self.random.number() | 1 << self.random.below(64);
+            self.forge_entry(table.kind, table.number, index, mask, table.place_bytes());
+            forged.push((table, index));
+        }
+        let dropped = self.table_of(&directory, Kind::RefCount);
+        self.forge_drop(Kind::RefCount, dropped.number);
+        self.look_at_list();
+        for _ in 0..self.random.between(1, 4) {
+            self.good_change(&directory);
+            let (table, index) = self.random.pick(&forged);
+            self.good_insert(&table, index);
+        }
+        self.look_at_list();
+    }
+
+    fn forged_lists_that_break_a_rule(&mut self) {
+        let directory = self.hand_wide_directory();
+        for (forge, shown) in LIST_BREAKS {
+            self.hand_list();
+            for _ in 0..self.random.below(3) {
+                let table = self.random.pick(&directory.tables);
+                self.good_insert(&table, 0);
+            }
+            forge(self, &directory);
+            self.each_call(&directory);
+            if shown {
+                self.look_at_list();
+            }
+        }
+        self.hand_list();
+        self.good_change(&directory);
+        self.look_at_list();
+    }
+}
+
+/// The forging. Index 0 of a table may be listed by then, so the forged ones are others.
+impl Generator {
+    fn forge_mask_0(&mut self, directory: &Directory) {
+        let kind = self.random.pick(&[Kind::Index, Kind::RefCount]);
+        let table = self.table_of(directory, kind);
+        let index = u64::from(table.count) - 2;
+        self.forge_entry(kind, table.number, index, 0, table.place_bytes());
+    }
+
+    fn forge_unknown_table(&mut self, directory: &Directory) {
+        let table = self.random.pick(&directory.tables);
+        let number = self.unknown_number(directory, table.kind);
+        self.forge_entry(table.kind, number, 0, 1, table.place_bytes());
+    }
+
+    fn forge_index_too_large(&mut self, directory: &Directory) {
+        let table = self.random.pick(&directory.tables);
+        let index = self.random.pick(&[table.count.into(), 1 << 16, 1 << 32, u64::MAX]);
+        self.forge_entry(table.kind, table.number, index, 1, table.place_bytes());
+    }
+
+    fn forge_short_value(&mut self, directory: &Directory) {
+        let table = self.table_of(directory, Kind::Value);
+        let length = self.random.below(table.length as usize);
+        self.forge_entry(Kind::Value, table.number, u64::from(table.count) - 2, 0, length);
+    }
+
+    fn forge_long_value(&mut self, directory: &Directory) {
+        let table = self.table_of(directory, Kind::Value);
+        let length = self.random.pick(&[table.length as usize + 1, 513]);
+        self.forge_entry(Kind::Value, table.number, u64::from(table.count) - 2, 0, length);
+    }
+
+    fn forge_key_twice(&mut self, directory: &Directory) {
+        let table = self.random.pick(&directory.tables);
+        for _ in 0..2 {
+            self.forge_entry(table.kind, table.number, 1, 1, table.place_bytes());
+        }
+    }
+
+    fn forge_unknown_drop(&mut self, directory: &Directory) {
+        let kind = self.random.pick(&[Kind::Index, Kind::RefCount]);
+        let number = self.unknown_number(directory, kind);
+        self.forge_drop(kind, number);
+    }
+
+    fn forge_too_many(&mut self, directory: &Directory, kind: Kind, entries: u64) {
+        self.hand_list();
+        let table = self.table_of(directory, kind);
+        for index in 0..entries {
+            self.forge_entry(kind, table.number, index, 1, table.place_bytes());
+        }
+    }
+
+    fn forge_too_many_drops(&mut self, directory: &Directory) {
+        let kind = self.random.pick(&[Kind::Index, Kind::RefCount]);
+        self.hand_list();
+        let table = self.table_of(directory, kind);
+        for _ in 0..17 {
+            self.forge_drop(kind, table.number);
+        }
+    }
+
+    fn forge_entry(&mut self, kind: Kind, table: u16, index: u64, mask: u64, length: usize) {
+        let mut command = keyed(op::FORGE_LIST, table, index);
+        command.insert(1, kind as u8);
+        command.extend(mask.to_le_bytes());
+        command.push(self.random.number() as u8);
+        command.extend((length as u16).to_le_bytes());
+        self.script.push(command);
+    }
+
+    fn forge_drop(&mut self, kind: Kind, table: u16) {
+        self.script.push([&[op::FORGE_DROP, kind as u8], &table.to_le_bytes()[..]].concat());
+    }
+}
+
+/// The commands.
+impl Generator {
+    fn hand_list_directory(&mut self) -> Directory {
+        let directory = match self.random.below(3) {
+            0 => crowded_directory(&mut self.random),
+            _ => self.directory(),
+        };
+        self.script.push(directory.command());
+        directory
+    }
+
+    fn hand_wide_directory(&mut self) -> Directory {
+        let directory = wide_directory(&mut self.random);
+        self.script.push(directory.command());
+        directory
+    }
+
+    fn hand_list(&mut self) {
+        let any = self.random.number().max(1);
+        let id = self.random.pick(&[1, 2, any, u64::MAX]);
+        self.script.push([&[op::NEWLIST], &id.to_le_bytes()[..]].concat());
+    }
+
+    fn look_at_list(&mut self) {
+        self.script.push(vec![op::LIST_SUM]);
+    }
+
+    fn table_of(&mut self, directory: &Directory, kind: Kind) -> Table {
+        let mut tables = directory.tables.clone();
+        tables.retain(|table| table.kind == kind);
+        self.random.pick(&tables)
+    }
+
+    /// A change that fits the directory; nothing if that is empty.
+    fn good_change(&mut self, directory: &Directory) {
+        if directory.tables.is_empty() {
+            return;
+        }
+        let table = self.random.pick(&directory.tables);
+        match drop_of(table.kind).filter(|_| self.random.one_in(6)) {
+            Some(opcode) => self.drop_table(opcode, table.number),
+            None => {
+                let index = self.index_below(table.count);
+                self.good_insert(&table, index);
+            }
+        }
+    }
+
+    fn good_insert(&mut self, table: &Table, index: u64) {
+        let slot = self.random.below(64) as u8;
+        self.insert_with(table, table.number, index, slot, 0);
+    }
+
+    /// An insert of the table's kind, its chunk or value by so many bytes longer than due. A value
+    /// has no slot.
+    fn insert_with(&mut self, table: &Table, number: u16, index: u64, slot: u8, longer: isize) {
+        let opcode = match table.kind {
+            Kind::Index => op::INS_INDEX,
+            Kind::Value => op::INS_VALUE,
+            Kind::RefCount => op::INS_REF,
+        };
+        let length = table.place_bytes().saturating_add_signed(longer);
+        let mut command = keyed(opcode, number, index);
+        if table.kind != Kind::Value {
+            command.push(slot);
+        }
+        let bytes = self.random.bytes(length);
+        command.extend(&with_blob(0, &bytes)[1..]);
+        self.script.push(command);
+    }
+
+    fn drop_table(&mut self, opcode: u8, number: u16) {
+        self.script.push([&[opcode], &number.to_le_bytes()[..]].concat());
+    }
+
+    /// Of a table that has the kind, more often than not.
+    fn drop_any(&mut self, directory: &Directory, opcode: u8) {
+        let mut tables = directory.tables.clone();
+        if !self.random.one_in(8) {
+            tables.retain(|table| drop_of(table.kind) == Some(opcode));
+        }
+        if !tables.is_empty() {
+            let table = self.random.pick(&tables);
+            self.drop_table(opcode, table.number);
+        }
+    }
+
+    /// Each of the five calls once.
+    fn each_call(&mut self, directory: &Directory) {
+        for kind in Kind::ALL {
+            let same_kind = directory.tables.iter().copied().filter(|table| table.kind == kind);
+            let tables: Vec<Table> = same_kind.collect();
+            if !tables.is_empty() {
+                let table = self.random.pick(&tables);
+                let index = self.index_below(table.count);
+                self.good_insert(&table, index);
+            }
+        }
+        self.drop_any(directory, op::DROP);
+        self.drop_any(directory, op::DROP_REF);
+    }
+}
+
+fn keyed(opcode: u8, table: u16, index: u64) -> Vec<u8> {
+    [&[opcode], &table.to_le_bytes()[..], &index.to_le_bytes()].concat()
+}
+
+fn drop_of(kind: Kind) -> Option<u8> {
+    match kind {
+        Kind::Index => Some(op::DROP),
+        Kind::Value => None,
+        Kind::RefCount => Some(op::DROP_REF),
+    }
+}

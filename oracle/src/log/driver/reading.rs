@@ -1,0 +1,91 @@
+//! What STEP and REPLAY have in common: an opening, an action and its payload, and their numbers.
+
+use super::{
+    super::{
+        LogAction, LogReader, BEGIN_RECORD, DROP_REF_COUNT_TABLE, DROP_TABLE, END_RECORD,
+        ENTRY_BYTES, INSERT_INDEX, INSERT_REF_COUNT, INSERT_VALUE, REF_COUNT_ENTRY_BYTES,
+    },
+    log_file::LogFile,
+};
+use crate::{
+    directory::{Directory, Kind},
+    error::{Error, Result},
+    protocol::{number, Stepped},
+};
+use std::io::ErrorKind;
+
+pub fn open_record(file: &LogFile, validate: bool) -> std::result::Result<LogReader<'_>, u8> {
+    match file.read_next(validate) {
+        Ok(Some(reader)) => Ok(reader),
+        Ok(None) => Err(number::END_OF_LOG),
+        Err(error) => Err(number_of(error)),
+    }
+}
+
+/// The next action, told by tag, table, index and id.
+pub fn next_action(reader: &mut LogReader) -> Result<Stepped> {
+    Ok(match reader.next()? {
+        LogAction::BeginRecord => begun_by(reader),
+        LogAction::InsertIndex(key) => keyed(INSERT_INDEX, key.table.as_u16(), key.index),
+        LogAction::InsertValue(key) => keyed(INSERT_VALUE, key.table.as_u16(), key.index),
+        LogAction::InsertRefCount(key) => keyed(INSERT_REF_COUNT, key.table.as_u16(), key.index),
+        LogAction::DropTable(table) => keyed(DROP_TABLE, table.as_u16(), 0),
+        LogAction::DropRefCountTable(table) => keyed(DROP_REF_COUNT_TABLE, table.as_u16(), 0),
+        LogAction::EndRecord => Stepped { tag: END_RECORD, ..Stepped::default() },
+    })
+}
+
+pub fn begun_by(reader: &LogReader) -> Stepped {
+    Stepped { tag: BEGIN_RECORD, id: reader.record_id(), ..Stepped::default() }
+}
+
+fn keyed(tag: u8, table: u16, index: u64) -> Stepped {
+    Stepped { tag, table, index, ..Stepped::default() }
+}
+
+/// `next` leaves the payload to its caller: read here as document 01 has it, "Record bytes".
+/// Empty for an action that has none.
+pub fn read_payload(
+    reader: &mut LogReader,
+    of: &Stepped,
+    directory: &Directory,
+) -> Result<Vec<u8>> {
+    match of.tag {
+        INSERT_INDEX => read_entries(reader, ENTRY_BYTES),
+        INSERT_REF_COUNT => read_entries(reader, REF_COUNT_ENTRY_BYTES),
+        INSERT_VALUE => {
+            // The Rust doesn't know whether there is such a table: then no length is known.
+            let length = directory.find(Kind::Value, of.table).map_or(0, |table| table.length);
+            let mut value = vec![0; length as usize];
+            reader.read(&mut value)?;
+            Ok(value)
+        }
+        _ => Ok(Vec::new()),
+    }
+}
+
+/// The mask, then an entry for each of its bits.
+fn read_entries(reader: &mut LogReader, entry_bytes: usize) -> Result<Vec<u8>> {
+    let mut mask = [0; 8];
+    reader.read(&mut mask)?;
+    let mut payload = mask.to_vec();
+    for _ in 0..u64::from_le_bytes(mask).count_ones() {
+        let mut entry = vec![0; entry_bytes];
+        reader.read(&mut entry)?;
+        payload.extend(entry);
+    }
+    Ok(payload)
+}
+
+pub fn number_of(error: Error) -> u8 {
+    match error {
+        Error::Io(error) if error.kind() == ErrorKind::UnexpectedEof => number::ENDS_INSIDE,
+        Error::Io(error) => panic!("reading the log's file: {error}"),
+        Error::Corruption(text) => match text.as_str() {
+            "Bad log entry type" => number::UNKNOWN_TAG,
+            "Bad log record structure" => number::BEGIN_MISPLACED,
+            "Log record CRC-32 mismatch" => number::CHECKSUM_DIFFERS,
+            _ => panic!("log.rs has no such text: {text}"),
+        },
+    }
+}

@@ -1,0 +1,118 @@
+//! REPLAY and RUN: the Rust's reader goes over a record twice. The first time to its end, validating;
+//! then it is reset, and what it reads again is applied to the image.
+
+use super::{
+    super::LogReader,
+    reading::{next_action, number_of, open_record, read_payload},
+    Driver,
+};
+use crate::{
+    directory::Directory,
+    listed::Listed,
+    protocol::{number, tag, Fields},
+};
+
+impl Driver {
+    pub fn replay(&mut self, fields: &mut Fields) -> Vec<u8> {
+        let (position, expected) = (fields.u64(), fields.u64());
+        let (number, position) = match self.replay_record(position, expected) {
+            Ok(behind) => (number::DONE, behind),
+            Err(number) => (number, position),
+        };
+        [&[number], &position.to_le_bytes()[..]].concat()
+    }
+
+    pub fn run(&mut self, fields: &mut Fields) -> Vec<u8> {
+        let (mut position, mut expected) = (fields.u64(), fields.u64());
+        let mut count: u64 = 0;
+        let number = loop {
+            match self.replay_record(position, expected) {
+                Ok(behind) => position = behind,
+                Err(number) => break number,
+            }
+            count += 1;
+            match expected.checked_add(1) {
+                Some(next) => expected = next,
+                // Whatever stands behind the last id there is, the end of the log too.
+                None => break number::USED_UP,
+            }
+        };
+        [&[number], &position.to_le_bytes()[..], &count.to_le_bytes()].concat()
+    }
+
+    /// The position behind the record, or its refusal.
+    fn replay_record(&mut self, position: u64, expected: u64) -> Result<u64, u8> {
+        if !self.directory.keeps_the_rules() || !self.image.fits(&self.directory) {
+            return Err(number::RULE_BROKEN);
+        }
+        self.log_file.try_to_go_to(position)?;
+        let mut reader = open_record(&self.log_file, true)?;
+        if reader.record_id() != expected {
+            return Err(number::OTHER_ID);
+        }
+        check(&mut reader, &self.log_file.bytes()[position as usize..], &self.directory)?;
+        let length = reader.read_bytes();
+        reader.reset().expect("a seek back to the record's begin");
+        loop {
+            let action = next_action(&mut reader).expect("an action that was read before");
+            if action.tag == tag::END {
+                return Ok(position + length);
+            }
+            let payload = read_payload(&mut reader, &action, &self.directory);
+            self.image.apply(&action, &payload.expect("read before"), &self.directory);
+        }
+    }
+}
+
+/// Reads up to the record's end. What the Rust doesn't test is told from the bytes before its
+/// reader takes them: so 4, 6 and 7 come where document 01 has them.
+fn check(reader: &mut LogReader, from_record: &[u8], directory: &Directory) -> Result<(), u8> {
+    loop {
+        let rest = &from_record[reader.read_bytes() as usize..];
+        if let Some((_, number)) = Listed::inside(directory, rest) {
+            return Err(number);
+        }
+        let action = next_action(reader).map_err(number_of)?;
+        if action.tag == tag::END {
+            return Ok(());
+        }
+        read_payload(reader, &action, directory).map_err(number_of)?;
+    }
+}
+
+/// What the Rust does by itself where the driver goes by document 01: docs/DIFFERENCES.md.
+#[cfg(test)]
+mod tests {
+    use super::super::super::LogAction;
+    use super::*;
+    use crate::protocol::{from_hex, op, with_blob};
+
+    /// What `next` gives from a log's front on, until it refuses or comes to an end tag.
+    fn taken_by_the_rust(log: &str) -> Vec<LogAction> {
+        let mut driver = Driver::new().unwrap();
+        driver.answer(&with_blob(op::LOG, &from_hex(log).unwrap()));
+        let mut reader = driver.log_file.read_next(true).unwrap().unwrap();
+        let mut taken = Vec::new();
+        while let Ok(action) = reader.next() {
+            taken.push(action);
+            if let Some(LogAction::EndRecord) = taken.last() {
+                break;
+            }
+        }
+        taken
+    }
+
+    #[test]
+    fn any_id_is_taken() {
+        assert!(matches!(
+            taken_by_the_rust("0101000000000000000412d35e1c")[..],
+            [LogAction::EndRecord]
+        ));
+    }
+
+    #[test]
+    fn an_action_is_handed_out_before_a_wrong_checksum_is_seen() {
+        let taken = taken_by_the_rust("0101000000000000000500000400000000");
+        assert!(matches!(taken[..], [LogAction::DropTable(_)]));
+    }
+}

@@ -1,0 +1,78 @@
+//! A model of document 01, written apart from the driver, agrees with it as a port should; models
+//! with a fault don't.
+
+mod model;
+mod written;
+
+use model::{Fault, Model};
+use oracle::{
+    comparison::{compare, Answers, Tally},
+    generator::Generator,
+    part::Part,
+    protocol::Script,
+};
+
+fn differs(script: &Script, answers: &Answers, fault: Option<Fault>) -> Option<String> {
+    let lines = Model::lines(fault, script);
+    let compared = compare(script, answers, &lines, &mut Tally::default());
+    compared.err().map(|difference| format!("command {}: {}", difference.at, difference.why))
+}
+
+/// The model agrees on scripts of a part, and is found out with each of the faults.
+fn try_part(part: Part, faults: &[Fault]) {
+    for seed in 1..=2 {
+        let script = Generator::new(seed, &[part]).batch();
+        let answers = Answers::to(&script).unwrap();
+        assert_eq!(differs(&script, &answers, None), None);
+        for fault in faults {
+            assert!(differs(&script, &answers, Some(*fault)).is_some(), "{fault:?} isn't found");
+        }
+    }
+}
+
+#[test]
+fn replay() {
+    let faults = [
+        Fault::AppliesBeforeTheEnd,
+        Fault::CountsWithoutApplying,
+        Fault::CountsTheRefused,
+        Fault::WritesOnRefusal,
+        Fault::DropLeavesLastByte,
+        Fault::TakesAnyId,
+        Fault::EndOfLogBehindTheLastId,
+        Fault::MaskFromTheTop,
+        Fault::FirstKeyWins,
+        Fault::RecordLengthOf16Bits,
+    ];
+    try_part(Part::Replay, &faults);
+}
+
+#[test]
+fn lists() {
+    let faults = [
+        Fault::JoinsChunks,
+        Fault::ForgetsEarlierBits,
+        Fault::ListedKeyNeedsRoom,
+        Fault::LengthBeforeIndex,
+        Fault::DropsOnce,
+        Fault::DropsUntested,
+    ];
+    try_part(Part::Lists, &faults);
+}
+
+#[test]
+fn queues() {
+    let faults = [
+        Fault::NumbersBeforeRoom,
+        Fault::TiesAsHandedIn,
+        Fault::TakesLeadingZero,
+        Fault::FlushesAtMinimum,
+        Fault::TestsThePositionUnused,
+        Fault::EndMovesTwo,
+        Fault::RefusalMovesFront,
+        Fault::KeepsTheHighest,
+        Fault::ReadingBehindReplay,
+        Fault::KillsCleanup,
+    ];
+    try_part(Part::Queues, &faults);
+}

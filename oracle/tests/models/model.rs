@@ -1,0 +1,147 @@
+//! A stand-in for the port, written from document 01 and the run protocol without a look at log.rs
+//! or the driver. It can be given a fault, to see that a comparison finds it.
+
+mod directory;
+mod lists;
+mod queues;
+mod replay;
+
+use directory::Table;
+use lists::List;
+use queues::Queues;
+use replay::opening;
+
+#[derive(Clone, Copy, PartialEq, Eq, Debug)]
+pub enum Fault {
+    AppliesBeforeTheEnd,
+    CountsWithoutApplying,
+    CountsTheRefused,
+    WritesOnRefusal,
+    DropLeavesLastByte,
+    TakesAnyId,
+    EndOfLogBehindTheLastId,
+    MaskFromTheTop,
+    FirstKeyWins,
+    RecordLengthOf16Bits,
+    JoinsChunks,
+    ForgetsEarlierBits,
+    ListedKeyNeedsRoom,
+    LengthBeforeIndex,
+    DropsOnce,
+    DropsUntested,
+    NumbersBeforeRoom,
+    TiesAsHandedIn,
+    TakesLeadingZero,
+    FlushesAtMinimum,
+    TestsThePositionUnused,
+    EndMovesTwo,
+    RefusalMovesFront,
+    KeepsTheHighest,
+    ReadingBehindReplay,
+    KillsCleanup,
+}
+
+pub struct Model {
+    fault: Option<Fault>,
+    directory: Vec<Table>,
+    image: Vec<u8>,
+    log: Vec<u8>,
+    list: List,
+    queues: Queues,
+}
+
+impl Model {
+    pub fn new(fault: Option<Fault>) -> Model {
+        Model {
+            fault,
+            directory: Vec::new(),
+            image: Vec::new(),
+            log: Vec::new(),
+            list: List::new(1),
+            queues: Queues::new(),
+        }
+    }
+
+    /// The lines that a port writes for a script.
+    pub fn lines(fault: Option<Fault>, script: &[Vec<u8>]) -> Vec<String> {
+        let mut model = Model::new(fault);
+        script.iter().map(|command| hex(&model.answer(command))).collect()
+    }
+
+    fn answer(&mut self, command: &[u8]) -> Vec<u8> {
+        let mut take = Take(&command[1..]);
+        match command[0] {
+            0x01 => {
+                let count = take.number(1);
+                self.directory = (0..count).map(|_| Table::taken(&mut take)).collect();
+                vec![0]
+            }
+            0x02 => {
+                let length = take.number(4) as usize;
+                self.image = vec![take.number(1) as u8; length];
+                vec![0]
+            }
+            0x03 => {
+                self.log = take.blob().to_vec();
+                vec![0]
+            }
+            0x04 => checksum(take.blob()).to_le_bytes().to_vec(),
+            0x05..=0x0a | 0x21 | 0x23 | 0x24 => self.answer_of_list(command[0], &mut take),
+            0x10 | 0x14..=0x19 | 0x1c | 0x1f => self.answer_of_queues(command[0], &mut take),
+            0x0d => self.replay(take.number(8), take.number(8)),
+            0x0e => self.run(take.number(8), take.number(8)),
+            0x0f => {
+                let length = self.image.len() as u32;
+                [length.to_le_bytes(), checksum(&self.image).to_le_bytes()].concat()
+            }
+            _ => vec![0xff],
+        }
+    }
+
+    /// The record of the list that a script leaves.
+    pub fn record_of(script: &[Vec<u8>]) -> Vec<u8> {
+        let mut model = Model::new(None);
+        script.iter().for_each(|command| drop(model.answer(command)));
+        model.list.record()
+    }
+
+    fn has(&self, fault: Fault) -> bool {
+        self.fault == Some(fault)
+    }
+}
+
+fn hex(bytes: &[u8]) -> String {
+    bytes.iter().map(|byte| format!("{byte:02x}")).collect()
+}
+
+/// ITU-T V.42's, low bit first.
+pub fn checksum(bytes: &[u8]) -> u32 {
+    let step = |remainder: u32| (remainder >> 1) ^ (0xedb8_8320 & (remainder & 1).wrapping_neg());
+    let table: Vec<u32> = (0..256).map(|byte| (0..8).fold(byte, |all, _| step(all))).collect();
+    let shifted = |all: u32, byte: &u8| (all >> 8) ^ table[((all ^ *byte as u32) & 255) as usize];
+    !bytes.iter().fold(u32::MAX, shifted)
+}
+
+/// The fields of a command, from its front.
+pub struct Take<'a>(&'a [u8]);
+
+impl<'a> Take<'a> {
+    pub fn bytes(&mut self, length: usize) -> &'a [u8] {
+        let (taken, rest) = self.0.split_at(length);
+        self.0 = rest;
+        taken
+    }
+
+    pub fn number(&mut self, length: usize) -> u64 {
+        number(self.bytes(length))
+    }
+
+    pub fn blob(&mut self) -> &'a [u8] {
+        let length = self.number(4) as usize;
+        self.bytes(length)
+    }
+}
+
+pub fn number(bytes: &[u8]) -> u64 {
+    bytes.iter().rev().fold(0, |all, byte| all << 8 | u64::from(*byte))
+}
