@@ -1,6 +1,7 @@
 pub mod Checked
 pub mod Cut
 pub mod CutLog
+pub mod Demands
 pub mod Ends
 pub mod Opening
 pub mod Places
