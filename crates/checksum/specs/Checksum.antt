@@ -35,5 +35,6 @@ updated r (b ∷ bs) = updated (bitsIn 8 r b) bs
 unfoldable pub finished : ℕ → ℕ
 finished r = allOnes - r
 
+-- the checksum of a string of bytes: preset, divided, inverted
 unfoldable pub checksumOf : List ℕ → ℕ
 checksumOf bs = finished (updated allOnes bs)

@@ -3,6 +3,7 @@ use Prim.Native.Nat.{ℕ}
 use Rattle.record.specs.declared.answer.Answer.{Answer}
 use Rattle.record.specs.declared.answer.Answer.the-variants.{Done, EndOfLog, Cut, UnknownTag, OutOfPlace, WrongId, NoTable, NoIndex, WrongSum, NoRoom, ShortOutput, NotNext, UsedUp, BadState, BadArgument}
 
+-- "No." of the table, "Given exactly when" beside it
 abbrev pub numberOf : Answer → ℕ
 numberOf Done = 0  -- "done"
 numberOf EndOfLog = 1  -- "end of log at this position"

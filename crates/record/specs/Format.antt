@@ -7,6 +7,7 @@ use lib.ListN.{length, take, drop, getD}
 use Rattle.words.specs.Choice.{if_then_else_}
 use Rattle.record.specs.declared.answer.Answer.{Answer}
 
+-- a format: a need of bytes, a refusal, or what the bytes read so far come to
 pub data Format (A : Type 0) : Type 0 where
   -- k bytes, and on with them; where fewer are left, the answer is `short`
   need : (k : ℕ) → (short : Answer) → (List ℕ → Format A) → Format A
@@ -34,6 +35,7 @@ _>>=_ (give a) g = g a
 abbrev pub _>>_ : {A B : Type 0} → Format A → Format B → Format B
 _>>_ f g = f >>= λ a. g
 
+-- k bytes as they are; one byte as a number
 abbrev pub bytes : ℕ → Answer → Format (List ℕ)
 bytes k short = need k short give
 

@@ -21,9 +21,11 @@ use Rattle.record.specs.declared.reader.Stepped.{Stepped}
 use Rattle.record.specs.declared.reader.Step.{Step}
 use Rattle.record.specs.declared.reader.Step.the-variants.{Took, Refused}
 
+-- a refusal, with its answer in it
 abbrev pub refused : Answer → Step
 refused answer = Refused (record { answer = answer })
 
+-- whether an action ends its record
 abbrev pub isEnd : LogAction → Bool
 isEnd EndRecord = true
 isEnd BeginRecord = false
@@ -51,6 +53,7 @@ forwardTo log r end = record {
 abbrev pub closed : LogReader → ℕ → LogReader
 closed r end = record { position = end; record_id = r .record_id; crc32 = allOnes; validate = r .validate; inside = false }
 
+-- the reader behind an action that ends at `end`
 unfoldable pub readerAfter : List ℕ → LogReader → LogAction → ℕ → LogReader
 readerAfter log r action end = if isEnd action then closed r end else forwardTo log r end
 

@@ -34,6 +34,7 @@ insertOf Index table index = InsertIndex (record { table = record { 0 = table };
 insertOf Value table index = InsertValue (record { table = record { 0 = table }; index = index })
 insertOf RefCount table index = InsertRefCount (record { table = record { 0 = table }; index = index })
 
+-- and of the two kinds of drop
 abbrev pub dropIndex : ℕ → LogAction
 dropIndex table = DropTable (record { 0 = table })
 
@@ -149,6 +150,7 @@ earlyEnd validate = do
   test (not validate || eqb (little sum) (checksumOf (4 ∷ []))) WrongSum  -- 8
   refuse OutOfPlace  -- 4
 
+-- "Tag 1 ..", "Tags 2, 3, 6 with under 10 more, tags 5, 7 with under 2, tag 4 with under 4 give 1 as well", "Other tags give 3."
 unfoldable pub openingBy : Bool → ℕ → Format ℕ
 openingBy validate tag =
     if eqb tag 1 then begun else
