@@ -1,0 +1,6 @@
+-- What the contracts cite.
+pub mod Changes
+pub mod Drop
+pub mod Insert
+pub mod Listed
+pub mod Room

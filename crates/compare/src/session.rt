@@ -1,0 +1,82 @@
+// What is kept from command to command, besides the bytes of the log and of the image.
+ghost use Prim.Native.Nat.{_≤_};
+ghost use Rattle.compare.specs.Bounds.{Kept, Fitting};
+use super::fault::Fault;
+use directory::Directory;
+use directory::TableDescription;
+use directory::TableKind;
+use record::LogReader;
+
+pub struct Session {
+    pub directory: Directory,
+    pub reader: LogReader,
+    pub logged: usize,
+    pub imaged: usize,
+}
+
+// How many bytes the answer has, or why there is none.
+pub enum Reply {
+    Line(usize),
+    End,
+    Broken(Fault),
+}
+
+pub struct Served {
+    pub session: Session,
+    pub reply: Reply,
+}
+
+impl Session {
+    pub fn new() -> Session
+        ensures { λ r. ⌜ Kept r ⌝ }
+    {
+        let none = TableDescription {
+            kind: TableKind::Index,
+            number: 0,
+            column: 0,
+            count: 0,
+            length: 0,
+        };
+        let directory = Directory {
+            tables: [none; 16],
+            count: 0,
+        };
+        Session {
+            directory: directory,
+            reader: LogReader::new(0, false),
+            logged: 0,
+            imaged: 0,
+        }
+    }
+
+    pub fn ended(self) -> Served
+        requires { ⌜ Kept self ⌝ }
+        ensures { λ r. ⌜ Fitting r ⌝ }
+    {
+        Served {
+            session: self,
+            reply: Reply::End,
+        }
+    }
+
+    pub fn broken(self, fault: Fault) -> Served
+        requires { ⌜ Kept self ⌝ }
+        ensures { λ r. ⌜ Fitting r ⌝ }
+    {
+        Served {
+            session: self,
+            reply: Reply::Broken(fault),
+        }
+    }
+
+    pub fn answered(self, length: usize) -> Served
+        requires { ⌜ Kept self ⌝ }
+        requires { ⌜ length ≤ 65536 ⌝ }
+        ensures { λ r. ⌜ Fitting r ⌝ }
+    {
+        Served {
+            session: self,
+            reply: Reply::Line(length),
+        }
+    }
+}
