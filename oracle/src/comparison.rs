@@ -8,7 +8,7 @@ use crate::{
     listed::Listed,
     log::driver::Driver,
     part::Part,
-    protocol::{from_hex, op, to_hex, Script, Stepped},
+    protocol::{from_hex, op, to_hex, Script, Stepped, NOT_DRIVEN},
 };
 use std::io;
 
@@ -98,6 +98,9 @@ fn shown(answer: &[u8]) -> String {
 }
 
 fn shown_line(line: &str) -> String {
+    if line == to_hex(&[NOT_DRIVEN]) {
+        return format!("{line}, it doesn't speak this command yet");
+    }
     from_hex(line).map_or_else(|| format!("{line:?}, which isn't hex"), |answer| shown(&answer))
 }
 

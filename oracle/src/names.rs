@@ -83,3 +83,36 @@ pub fn taken(name: &[u8]) -> Option<u32> {
 fn taken_by_the_rust(name: &[u8]) -> Option<u32> {
     std::str::from_utf8(name).ok()?.strip_prefix("log")?.parse().ok()
 }
+
+#[cfg(test)]
+mod tests {
+    use super::*;
+
+    #[test]
+    fn names_that_are_taken() {
+        let plain: [(&[u8], u32); 4] =
+            [(b"log0", 0), (b"log7", 7), (b"log10", 10), (b"log4294967295", u32::MAX)];
+        for (name, number) in plain {
+            assert_eq!((taken(name), taken_by_the_rust(name)), (Some(number), Some(number)));
+        }
+        let only_by_the_rust: [(&[u8], u32); 5] =
+            [(b"log07", 7), (b"log00", 0), (b"log+7", 7), (b"log+0", 0), (b"log+07", 7)];
+        for (name, number) in only_by_the_rust {
+            assert_eq!((taken(name), taken_by_the_rust(name)), (None, Some(number)));
+        }
+        let others: [&[u8]; 9] = [
+            b"",
+            b"log",
+            b"log-1",
+            b"log 7",
+            b"log1x",
+            b"LOG1",
+            b"log\xd9\xa7",
+            b"log\xff",
+            b"log4294967296",
+        ];
+        for name in others {
+            assert_eq!((taken(name), taken_by_the_rust(name)), (None, None));
+        }
+    }
+}

@@ -240,9 +240,8 @@ impl Generator {
             self.script.push(with_number(op::CLEAN, 1));
             let position = self.random.pick(&[0, 1, u64::MAX]);
             self.script.push(reading(position, 1));
-            if shown {
-                self.script.push(vec![op::STATE]);
-            }
+            // A state that is too large may only be left by an open.
+            self.script.push(if shown { vec![op::STATE] } else { Found::command(&[]) });
             self.script.push(good.command());
             self.some_calls(2, good.size);
         }

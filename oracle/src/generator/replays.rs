@@ -32,8 +32,9 @@ impl Generator {
     fn whole_runs(&mut self) {
         let directory = self.hand_directory_for_image();
         let first = self.id();
-        let count = self.random.between(1, 12);
-        let log = self.run_of_records(&directory, first, count, 4);
+        let (few, many) = (self.random.between(1, 12), self.random.between(50, 200));
+        let (count, most_actions) = self.random.pick(&[(few, 4), (few, 4), (few, 4), (many, 0)]);
+        let log = self.run_of_records(&directory, first, count, most_actions);
         self.hand_log(&log.bytes);
         self.run_on_image(&directory, 0, first);
         let place = self.random.below(count);

@@ -19,7 +19,7 @@ use std::{
     io::BufWriter,
 };
 
-/// "The directory" of 01 has 64 slots a chunk.
+/// "A mask has 64 bits".
 const SLOTS: u8 = 64;
 const MOST_DROPS: usize = 16;
 

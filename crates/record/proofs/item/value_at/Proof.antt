@@ -1,7 +1,7 @@
+-- `value_at` meets its contract. Assumes nothing.
 use Rattle.record.specs.Format.{got}
 use Rattle.record.specs.declared.action.LogAction.{LogAction}
 use Rattle.record.specs.Record.{Item}
--- `value_at` meets its contract. Assumes nothing.
 use mathlib.Core.Path.{_≡_, refl, sym, ap, _∙_}
 use Rattle.record.proofs.Parts.{value-short, value-met}
 use borrow.Author.Needs.{needs}

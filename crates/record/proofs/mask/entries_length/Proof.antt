@@ -1,5 +1,5 @@
-use native.Mathlib.Nat.{mul-le-mul}
 -- `entries_length` meets its contract. The invariant: the bits counted and those left are the mask's. Assumes nothing.
+use native.Mathlib.Nat.{mul-le-mul}
 use mathlib.Core.Path.{_≡_, refl, sym, ap, _∙_}
 use mathlib.Core.Logic.{⊎-elim}
 use Prim.Native.Nat.{ℕ, _+_, _*_, _≤_, _<_, _^_}

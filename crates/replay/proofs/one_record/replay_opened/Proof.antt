@@ -1,8 +1,8 @@
+-- `replay_opened` meets its contract. Assumes nothing.
 use Prim.Native.Nat.{suc}
 use denote.Ref.{now}
 use lib.ListN.{length}
 use Rattle.replay.specs.Replay.{restOf}
--- `replay_opened` meets its contract. Assumes nothing.
 use mathlib.Core.Path.{_≡_, refl, sym, ap, _∙_}
 use Rattle.replay.proofs.Checked.{ended-is-got, untouched}
 use borrow.Author.Needs.{needs}

@@ -1,6 +1,6 @@
+-- `LogReader::step_inside` meets its contract: what was read lies within the log. Assumes nothing.
 use Rattle.record.proofs.Parts.{item-step}
 use denote.Ref.{now}
--- `LogReader::step_inside` meets its contract: what was read lies within the log. Assumes nothing.
 use mathlib.Core.Path.{_≡_, refl, sym, ap, _∙_}
 use Prim.Native.Nat.{ℕ, _+_}
 use native.Mathlib.Omega.{arith}

@@ -1,5 +1,5 @@
-use denote.Ref.{now}
 -- `LogReader::step_opening` meets its contract: the opening lies within the log. Assumes nothing.
+use denote.Ref.{now}
 use mathlib.Core.Path.{_≡_, refl, sym, ap, _∙_}
 use Prim.Native.Nat.{ℕ, _+_}
 use native.Mathlib.Omega.{arith}

@@ -1,0 +1,16 @@
+-- The laws, for other crates to cite.
+pub mod Rule
+pub mod Parts
+pub mod Gather
+pub mod Clean
+pub mod Kept
+pub mod CleanKept
+pub mod KeepsRules
+pub mod NoneLost
+pub mod Cases
+pub mod NameLaws
+pub mod OpenLaws
+pub mod Found
+pub mod ReadKept
+pub mod Order
+pub mod OpenKept

@@ -1,0 +1,84 @@
+-- `Queues::read` meets its contract: what was opened, the end of a log, any other refusal. Assumes nothing.
+use mathlib.Core.Path.{sym, ap, _∙_}
+use Rattle.record.specs.declared.answer.Answer.the-variants.{Done}
+use Rattle.files.specs.Queues.{queuesKept}
+use Rattle.files.specs.Moves.{readingCleaned}
+use Rattle.files.specs.Read.{nowReading, notRead, readBy}
+use Rattle.files.specs.declared.queues.Queues.{Queues}
+use Rattle.files.proofs.Rule.{Sized, kept-facts, kept-makes}
+use Rattle.files.proofs.ReadKept.{now-kept, at-end, not-at-end}
+use borrow.Author.Needs.{needs}
+use Rattle.files.proofs.queues.Queues.read.Statement.{statement}
+use Rattle.files.proofs.queues.Queues.read.Tie as tie
+use Rattle.files.proofs.queues.Queues.read.Reads as reads
+use Rattle.files.proofs.queues.Queues.read.Lts as lts
+use Rattle.files.proofs.queues.Queues.not_read.Reads as not-read-reads
+use Rattle.files.proofs.queues.Queues.now_reading.Reads as now-reading-reads
+use Rattle.files.proofs.queues.Queues.reading_cleaned.Reads as reading-cleaned-reads
+use Rattle.record.proofs.answer.Answer.number.Reads as number-reads
+
+sized : (s : tie.Start) → Sized (s .args .self)
+sized s = record { read = search needs; cleanup = search needs; pool = search needs; replay = search needs; ids = search needs }
+
+now-reading-requires : tie.Need-now-reading-requires
+now-reading-requires c κs = search needs
+
+enum-known-step : tie.Need-enum-known-step
+enum-known-step c = search needs
+
+enum-known-step-2 : tie.Need-enum-known-step-2
+enum-known-step-2 c = search needs
+
+number-requires : tie.Need-number-requires
+number-requires c κs = search needs
+
+reading-cleaned-requires : tie.Need-reading-cleaned-requires
+reading-cleaned-requires c κs =
+    let q = c .before .before .before .before .before .before .args .self in
+    ap queuesKept (c .before .before .before .before .before .now-reading .ensures) ∙ kept-makes (nowReading q) (now-kept q (sized (c .before .before .before .before .before .before)) (kept-facts q (c .before .before .before .before .before .before .pre .0)) (c .before .before .before .before .before .before .pre .1))
+
+not-read-requires : tie.Need-not-read-requires
+not-read-requires c κs = search needs
+
+returns : tie.Need-returns
+unfolding readBy
+returns c =
+    let q = c .before .before .before .before .before .before .before .before .args .self in
+    let f = c .before .before .before .before .before .step2 .given .0 .0 in
+    c .not-read .ensures
+    ∙ ap (notRead (f .answer) (c .before .before .before .before .before .before .before .before .args .reader)) (c .before .reading-cleaned .ensures ∙ ap readingCleaned (c .before .before .before .before .before .before .before .now-reading .ensures) ∙ at-end q (f .answer) (c .before .before .before .number .result) (c .before .before .before .number .ensures) (c .before .before .if1 .taken))
+    ∙ ap (readBy q (c .before .before .before .before .before .before .before .before .args .reader)) (sym (c .before .before .before .before .before .step2 .given .1))
+
+not-read-requires-2 : tie.Need-not-read-requires-2
+not-read-requires-2 c κs = search needs
+
+returns-2 : tie.Need-returns-2
+unfolding readBy
+returns-2 c =
+    let q = c .before .before .before .before .before .args .self in
+    ap (λ (x : Queues). record { answer = Done; number = x .«reading_id»; reader = c .before .before .step .given .0 .0 .reader; queues = x }) (c .before .before .before .before .now-reading .ensures)
+    ∙ ap (readBy q (c .before .before .before .before .before .args .reader)) (sym (c .before .before .step .given .1))
+
+returns-3 : tie.Need-returns-3
+unfolding readBy
+returns-3 c =
+    let q = c .before .before .before .before .before .before .before .args .self in
+    let f = c .before .before .before .before .step2 .given .0 .0 in
+    c .not-read2 .ensures
+    ∙ ap (notRead (f .answer) (c .before .before .before .before .before .before .before .args .reader)) (not-at-end q (f .answer) (c .before .before .number .result) (c .before .before .number .ensures) (c .before .if1 .left))
+    ∙ ap (readBy q (c .before .before .before .before .before .before .before .args .reader)) (sym (c .before .before .before .before .step2 .given .1))
+
+pub read-spec : {M : Type 1} → statement M
+read-spec =
+    tie.close
+    (tie.spec
+    now-reading-requires
+    enum-known-step
+    enum-known-step-2
+    number-requires
+    reading-cleaned-requires
+    not-read-requires
+    returns
+    not-read-requires-2
+    returns-2
+    returns-3)

@@ -1,0 +1,73 @@
+// What standard error is told, besides the faults of a directory's text.
+use libc::STDERR_FILENO;
+use record::Answer;
+
+pub fn tell(what: &[u8], text: &[u8]) {
+    io::write_all(STDERR_FILENO, b"recover: ");
+    io::write_all(STDERR_FILENO, what);
+    io::write_all(STDERR_FILENO, text);
+    io::write_all(STDERR_FILENO, b"\n");
+}
+
+// A number of bytes that differs from, or passes, the one due.
+pub fn tell_lengths(path: &[u8], has: u64, text: &[u8], due: u64) {
+    io::write_all(STDERR_FILENO, b"recover: ");
+    io::write_all(STDERR_FILENO, path);
+    io::write_all(STDERR_FILENO, b": ");
+    io::print_decimal(STDERR_FILENO, has);
+    io::write_all(STDERR_FILENO, text);
+    io::print_decimal(STDERR_FILENO, due);
+    io::write_all(STDERR_FILENO, b"\n");
+}
+
+pub fn tell_record(path: &[u8], position: u64, text: &[u8]) {
+    io::write_all(STDERR_FILENO, b"recover: ");
+    io::write_all(STDERR_FILENO, path);
+    io::write_all(STDERR_FILENO, b": the record at ");
+    io::print_decimal(STDERR_FILENO, position);
+    io::write_all(STDERR_FILENO, text);
+    io::write_all(STDERR_FILENO, b"\n");
+}
+
+// What an answer means, in words. A run gives those from 1 to 8, 12 and 13.
+fn tell_meaning(answer: Answer) -> bool {
+    match answer {
+        Answer::Done => io::write_all(STDERR_FILENO, b"done"),
+        Answer::EndOfLog => io::write_all(STDERR_FILENO, b"end of log: no further record begins"),
+        Answer::Cut => io::write_all(STDERR_FILENO, b"the log ends inside the record"),
+        Answer::UnknownTag => io::write_all(STDERR_FILENO, b"the record has an unknown tag"),
+        Answer::OutOfPlace => io::write_all(
+            STDERR_FILENO,
+            b"the record doesn't start with a begin tag, or has a second one",
+        ),
+        Answer::WrongId => io::write_all(STDERR_FILENO, b"the record's id isn't the expected one"),
+        Answer::NoTable => io::write_all(
+            STDERR_FILENO,
+            b"the record names a table that the directory doesn't have",
+        ),
+        Answer::NoIndex => io::write_all(
+            STDERR_FILENO,
+            b"the record has an index that isn't below its table's count",
+        ),
+        Answer::WrongSum => io::write_all(STDERR_FILENO, b"the checksum of the record differs"),
+        Answer::NoRoom => io::write_all(STDERR_FILENO, b"no room"),
+        Answer::ShortOutput => io::write_all(STDERR_FILENO, b"the output is too short"),
+        Answer::NotNext => io::write_all(STDERR_FILENO, b"the id isn't the next one"),
+        Answer::UsedUp => io::write_all(STDERR_FILENO, b"record ids are used up"),
+        Answer::BadState => io::write_all(
+            STDERR_FILENO,
+            b"the directory breaks a rule, or the image isn't its",
+        ),
+        Answer::BadArgument => io::write_all(STDERR_FILENO, b"the position is beyond the log"),
+    }
+}
+
+// The answer's number, its meaning, and what became of the records.
+pub fn tell_answer(answer: Answer, position: u64) {
+    io::print_decimal(STDERR_FILENO, answer.number() as u64);
+    io::write_all(STDERR_FILENO, b": ");
+    tell_meaning(answer);
+    io::write_all(STDERR_FILENO, b" (at ");
+    io::print_decimal(STDERR_FILENO, position);
+    io::write_all(STDERR_FILENO, b"); the records before it were replayed\n");
+}
