@@ -7,6 +7,7 @@ use Rattle.compare.specs.declared.input.Found.{Found}
 use Rattle.compare.specs.declared.input.Found.the-variants as found
 use Rattle.compare.specs.declared.input.Input.{Input}
 use Rattle.compare.specs.declared.input.Next.{Next}
+use Rattle.compare.specs.declared.opening.FileSpan.{FileSpan}
 use Rattle.compare.specs.declared.session.Reply.{Reply}
 use Rattle.compare.specs.declared.session.Reply.the-variants as reply
 use Rattle.compare.specs.declared.session.Served.{Served}
@@ -49,3 +50,10 @@ pub record Kept (s : Session) : Type 0 where
 pub record Fitting (s : Served) : Type 0 where
   pub session : Kept (s .session)
   pub answer : AnswerFits (s .reply)
+
+-- a file's name and bytes within a command of so many bytes
+pub record SpanFits (s : FileSpan) (length : ℕ) : Type 0 where
+  pub name : s .name ≤ s .«name_end»
+  pub named : s .«name_end» ≤ length
+  pub bytes : s .start ≤ s .end
+  pub within : s .end ≤ length

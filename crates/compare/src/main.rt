@@ -4,11 +4,15 @@ mod bytes;
 mod command;
 mod dispatch;
 mod fault;
+mod forging;
 mod hex;
 mod images;
 mod input;
+mod opening;
 mod output;
+mod queues;
 mod session;
+mod state;
 mod steps;
 mod tables;
 

@@ -5,6 +5,7 @@ use super::fault::Fault;
 use directory::Directory;
 use directory::TableDescription;
 use directory::TableKind;
+use files::Queues;
 use record::LogReader;
 
 pub struct Session {
@@ -12,6 +13,7 @@ pub struct Session {
     pub reader: LogReader,
     pub logged: usize,
     pub imaged: usize,
+    pub queues: Queues,
 }
 
 // How many bytes the answer has, or why there is none.
@@ -24,6 +26,28 @@ pub enum Reply {
 pub struct Served {
     pub session: Session,
     pub reply: Reply,
+}
+
+// As an open of no files leaves them.
+fn no_files() -> Queues {
+    Queues {
+        appending: false,
+        appending_id: 0,
+        appending_size: 0,
+        reading: false,
+        reading_id: 0,
+        read_count: 0,
+        read_queue: [0u64; 64],
+        cleanup_count: 0,
+        cleanup_queue: [0u64; 64],
+        pool_count: 0,
+        log_pool: [0u64; 16],
+        replay_count: 0,
+        replay_queue: [0u64; 64],
+        replay_ids: [0u64; 64],
+        next_log_id: 0,
+        dirty: true,
+    }
 }
 
 impl Session {
@@ -46,6 +70,7 @@ impl Session {
             reader: LogReader::new(0, false),
             logged: 0,
             imaged: 0,
+            queues: no_files(),
         }
     }
 

@@ -149,8 +149,9 @@ fn with_id(
     );
 }
 
+// The program's own name counts as an argument.
 fn with_arguments(text: &mut [u8; TEXT_ROOM], window: &mut [u8; ROOM], image: &mut [u8; ROOM]) {
-    if os::arg_count() != 4 {
+    if os::arg_count() != 5 {
         tell(b"usage: recover DIRECTORY LOG IMAGE FIRST-ID", b"");
         return;
     }

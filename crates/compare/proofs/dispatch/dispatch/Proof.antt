@@ -9,7 +9,7 @@ use Rattle.compare.proofs.dispatch.dispatch.Reads as reads
 use Rattle.compare.proofs.dispatch.dispatch.Lts as lts
 use Rattle.compare.proofs.bytes.keep_log.Reads as keep-log-reads
 use Rattle.compare.proofs.bytes.sum.Reads as sum-reads
-use Rattle.compare.proofs.dispatch.unknown.Reads as unknown-reads
+use Rattle.compare.proofs.dispatch.call_queues.Reads as call-queues-reads
 use Rattle.compare.proofs.images.image_sum.Reads as image-sum-reads
 use Rattle.compare.proofs.images.keep_image.Reads as keep-image-reads
 use Rattle.compare.proofs.images.replay_one.Reads as replay-one-reads
@@ -74,8 +74,8 @@ run-all-requires c κs = search needs
 image-sum-requires : tie.Need-image-sum-requires
 image-sum-requires c κs = search needs
 
-unknown-requires : tie.Need-unknown-requires
-unknown-requires c κs = search needs
+call-queues-requires : tie.Need-call-queues-requires
+call-queues-requires c κs = search needs
 
 returns : tie.Need-returns
 returns c = search needs
@@ -135,7 +135,7 @@ dispatch-spec =
     replay-one-requires
     run-all-requires
     image-sum-requires
-    unknown-requires
+    call-queues-requires
     returns
     returns-2
     returns-3
