@@ -1,3 +1,4 @@
+pub mod AnyId
 pub mod Checked
 pub mod Cut
 pub mod CutLog

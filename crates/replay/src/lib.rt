@@ -3,8 +3,12 @@ mod apply;
 mod check;
 mod many_records;
 mod one_record;
+mod whole;
 
 pub use many_records::Ran;
 pub use many_records::run;
 pub use one_record::Replayed;
 pub use one_record::replay;
+pub use whole::WholeAnswer;
+pub use whole::WholeRecord;
+pub use whole::check_record;
