@@ -104,8 +104,9 @@ fn shown_line(line: &str) -> String {
     from_hex(line).map_or_else(|| format!("{line:?}, which isn't hex"), |answer| shown(&answer))
 }
 
-/// Commands by which the port's reader takes the records that the Rust writes of a script's lists,
-/// one at each look at a list. The Rust goes in hash order, so they aren't the same in every run.
+/// Commands by which the port's reader and its replay take the records that the Rust writes of a
+/// script's lists, one at each look at a list. The Rust goes in hash order, so they aren't the same
+/// in every run.
 pub fn walks_through_records(script: &Script) -> io::Result<Script> {
     let mut driver = Driver::new()?;
     let mut walks = Script::new();
@@ -116,6 +117,7 @@ pub fn walks_through_records(script: &Script) -> io::Result<Script> {
         if command[0] == op::LIST_SUM && driver.list_keeps_the_rules() {
             let record = driver.written_record();
             walks.extend(driver.walk_through(&record));
+            walks.extend(driver.replay_of(&record));
         }
     }
     Ok(walks)

@@ -8,12 +8,14 @@ mod queues;
 mod records;
 mod replays;
 mod steps;
+mod writing;
 
 use self::directories::random_directory;
 use crate::{
     directory::Directory,
+    log::driver::Driver,
     part::Part,
-    protocol::{op, tag, with_blob, Script},
+    protocol::{op, tag, with_blob, Script, LONGEST_LOG},
     random::Random,
 };
 
@@ -24,20 +26,17 @@ pub struct Generator {
     parts: Vec<Part>,
     /// Short logs and blobs, for a script that is kept as a file.
     small: bool,
+    /// Tells what record is due of a list.
+    beside: Option<Driver>,
 }
 
 type Form = fn(&mut Generator);
 
-/// The longest log and blob of the run protocol.
-const LONGEST: usize = 80_000;
-
-/// Its longest image.
-const LONGEST_IMAGE: usize = 300_000;
-
 impl Generator {
     pub fn new(seed: u64, parts: &[Part]) -> Generator {
         let random = Random::new(seed);
-        Generator { random, script: Script::new(), parts: parts.to_vec(), small: false }
+        let (script, parts) = (Script::new(), parts.to_vec());
+        Generator { random, script, parts, small: false, beside: None }
     }
 
     /// A long script of all forms.
@@ -99,7 +98,7 @@ impl Generator {
     }
 
     fn hand_log(&mut self, bytes: &[u8]) {
-        assert!(bytes.len() <= LONGEST);
+        assert!(bytes.len() <= LONGEST_LOG);
         self.script.push(with_blob(op::LOG, bytes));
     }
 

@@ -41,9 +41,8 @@ impl Part {
         match command[0] {
             op::STEP_AT | op::STEP => Some(Part::Steps),
             op::REPLAY | op::RUN => Some(Part::Replay),
-            op::INS_INDEX | op::INS_VALUE | op::INS_REF | op::DROP | op::DROP_REF => {
-                Some(Part::Lists)
-            }
+            op::INS_INDEX | op::INS_VALUE | op::INS_REF => Some(Part::Lists),
+            op::DROP | op::DROP_REF | op::WRITE => Some(Part::Lists),
             op::OPEN | op::FLUSH | op::READ_NEXT | op::REPLAY_NEXT => Some(Part::Queues),
             op::CLEAN | op::CLEAR_REPLAY | op::KILL => Some(Part::Queues),
             _ => None,

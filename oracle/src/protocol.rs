@@ -29,6 +29,8 @@ pub mod op {
     pub const FORGE_LIST: u8 = 0x21;
     pub const LIST_SUM: u8 = 0x23;
     pub const FORGE_DROP: u8 = 0x24;
+    /// An addition to the protocol: docs/ORACLE.md.
+    pub const WRITE: u8 = 0xf0;
 }
 
 /// The numbered answers of document 01 that the driver and the listed differences name.
@@ -43,6 +45,7 @@ pub mod number {
     pub const INDEX_TOO_LARGE: u8 = 7;
     pub const CHECKSUM_DIFFERS: u8 = 8;
     pub const NO_ROOM: u8 = 9;
+    pub const OUTPUT_TOO_SHORT: u8 = 10;
     pub const USED_UP: u8 = 12;
     pub const RULE_BROKEN: u8 = 13;
     /// Also a slot above 63, and a chunk or value of the wrong length.
@@ -65,6 +68,15 @@ pub const NOT_DRIVEN: u8 = 0xff;
 
 /// What a call is answered with in which the Rust fails with an error that has no number.
 pub const RUST_FAILS: u8 = 0xfe;
+
+/// The longest log and blob of a script.
+pub const LONGEST_LOG: usize = 80_000;
+
+/// Its longest image.
+pub const LONGEST_IMAGE: usize = 300_000;
+
+/// Its longest output.
+pub const LONGEST_OUTPUT: usize = 60_000;
 
 /// A script is a list of commands, each as bytes.
 pub type Script = Vec<Vec<u8>>;
@@ -137,7 +149,25 @@ impl<'a> Fields<'a> {
 
 /// The command of an opcode and a blob.
 pub fn with_blob(opcode: u8, blob: &[u8]) -> Vec<u8> {
-    [&[opcode], &(blob.len() as u32).to_le_bytes()[..], blob].concat()
+    let mut command = vec![opcode];
+    put_blob(&mut command, blob);
+    command
+}
+
+/// Puts a blob behind a command or an answer.
+pub fn put_blob(row: &mut Vec<u8>, blob: &[u8]) {
+    row.extend((blob.len() as u32).to_le_bytes());
+    row.extend(blob);
+}
+
+/// The command that hands over an image.
+pub fn image(length: usize, fill: u8) -> Vec<u8> {
+    [&[op::IMAGE], &(length as u32).to_le_bytes()[..], &[fill]].concat()
+}
+
+/// REPLAY or RUN.
+pub fn replaying(opcode: u8, position: u64, expected: u64) -> Vec<u8> {
+    [&[opcode], &position.to_le_bytes()[..], &expected.to_le_bytes()].concat()
 }
 
 /// Puts `nums` behind an answer.

@@ -4,7 +4,7 @@
 
 use crate::{
     directory::{Directory, Kind},
-    protocol::{op, tag, to_hex, with_blob, Fields, Script},
+    protocol::{image, op, replaying, tag, to_hex, with_blob, Fields, Script, LONGEST_IMAGE},
 };
 
 /// A record that was found whole, its checksum right.
@@ -131,4 +131,20 @@ pub fn walk_through(record: &[u8], directory: &Directory) -> Result<Script, Stri
     let end_tag_and_end_of_log = 2;
     script.extend(std::iter::repeat_n(vec![op::STEP, 1], items + end_tag_and_end_of_log));
     Ok(script)
+}
+
+/// Commands that replay a record onto an image; none if a script has no room for that image.
+pub fn replay_of(record: &[u8], directory: &Directory) -> Script {
+    let length = directory.image_length();
+    if length > LONGEST_IMAGE {
+        return Script::new();
+    }
+    let log = with_blob(op::LOG, record);
+    let replay = replaying(op::REPLAY, 0, id_of(record));
+    vec![directory.command(), log, image(length, 0xaa), replay, vec![op::IMAGE_SUM]]
+}
+
+/// The id behind a record's first tag.
+pub fn id_of(record: &[u8]) -> u64 {
+    Fields(&record[1..]).u64()
 }

@@ -18,33 +18,67 @@ fn walk(log: &str, steps: usize, validate: u8) -> Vec<u8> {
     commands.take(steps).map(|command| driver.answer(&command)[0]).collect()
 }
 
-#[test]
-fn records_of_known_length() {
-    let records = [
-        (14, "0101000000000000000412d35e1c"),
+/// Cases (a) to (e): a record's length, its bytes, and the changes that make it.
+fn records_of_known_length() -> [(usize, &'static str, Vec<String>); 5] {
+    let entries = ["0001020304050607", "08090a0b0c0d0e0f"];
+    let slots_0_and_2 = format!("{}{:016}{}{}", entries[0], 0, entries[1], "00".repeat(488));
+    let slot_0 = format!("{}{}{}", entries[0], entries[1], "00".repeat(1008));
+    let insert_index = |slot: &str| format!("0601000000000000000000{slot}00020000{slots_0_and_2}");
+    let value = "000102030405060708090a0b0c0d0e0f10111213";
+    [
+        (14, "0101000000000000000412d35e1c", vec![]),
         (
             49,
             "01010000000000000002010000000000000000000500000000000000000102030405060708090a0b0c0d0e0f\
              0405fa2bd0",
+            vec![insert_index("00"), insert_index("02")],
         ),
         (
             45,
             "0101000000000000000302000000000000000000000102030405060708090a0b0c0d0e0f10111213\
              04400fe5b8",
+            vec![format!("070200000000000000000014000000{value}")],
         ),
-        (17, "01010000000000000005010004748d3678"),
+        (17, "01010000000000000005010004748d3678", vec!["090100".into()]),
         (
             49,
             "01010000000000000006030000000000000000000100000000000000000102030405060708090a0b0c0d0e0f\
              04b8c18b57",
+            vec![format!("08030000000000000000000000040000{slot_0}")],
         ),
-    ];
-    for (length, log) in records {
+    ]
+}
+
+#[test]
+fn records_of_known_length_are_read() {
+    for (length, log, changes) in records_of_known_length() {
         assert_eq!(log.len() / 2, length);
-        let actions = if length == 14 { 2 } else { 3 };
+        let actions = if changes.is_empty() { 2 } else { 3 };
         let mut expected = vec![0; actions];
         expected.push(1);
         assert_eq!(walk(log, actions + 1, 1), expected, "{log}");
+    }
+}
+
+/// Into an output of its length, one that is a byte short, and one that is a byte longer.
+#[test]
+fn records_of_known_length_are_written() {
+    for (length, record, changes) in records_of_known_length() {
+        let mut lines = vec![DIRECTORY.to_string()];
+        lines.extend(changes);
+        let outputs = [length, length - 1, length + 1];
+        lines.extend(outputs.map(|output| format!("f0{output:02x}000000")));
+        let lines: Vec<&str> = lines.iter().map(String::as_str).collect();
+        let record = from_hex(record).unwrap();
+        let due = |number: u8, record: &[u8], rest: usize| {
+            let output = [record, &vec![0x5a; rest]].concat();
+            let count = (record.len() as u32).to_le_bytes();
+            let sum = crc32fast::hash(&output).to_le_bytes();
+            [&[number], &count[..], &count, record, &sum].concat()
+        };
+        let written = answers(&lines);
+        let due = [due(0, &record, 0), due(10, &[], length - 1), due(0, &record, 1)];
+        assert_eq!(written[lines.len() - 3..], due);
     }
 }
 

@@ -14,6 +14,7 @@ pub struct Tally {
     checksums: u64,
     images: u64,
     lists: u64,
+    records_written: u64,
     records_of_the_rust: u64,
     states: u64,
     records_replayed: u64,
@@ -53,6 +54,7 @@ impl Tally {
             op::IMAGE_SUM => self.images += 1,
             op::NEWLIST => self.lists += 1,
             op::STATE => self.states += 1,
+            op::WRITE => self.records_written += u64::from(answer[0] == number::DONE),
             _ => {}
         }
     }
@@ -77,8 +79,8 @@ impl Tally {
 
     /// The records that are handed over to be walked through.
     pub fn count_records_of_the_rust(&mut self, walks: &Script) {
-        let logs = walks.iter().filter(|command| command[0] == op::LOG);
-        self.records_of_the_rust += logs.count() as u64;
+        let walked = walks.iter().filter(|command| command[0] == op::STEP_AT);
+        self.records_of_the_rust += walked.count() as u64;
     }
 
     fn count_number(&mut self, part: Part, answer: &[u8]) {
@@ -114,6 +116,7 @@ impl fmt::Display for Tally {
             (self.records_refused, "records refused"),
             (self.images, "images agree"),
             (self.lists, "lists"),
+            (self.records_written, "records written agree"),
             (self.records_of_the_rust, "records written by the Rust are read"),
             (self.states, "states of the queues agree"),
             (self.checksums, "checksums agree"),

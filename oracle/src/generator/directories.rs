@@ -37,7 +37,8 @@ pub fn crowded_directory(random: &mut Random) -> Directory {
     directory
 }
 
-/// One table or two of each kind, with more places than a list has room for.
+/// One table or two of each kind, with more places than a list has room for; the image of every
+/// other such directory is one that a script has room for.
 pub fn wide_directory(random: &mut Random) -> Directory {
     let mut directory = Directory::default();
     for kind in Kind::ALL {
@@ -45,8 +46,9 @@ pub fn wide_directory(random: &mut Random) -> Directory {
             add_table(random, &mut directory, &[kind]);
         }
     }
+    let most = random.pick(&[64, 4096]);
     for table in &mut directory.tables {
-        table.count = random.between(64, 4096) as u16;
+        table.count = random.between(64, most) as u16;
     }
     directory
 }

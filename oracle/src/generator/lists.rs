@@ -1,17 +1,18 @@
 //! The forms for change lists.
 
 use super::{
-    directories::{crowded_directory, wide_directory, BREAKS},
+    directories::{crowded_directory, directory_for_image, wide_directory, BREAKS},
     Form, Generator,
 };
 use crate::{
     directory::{Directory, Kind, Table},
-    protocol::{op, with_blob},
+    protocol::{op, put_blob, LONGEST_IMAGE, LONGEST_OUTPUT},
 };
 
-pub const FORMS: [Form; 7] = [
+pub const FORMS: [Form; 8] = [
     Generator::random_lists,
     Generator::full_lists,
+    Generator::large_records,
     Generator::wrong_arguments,
     Generator::lists_under_broken_directories,
     Generator::lists_under_other_directories,
@@ -48,7 +49,7 @@ impl Generator {
                 self.look_at_list();
             }
         }
-        self.look_at_list();
+        self.finish_list(&directory);
     }
 
     /// Past the room of each kind; listed keys are still taken then, and other faults come first.
@@ -78,7 +79,25 @@ impl Generator {
                 self.drop_any(&directory, opcode);
             }
         }
-        self.look_at_list();
+        self.finish_list(&directory);
+    }
+
+    /// Forged lists with full masks, up to the largest record.
+    fn large_records(&mut self) {
+        let directory = self.hand_wide_directory();
+        self.hand_list();
+        for (kind, room) in [(Kind::Index, 32), (Kind::Value, 32), (Kind::RefCount, 16)] {
+            let table = self.table_of(&directory, kind);
+            let fewer = self.random.below(room);
+            for index in 0..self.random.pick(&[room, room, fewer]) {
+                let bytes = table.place_bytes();
+                self.forge_entry(kind, table.number, index as u64, u64::MAX, bytes);
+            }
+            if kind != Kind::Value {
+                (0..16).for_each(|_| self.forge_drop(kind, table.number));
+            }
+        }
+        self.finish_list(&directory);
     }
 
     /// Each argument right and wrong beside each other: which number comes first.
@@ -101,7 +120,7 @@ impl Generator {
                 self.drop_table(opcode, table.number);
             }
         }
-        self.look_at_list();
+        self.finish_list(&directory);
     }
 
     fn lists_under_broken_directories(&mut self) {
@@ -116,7 +135,7 @@ impl Generator {
             self.script.push(good.command());
             self.good_change(&good);
         }
-        self.look_at_list();
+        self.finish_list(&good);
     }
 
     /// A directory that a listed key, value or drop may not fit, then the old one again.
@@ -134,7 +153,7 @@ impl Generator {
         self.each_call(&other);
         self.script.push(old.command());
         self.good_change(&old);
-        self.look_at_list();
+        self.finish_list(&old);
     }
 
     fn change_a_table(&mut self, directory: &mut Directory) {
@@ -172,7 +191,7 @@ impl Generator {
             let (table, index) = self.random.pick(&forged);
             self.good_insert(&table, index);
         }
-        self.look_at_list();
+        self.finish_list(&directory);
     }
 
     fn forged_lists_that_break_a_rule(&mut self) {
@@ -191,7 +210,13 @@ impl Generator {
         }
         self.hand_list();
         self.good_change(&directory);
+        self.finish_list(&directory);
+    }
+
+    /// A look, then the record, written and read.
+    fn finish_list(&mut self, directory: &Directory) {
         self.look_at_list();
+        self.write_list(directory);
     }
 }
 
@@ -277,6 +302,7 @@ impl Generator {
     fn hand_list_directory(&mut self) -> Directory {
         let directory = match self.random.below(3) {
             0 => crowded_directory(&mut self.random),
+            1 => directory_for_image(&mut self.random, LONGEST_IMAGE),
             _ => self.directory(),
         };
         self.script.push(directory.command());
@@ -339,7 +365,7 @@ impl Generator {
             command.push(slot);
         }
         let bytes = self.random.bytes(length);
-        command.extend(&with_blob(0, &bytes)[1..]);
+        put_blob(&mut command, &bytes);
         self.script.push(command);
     }
 
@@ -359,7 +385,7 @@ impl Generator {
         }
     }
 
-    /// Each of the five calls once.
+    /// Each of the calls on a list once.
     fn each_call(&mut self, directory: &Directory) {
         for kind in Kind::ALL {
             let same_kind = directory.tables.iter().copied().filter(|table| table.kind == kind);
@@ -372,6 +398,8 @@ impl Generator {
         }
         self.drop_any(directory, op::DROP);
         self.drop_any(directory, op::DROP_REF);
+        let length = self.random.pick(&[0, 14, LONGEST_OUTPUT]);
+        self.write_into(length);
     }
 }
 

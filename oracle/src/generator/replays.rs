@@ -5,11 +5,11 @@ use super::{
     directories::{crowded_directory, directory_for_image, BREAKS},
     log_bytes::LogBytes,
     records::{known_tags_with_few_bytes, FAULTS},
-    Form, Generator, LONGEST_IMAGE,
+    Form, Generator,
 };
 use crate::{
     directory::Directory,
-    protocol::{op, Fields},
+    protocol::{image, op, replaying, Fields, LONGEST_IMAGE},
 };
 
 pub const FORMS: [Form; 12] = [
@@ -250,19 +250,18 @@ impl Generator {
 
     fn hand_image_of(&mut self, length: usize) {
         let fill = self.random.number() as u8;
-        self.script.push([&[op::IMAGE], &(length as u32).to_le_bytes()[..], &[fill]].concat());
+        self.script.push(image(length, fill));
     }
 
     fn call(&mut self, opcode: u8, position: u64, expected: u64) {
-        self.script
-            .push([&[opcode], &position.to_le_bytes()[..], &expected.to_le_bytes()].concat());
+        self.script.push(replaying(opcode, position, expected));
     }
 
-    fn run_on_image(&mut self, directory: &Directory, position: usize, expected: u64) {
+    pub fn run_on_image(&mut self, directory: &Directory, position: usize, expected: u64) {
         self.call_on_image(op::RUN, directory, position, expected);
     }
 
-    fn replay_on_image(&mut self, directory: &Directory, position: usize, expected: u64) {
+    pub fn replay_on_image(&mut self, directory: &Directory, position: usize, expected: u64) {
         self.call_on_image(op::REPLAY, directory, position, expected);
     }
 

@@ -4,9 +4,9 @@ use super::{
     directories::BREAKS,
     log_bytes::LogBytes,
     records::{known_tags_with_few_bytes, with_few_bytes, FAULTS},
-    Form, Generator, LONGEST,
+    Form, Generator,
 };
-use crate::protocol::{op, with_blob};
+use crate::protocol::{op, with_blob, LONGEST_LOG};
 
 pub const FORMS: [Form; 14] = [
     Generator::whole_records,
@@ -216,7 +216,7 @@ impl Generator {
 
     fn checksums(&mut self) {
         let most = match self.random.below(100) {
-            0 if !self.small => LONGEST,
+            0 if !self.small => LONGEST_LOG,
             0..=20 => 2_000,
             _ => 80,
         };

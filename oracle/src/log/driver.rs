@@ -1,6 +1,8 @@
 //! Answers the run protocol out of log.rs: one state, and one function for each opcode.
 
+mod entries;
 mod image;
+mod list;
 mod lists;
 mod log_file;
 mod queues;
@@ -8,8 +10,9 @@ mod reading;
 mod replay;
 mod state;
 mod step;
+mod writing;
 
-use self::{image::Image, lists::List, log_file::LogFile, state::State, step::Cursor};
+use self::{image::Image, list::List, log_file::LogFile, state::State, step::Cursor};
 use crate::{
     directory::Directory,
     protocol::{number, op, Fields, NOT_DRIVEN},
@@ -65,8 +68,9 @@ impl Driver {
             op::STATE => self.state.answer(),
             op::FORGE_QUEUES => self.forge_queues(&mut fields),
             op::FORGE_LIST => self.forge_list(&mut fields),
-            op::LIST_SUM => self.list_sum(),
+            op::LIST_SUM => self.list.sum(),
             op::FORGE_DROP => self.forge_drop(&mut fields),
+            op::WRITE => self.write(&mut fields),
             _ => vec![NOT_DRIVEN],
         }
     }

@@ -56,6 +56,11 @@ fn lists() {
         Fault::LengthBeforeIndex,
         Fault::DropsOnce,
         Fault::DropsUntested,
+        Fault::WritesInCallOrder,
+        Fault::WritesWhatFits,
+        Fault::ZeroesTheRest,
+        Fault::ShortBeforeBroken,
+        Fault::CountsBehindDrops,
     ];
     try_part(Part::Lists, &faults);
 }

@@ -5,6 +5,7 @@ mod directory;
 mod lists;
 mod queues;
 mod replay;
+mod writer;
 
 use directory::Table;
 use lists::List;
@@ -29,6 +30,11 @@ pub enum Fault {
     LengthBeforeIndex,
     DropsOnce,
     DropsUntested,
+    WritesInCallOrder,
+    WritesWhatFits,
+    ZeroesTheRest,
+    ShortBeforeBroken,
+    CountsBehindDrops,
     NumbersBeforeRoom,
     TiesAsHandedIn,
     TakesLeadingZero,
@@ -87,6 +93,7 @@ impl Model {
             }
             0x04 => checksum(take.blob()).to_le_bytes().to_vec(),
             0x05..=0x0a | 0x21 | 0x23 | 0x24 => self.answer_of_list(command[0], &mut take),
+            0xf0 => self.write(take.number(4) as usize),
             0x10 | 0x14..=0x19 | 0x1c | 0x1f => self.answer_of_queues(command[0], &mut take),
             0x0d => self.replay(take.number(8), take.number(8)),
             0x0e => self.run(take.number(8), take.number(8)),
@@ -102,7 +109,7 @@ impl Model {
     pub fn record_of(script: &[Vec<u8>]) -> Vec<u8> {
         let mut model = Model::new(None);
         script.iter().for_each(|command| drop(model.answer(command)));
-        model.list.record()
+        model.record()
     }
 
     fn has(&self, fault: Fault) -> bool {

@@ -1,4 +1,4 @@
-//! 01, "Change lists and overlays", as far as lists go, and the writer's order.
+//! 01, "Change lists and overlays", as far as lists go.
 
 use super::{
     checksum,
@@ -7,18 +7,18 @@ use super::{
 };
 
 pub struct Entry {
-    table: u64,
-    index: u64,
-    mask: u64,
-    bytes: Vec<u8>,
+    pub table: u64,
+    pub index: u64,
+    pub mask: u64,
+    pub bytes: Vec<u8>,
 }
 
 /// By kind: 0 index, 1 value, 2 reference count.
 #[derive(Default)]
 pub struct List {
-    id: u64,
-    entries: [Vec<Entry>; 3],
-    drops: [Vec<u64>; 3],
+    pub id: u64,
+    pub entries: [Vec<Entry>; 3],
+    pub drops: [Vec<u64>; 3],
 }
 
 const ROOM: [usize; 3] = [32, 32, 16];
@@ -55,7 +55,7 @@ impl List {
         (0..3).all(kept)
     }
 
-    fn sorted(&self, kind: usize) -> Vec<&Entry> {
+    pub fn sorted(&self, kind: usize) -> Vec<&Entry> {
         let mut sorted: Vec<&Entry> = self.entries[kind].iter().collect();
         sorted.sort_by_key(|entry| (entry.table, entry.index));
         sorted
@@ -79,37 +79,6 @@ impl List {
             }
         }
         sum
-    }
-
-    /// The list's record.
-    pub fn record(&self) -> Vec<u8> {
-        let mut record = vec![1];
-        record.extend(self.id.to_le_bytes());
-        for (kind, tag) in [(0, 2), (1, 3), (2, 6)] {
-            for entry in self.sorted(kind) {
-                record.push(tag);
-                record.extend(&entry.table.to_le_bytes()[..2]);
-                record.extend(entry.index.to_le_bytes());
-                if kind == 1 {
-                    record.extend(&entry.bytes);
-                    continue;
-                }
-                record.extend(entry.mask.to_le_bytes());
-                let width = entry.bytes.len() / 64;
-                for slot in (0..64).filter(|slot| entry.mask >> slot & 1 == 1) {
-                    record.extend(&entry.bytes[slot * width..(slot + 1) * width]);
-                }
-            }
-        }
-        for (kind, tag) in [(0, 5), (2, 7)] {
-            for table in &self.drops[kind] {
-                record.push(tag);
-                record.extend(&table.to_le_bytes()[..2]);
-            }
-        }
-        record.push(4);
-        record.extend(checksum(&record).to_le_bytes());
-        record
     }
 }
 
@@ -201,7 +170,7 @@ impl Model {
         0
     }
 
-    fn list_and_directory_keep_the_rules(&self) -> bool {
+    pub fn list_and_directory_keep_the_rules(&self) -> bool {
         directory::keeps_the_rules(&self.directory)
             && self.list.entries_keep_the_rules(&self.directory)
             && (self.has(Fault::DropsUntested) || self.list.drops_keep_the_rules(&self.directory))
