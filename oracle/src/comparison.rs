@@ -50,18 +50,21 @@ pub fn compare(
         for part in Part::ALL {
             apart[part as usize] &= !part.brings_together(command, &demanded.answer);
         }
-        let called = Part::called_by(command);
-        if Part::shown_by(command).is_some_and(|part| apart[part as usize]) {
+        let (called, touched) = (Part::called_by(command), Part::touched_by(command));
+        let go_apart = if touched.iter().any(|part| apart[*part as usize]) {
             same("01 wants", &demanded.answer, line).map_err(differs)?;
             tally.count_behind(called);
+            called.is_some()
         } else if let (Some(listed), Some(part)) = (demanded.listed, called) {
             as_listed(listed, rust, &demanded.answer, line).map_err(differs)?;
             tally.count_listed(part, listed, &demanded.answer);
-            apart[part as usize] = true;
+            true
         } else {
             same("the Rust", rust, line).map_err(differs)?;
             tally.count_same(command, rust);
-        }
+            false
+        };
+        touched.iter().for_each(|part| apart[*part as usize] |= go_apart);
     }
     no_further_lines(script, port)
 }
@@ -110,9 +113,13 @@ fn shown_line(line: &str) -> String {
 pub fn walks_through_records(script: &Script) -> io::Result<Script> {
     let mut driver = Driver::new()?;
     let mut walks = Script::new();
-    let of_lists =
-        |command: &&Vec<u8>| Part::shown_by(command).is_none_or(|part| part == Part::Lists);
-    for command in script.iter().filter(of_lists) {
+    let makes_a_list = |command: &&Vec<u8>| {
+        matches!(
+            command[0],
+            op::DIR | op::NEWLIST..=op::DROP_REF | op::BEGIN | op::FORGE_LIST | op::LIST_SUM..=op::FORGE_DROP
+        )
+    };
+    for command in script.iter().filter(makes_a_list) {
         driver.answer(command);
         if command[0] == op::LIST_SUM && driver.list_keeps_the_rules() {
             let record = driver.written_record();
@@ -124,12 +131,16 @@ pub fn walks_through_records(script: &Script) -> io::Result<Script> {
 }
 
 /// The commands that lead to a difference: the last DIR and LOG before its chain of calls, and all
-/// from that chain's start on.
+/// from that chain's start on. A life is a chain as a whole.
 pub fn leading_to(script: &Script, at: usize) -> Script {
-    let Some(part) = Part::shown_by(&script[at]) else {
+    let Some(part) = Part::touched_by(&script[at]).first() else {
         return vec![script[at].clone()];
     };
-    let chain = script[..=at].iter().rposition(|command| part.starts_with(command)).unwrap_or(0);
+    let start_of = |part: &Part| script[..=at].iter().rposition(|row| part.starts_with(row));
+    let life = start_of(&Part::Lives).filter(|start| {
+        script[*start..=at].iter().any(|command| Part::called_by(command) == Some(Part::Lives))
+    });
+    let chain = life.or(start_of(part)).unwrap_or(0);
     let last = |opcode| script[..chain].iter().rposition(|command| command[0] == opcode);
     let mut places: Vec<usize> = [last(op::DIR), last(op::LOG)].into_iter().flatten().collect();
     places.sort();

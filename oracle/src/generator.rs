@@ -1,8 +1,11 @@
 //! Random scripts. Each form aims at one part of document 01 and hands over all that it needs, so
 //! that forms can follow each other in any order.
 
+mod beside;
 mod directories;
+mod forging;
 mod lists;
+mod lives;
 mod log_bytes;
 mod queues;
 mod records;
@@ -10,10 +13,9 @@ mod replays;
 mod steps;
 mod writing;
 
-use self::directories::random_directory;
+use self::{beside::Beside, directories::random_directory};
 use crate::{
     directory::Directory,
-    log::driver::Driver,
     part::Part,
     protocol::{op, tag, with_blob, Script, LONGEST_LOG},
     random::Random,
@@ -26,8 +28,7 @@ pub struct Generator {
     parts: Vec<Part>,
     /// Short logs and blobs, for a script that is kept as a file.
     small: bool,
-    /// Tells what record is due of a list.
-    beside: Option<Driver>,
+    beside: Beside,
 }
 
 type Form = fn(&mut Generator);
@@ -36,7 +37,7 @@ impl Generator {
     pub fn new(seed: u64, parts: &[Part]) -> Generator {
         let random = Random::new(seed);
         let (script, parts) = (Script::new(), parts.to_vec());
-        Generator { random, script, parts, small: false, beside: None }
+        Generator { random, script, parts, small: false, beside: Beside::default() }
     }
 
     /// A long script of all forms.
@@ -76,6 +77,7 @@ fn forms_of(part: Part) -> (&'static [Form], usize) {
         Part::Replay => (&replays::FORMS, 1_000),
         Part::Lists => (&lists::FORMS, 1_000),
         Part::Queues => (&queues::FORMS, 2_000),
+        Part::Lives => (&lives::FORMS, 400),
     }
 }
 

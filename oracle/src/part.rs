@@ -3,7 +3,7 @@
 use crate::protocol::{number, op};
 
 /// Makes the state that all start with.
-const OPEN_NOTHING: [u8; 3] = [op::OPEN, 0, 0];
+pub const OPEN_NOTHING: [u8; 3] = [op::OPEN, 0, 0];
 
 #[derive(Debug, Clone, Copy, PartialEq, Eq)]
 pub enum Part {
@@ -11,10 +11,11 @@ pub enum Part {
     Replay,
     Lists,
     Queues,
+    Lives,
 }
 
 impl Part {
-    pub const ALL: [Part; 4] = [Part::Steps, Part::Replay, Part::Lists, Part::Queues];
+    pub const ALL: [Part; 5] = [Part::Steps, Part::Replay, Part::Lists, Part::Queues, Part::Lives];
 
     pub fn name(self) -> &'static str {
         match self {
@@ -22,6 +23,7 @@ impl Part {
             Part::Replay => "replay",
             Part::Lists => "lists",
             Part::Queues => "queues",
+            Part::Lives => "lives",
         }
     }
 
@@ -35,40 +37,49 @@ impl Part {
         }
     }
 
-    /// The part whose call a command makes. None for commands that only hand something over, look
-    /// at what is there, or take a checksum.
-    pub fn called_by(command: &[u8]) -> Option<Part> {
+    /// The parts whose state bears on a command's answer, or may be changed by it; the first is the
+    /// one that the command belongs to. None for commands that only hand something over, or take a
+    /// checksum.
+    pub fn touched_by(command: &[u8]) -> &'static [Part] {
         match command[0] {
-            op::STEP_AT | op::STEP => Some(Part::Steps),
-            op::REPLAY | op::RUN => Some(Part::Replay),
-            op::INS_INDEX | op::INS_VALUE | op::INS_REF => Some(Part::Lists),
-            op::DROP | op::DROP_REF | op::WRITE => Some(Part::Lists),
-            op::OPEN | op::FLUSH | op::READ_NEXT | op::REPLAY_NEXT => Some(Part::Queues),
-            op::CLEAN | op::CLEAR_REPLAY | op::KILL => Some(Part::Queues),
-            _ => None,
+            op::STEP_AT | op::STEP => &[Part::Steps],
+            op::REPLAY | op::RUN | op::IMAGE_SUM => &[Part::Replay],
+            op::INS_INDEX | op::INS_VALUE | op::INS_REF => &[Part::Lists],
+            op::DROP | op::DROP_REF | op::WRITE | op::LIST_SUM => &[Part::Lists],
+            op::FLUSH | op::READ_NEXT | op::REPLAY_NEXT => &[Part::Queues],
+            op::CLEAN | op::KILL => &[Part::Queues],
+            op::OPEN | op::CLEAR_REPLAY | op::STATE => &[Part::Queues, Part::Lives],
+            op::CLEAR | op::OVERLAYS | op::LAST_ID => &[Part::Lives],
+            op::BEGIN | op::LOOKUP | op::VALUE_INTO => &[Part::Lives, Part::Lists],
+            op::END => &[Part::Lives, Part::Lists, Part::Queues],
+            _ => &[],
         }
     }
 
-    /// The part whose state an answer shows, calls included.
-    pub fn shown_by(command: &[u8]) -> Option<Part> {
+    /// The part whose call a command makes. None for commands that only look.
+    pub fn called_by(command: &[u8]) -> Option<Part> {
         match command[0] {
-            op::IMAGE_SUM => Some(Part::Replay),
-            op::LIST_SUM => Some(Part::Lists),
-            op::STATE => Some(Part::Queues),
-            _ => Part::called_by(command),
+            op::IMAGE_SUM | op::LIST_SUM | op::STATE | op::OVERLAYS => None,
+            op::LOOKUP | op::VALUE_INTO | op::LAST_ID => None,
+            _ => Part::touched_by(command).first().copied(),
         }
+    }
+
+    /// Whether calls of another part count in a script of this one.
+    pub fn counts(self, called: Part) -> bool {
+        self == called || self == Part::Lives && matches!(called, Part::Lists | Part::Queues)
     }
 
     /// Whether both sides' states of this part are the same behind a command, whatever they were
     /// before. `answer` is what 01 demands.
     pub fn brings_together(self, command: &[u8], answer: &[u8]) -> bool {
+        let opened = command[0] == op::OPEN && answer[0] == number::DONE;
         match self {
             Part::Steps => command[0] == op::STEP_AT,
-            Part::Queues => match command[0] {
-                op::OPEN => answer[0] == number::DONE,
-                opcode => opcode == op::FORGE_QUEUES,
-            },
-            Part::Replay | Part::Lists => false,
+            Part::Replay => false,
+            Part::Lists => command[0] == op::NEWLIST,
+            Part::Queues => opened || command[0] == op::FORGE_QUEUES,
+            Part::Lives => opened,
         }
     }
 
@@ -81,6 +92,7 @@ impl Part {
             Part::Lists => command[0] == op::NEWLIST,
             // An OPEN of some files may be refused, and then leaves what was before.
             Part::Queues => command[0] == op::FORGE_QUEUES || command == OPEN_NOTHING,
+            Part::Lives => command == OPEN_NOTHING,
         }
     }
 }

@@ -18,15 +18,24 @@ pub mod op {
     pub const RUN: u8 = 0x0e;
     pub const IMAGE_SUM: u8 = 0x0f;
     pub const OPEN: u8 = 0x10;
+    pub const BEGIN: u8 = 0x11;
+    pub const END: u8 = 0x12;
+    pub const CLEAR: u8 = 0x13;
     pub const FLUSH: u8 = 0x14;
     pub const READ_NEXT: u8 = 0x15;
     pub const REPLAY_NEXT: u8 = 0x16;
     pub const CLEAN: u8 = 0x17;
     pub const CLEAR_REPLAY: u8 = 0x18;
     pub const KILL: u8 = 0x19;
+    pub const LOOKUP: u8 = 0x1a;
+    pub const VALUE_INTO: u8 = 0x1b;
     pub const STATE: u8 = 0x1c;
+    pub const OVERLAYS: u8 = 0x1d;
+    pub const LAST_ID: u8 = 0x1e;
     pub const FORGE_QUEUES: u8 = 0x1f;
+    pub const FORGE_NEXT_ID: u8 = 0x20;
     pub const FORGE_LIST: u8 = 0x21;
+    pub const FORGE_OVERLAY: u8 = 0x22;
     pub const LIST_SUM: u8 = 0x23;
     pub const FORGE_DROP: u8 = 0x24;
     /// An addition to the protocol: docs/ORACLE.md.
@@ -46,6 +55,8 @@ pub mod number {
     pub const CHECKSUM_DIFFERS: u8 = 8;
     pub const NO_ROOM: u8 = 9;
     pub const OUTPUT_TOO_SHORT: u8 = 10;
+    /// The list's id plus 1 isn't the next id.
+    pub const STALE_LIST: u8 = 11;
     pub const USED_UP: u8 = 12;
     pub const RULE_BROKEN: u8 = 13;
     /// Also a slot above 63, and a chunk or value of the wrong length.
@@ -134,6 +145,12 @@ impl<'a> Fields<'a> {
         u64::from_le_bytes(self.take())
     }
 
+    /// A number that need not be there.
+    pub fn file(&mut self) -> Option<u32> {
+        let is_there = self.u8() != 0;
+        Some(self.u32()).filter(|_| is_there)
+    }
+
     pub fn nums(&mut self) -> Vec<u32> {
         let count = self.u16();
         (0..count).map(|_| self.u32()).collect()
@@ -154,7 +171,7 @@ pub fn with_blob(opcode: u8, blob: &[u8]) -> Vec<u8> {
     command
 }
 
-/// Puts a blob behind a command or an answer.
+/// Puts a blob behind a row, that is a command or an answer.
 pub fn put_blob(row: &mut Vec<u8>, blob: &[u8]) {
     row.extend((blob.len() as u32).to_le_bytes());
     row.extend(blob);
@@ -170,10 +187,16 @@ pub fn replaying(opcode: u8, position: u64, expected: u64) -> Vec<u8> {
     [&[opcode], &position.to_le_bytes()[..], &expected.to_le_bytes()].concat()
 }
 
-/// Puts `nums` behind an answer.
-pub fn put_nums(answer: &mut Vec<u8>, nums: &[u32]) {
-    answer.extend((nums.len() as u16).to_le_bytes());
-    answer.extend(nums.iter().flat_map(|num| num.to_le_bytes()));
+/// Puts a number that need not be there behind a row.
+pub fn put_file(row: &mut Vec<u8>, number: Option<u32>) {
+    row.push(number.is_some().into());
+    row.extend(number.unwrap_or(0).to_le_bytes());
+}
+
+/// Puts `nums` behind a row.
+pub fn put_nums(row: &mut Vec<u8>, nums: &[u32]) {
+    row.extend((nums.len() as u16).to_le_bytes());
+    row.extend(nums.iter().flat_map(|num| num.to_le_bytes()));
 }
 
 /// What STEP tells when its answer is 0.

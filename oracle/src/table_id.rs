@@ -1,27 +1,31 @@
 //! What the three kinds of table ids have in common. They stay separate types, as in parity-db.
 
 /// Makes a table id of a `u16` that has an overlay of its own for each number. `$overlays` is the
-/// name under which log.rs asks that kind for the number of overlays.
+/// name under which log.rs asks that kind for the number of overlays. `$field` is one that an id
+/// need not have.
 macro_rules! table_id {
-    ($name:ident, $overlays:ident) => {
+    ($name:ident, $overlays:ident $(, $field:ident: $type:ty)?) => {
         #[derive(Debug, Clone, Copy, PartialEq, Eq, Hash)]
-        pub struct $name(u16);
+        pub struct $name {
+            number: u16,
+            $($field: Option<$type>,)?
+        }
 
         impl $name {
             pub fn from_u16(number: u16) -> Self {
-                $name(number)
+                $name { number, $($field: None,)? }
             }
 
             pub fn as_u16(&self) -> u16 {
-                self.0
+                self.number
             }
 
             pub fn log_index(&self) -> usize {
-                self.0 as usize
+                self.number as usize
             }
 
             pub fn from_log_index(place: usize) -> Self {
-                $name(place as u16)
+                Self::from_u16(place as u16)
             }
 
             pub fn $overlays(_columns: usize) -> usize {
@@ -31,7 +35,7 @@ macro_rules! table_id {
 
         impl std::fmt::Display for $name {
             fn fmt(&self, f: &mut std::fmt::Formatter) -> std::fmt::Result {
-                write!(f, "{}", self.0)
+                write!(f, "{}", self.number)
             }
         }
     };

@@ -156,8 +156,25 @@ fn the_pool_keeps_the_lowest() {
     assert_eq!(cleaned[1], [&[0, 0], &emptied[..], &removed].concat());
 }
 
+/// An END of a list with value 256, and with value 0, which is shared already, beside 256 values.
+#[test]
+fn an_overlay_has_room_for_256_keys() {
+    let table_0_of_300 = "0101010000002c010100";
+    let forge = |index: u16| {
+        let [low, high] = index.to_le_bytes();
+        format!("22010000{low:02x}{high:02x}00000000000001000000000000000000000000000000ff0100")
+    };
+    let shared: Vec<String> = (0..256).map(forge).collect();
+    let mut lines = vec![table_0_of_300];
+    lines.extend(shared.iter().map(String::as_str));
+    lines.extend(["11", "070000000100000000000001000000ff", "1264000000"]);
+    lines.extend(["11", "070000000000000000000001000000ff", "1264000000"]);
+    let numbers: Vec<u8> = answers(&lines).iter().map(|answer| answer[0]).collect();
+    assert_eq!(numbers[257..], [0, 0, 9, 0, 0, 0]);
+}
+
 #[test]
 fn an_opcode_that_is_not_driven() {
-    let overlays = 0x1d;
-    assert_eq!(Driver::new().unwrap().answer(&[overlays]), [0xff]);
+    let unknown = 0x25;
+    assert_eq!(Driver::new().unwrap().answer(&[unknown]), [0xff]);
 }

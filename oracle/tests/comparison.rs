@@ -51,11 +51,14 @@ fn demanded_answers_agree() {
 
 #[test]
 fn every_other_answer_is_a_difference() {
-    let mut run = Run::of(Generator::sample(2, &Part::ALL));
-    for at in 0..run.script.len() {
-        let right = std::mem::replace(&mut run.port[at], "05".into());
-        assert_eq!(run.differs_at(), Some(at));
-        run.port[at] = right;
+    for part in Part::ALL {
+        let mut run = Run::of(Generator::sample(2, &[part]));
+        // Each command would take long.
+        for at in (0..run.script.len()).step_by(5) {
+            let right = std::mem::replace(&mut run.port[at], "05".into());
+            assert_eq!(run.differs_at(), Some(at));
+            run.port[at] = right;
+        }
     }
 }
 
@@ -144,4 +147,36 @@ fn a_name_that_only_the_rust_takes() {
     assert_eq!(run.answers.rust[0], [0xfe]);
     run.port[0] = "fe".into();
     assert_eq!(run.differs_at(), Some(0));
+}
+
+/// The front's opening refused, then a record ended, its list begun anew behind an OPEN.
+fn record_behind_a_moved_front() -> Run {
+    let mut script = front_refused().script[..3].to_vec();
+    script.extend(script_of(&["11", "120e000000", "1d", "23"]));
+    script.extend(script_of(&["100000", "1d", "23", "050100000000000000", "11"]));
+    Run::of(script)
+}
+
+#[test]
+fn a_record_that_ends_behind_a_difference_is_held_against_01() {
+    let mut run = record_behind_a_moved_front();
+    assert_eq!(run.differs_at(), None);
+    // BEGIN is as in the Rust; END, and the overlays and the list behind it, as in 01.
+    for (at, held_against_the_rust) in
+        [(3, true), (4, false), (5, false), (6, false), (8, true), (9, false), (11, true)]
+    {
+        let right = std::mem::replace(&mut run.answers.rust[at], vec![5]);
+        assert_eq!(run.differs_at(), held_against_the_rust.then_some(at));
+        run.answers.rust[at] = right;
+        let right = std::mem::replace(&mut run.answers.demanded[at].answer, vec![5]);
+        assert_eq!(run.differs_at(), (!held_against_the_rust).then_some(at));
+        run.answers.demanded[at].answer = right;
+    }
+}
+
+#[test]
+fn what_leads_to_a_life() {
+    let script = script_of(&["0100", "100000", "050100000000000000", "11", "23", "100000", "1d"]);
+    assert_eq!(leading_to(&script, 4), script[..5]);
+    assert_eq!(leading_to(&script, 6), [&script[..1], &script[5..]].concat());
 }

@@ -1,25 +1,11 @@
 // Answers the run protocol on standard input and output, so that runs of the port can be compared with runs of the Rust.
-mod answer;
-mod bytes;
-mod command;
 mod dispatch;
-mod fault;
-mod forging;
-mod hex;
-mod images;
-mod input;
-mod opening;
-mod output;
-mod queues;
 mod session;
-mod state;
-mod steps;
-mod tables;
 
 use dispatch::dispatch;
-use input::Input;
-use input::TURNS;
-use output::Output;
+use lines::Input;
+use lines::Output;
+use lines::TURNS;
 use session::Session;
 
 // One command a turn.
@@ -48,7 +34,7 @@ fn answer_all(
     out.flushed(input.line, output);
 }
 
-// The longest command is a LOG. The longest answer has at most 65,536 bytes, and its line fits twice into the output.
+// The longest command is a LOG. The longest answer has at most 65,535 bytes, and its line fits twice into the output.
 fn main() {
     let mut chunk = [0u8; 65536];
     let mut command = [0u8; 80005];

@@ -17,6 +17,10 @@ pub struct Tally {
     records_written: u64,
     records_of_the_rust: u64,
     states: u64,
+    overlays: u64,
+    lookups: u64,
+    lookups_that_find: u64,
+    last_ids: u64,
     records_replayed: u64,
     records_refused: u64,
 }
@@ -33,13 +37,15 @@ struct Calls {
 }
 
 impl Tally {
-    /// How many answers to calls of these parts agree.
+    /// How many answers to the calls agree that count for these parts.
     pub fn calls(&self, parts: &[Part]) -> u64 {
-        parts
-            .iter()
-            .map(|part| &self.calls[*part as usize])
-            .map(|calls| calls.same + calls.listed)
-            .sum()
+        let counted = |part: &Part| parts.iter().any(|of| of.counts(*part));
+        Part::ALL.into_iter().filter(counted).map(|part| self.calls_of(part)).sum()
+    }
+
+    fn calls_of(&self, part: Part) -> u64 {
+        let calls = &self.calls[part as usize];
+        calls.same + calls.listed
     }
 
     pub fn count_same(&mut self, command: &[u8], answer: &[u8]) {
@@ -54,6 +60,12 @@ impl Tally {
             op::IMAGE_SUM => self.images += 1,
             op::NEWLIST => self.lists += 1,
             op::STATE => self.states += 1,
+            op::OVERLAYS => self.overlays += 1,
+            op::LAST_ID => self.last_ids += 1,
+            op::LOOKUP | op::VALUE_INTO => {
+                self.lookups += 1;
+                self.lookups_that_find += u64::from(answer[1]);
+            }
             op::WRITE => self.records_written += u64::from(answer[0] == number::DONE),
             _ => {}
         }
@@ -92,7 +104,7 @@ impl fmt::Display for Tally {
     fn fmt(&self, f: &mut fmt::Formatter) -> fmt::Result {
         for part in Part::ALL {
             let calls = &self.calls[part as usize];
-            let all = self.calls(&[part]);
+            let all = self.calls_of(part);
             if all == 0 {
                 continue;
             }
@@ -119,6 +131,10 @@ impl fmt::Display for Tally {
             (self.records_written, "records written agree"),
             (self.records_of_the_rust, "records written by the Rust are read"),
             (self.states, "states of the queues agree"),
+            (self.overlays, "overlays agree"),
+            (self.lookups, "lookups agree"),
+            (self.lookups_that_find, "of them find something"),
+            (self.last_ids, "last ids agree"),
             (self.checksums, "checksums agree"),
         ];
         for (count, what) in others.into_iter().filter(|(count, _)| *count > 0) {

@@ -37,18 +37,23 @@ pub fn crowded_directory(random: &mut Random) -> Directory {
     directory
 }
 
-/// One table or two of each kind, with more places than a list has room for; the image of every
-/// other such directory is one that a script has room for.
+/// With more places than a list has room for; the image of every other such directory is one that a
+/// script has room for.
 pub fn wide_directory(random: &mut Random) -> Directory {
+    let most = random.pick(&[64, 4096]);
+    directory_of_all_kinds(random, 64, most)
+}
+
+/// One table or two of each kind, each with so many places.
+pub fn directory_of_all_kinds(random: &mut Random, least: usize, most: usize) -> Directory {
     let mut directory = Directory::default();
     for kind in Kind::ALL {
         for _ in 0..random.between(1, 2) {
             add_table(random, &mut directory, &[kind]);
         }
     }
-    let most = random.pick(&[64, 4096]);
     for table in &mut directory.tables {
-        table.count = random.between(64, most) as u16;
+        table.count = random.between(least, most) as u16;
     }
     directory
 }

@@ -2,6 +2,8 @@
 
 use super::{
     directories::{crowded_directory, directory_for_image, wide_directory, BREAKS},
+    forging::LIST_BREAKS,
+    queues::with_number,
     Form, Generator,
 };
 use crate::{
@@ -18,24 +20,6 @@ pub const FORMS: [Form; 8] = [
     Generator::lists_under_other_directories,
     Generator::forged_lists_that_fit,
     Generator::forged_lists_that_break_a_rule,
-];
-
-type Forge = fn(&mut Generator, &Directory);
-
-/// Ways to break a rule of a list by forging. Those told to be shown leave a list that any state
-/// type has room for, with no key twice, so that it can be looked at.
-const LIST_BREAKS: [(Forge, bool); 11] = [
-    (Generator::forge_mask_0, true),
-    (Generator::forge_unknown_table, true),
-    (Generator::forge_index_too_large, true),
-    (Generator::forge_short_value, true),
-    (Generator::forge_long_value, false),
-    (Generator::forge_key_twice, false),
-    (Generator::forge_unknown_drop, true),
-    (|generator, directory| generator.forge_too_many(directory, Kind::Index, 33), false),
-    (|generator, directory| generator.forge_too_many(directory, Kind::Value, 33), false),
-    (|generator, directory| generator.forge_too_many(directory, Kind::RefCount, 17), false),
-    (Generator::forge_too_many_drops, false),
 ];
 
 impl Generator {
@@ -156,7 +140,7 @@ impl Generator {
         self.finish_list(&old);
     }
 
-    fn change_a_table(&mut self, directory: &mut Directory) {
+    pub fn change_a_table(&mut self, directory: &mut Directory) {
         if directory.tables.is_empty() {
             return;
         }
@@ -220,83 +204,6 @@ impl Generator {
     }
 }
 
-/// The forging. Index 0 of a table may be listed by then, so the forged ones are others.
-impl Generator {
-    fn forge_mask_0(&mut self, directory: &Directory) {
-        let kind = self.random.pick(&[Kind::Index, Kind::RefCount]);
-        let table = self.table_of(directory, kind);
-        let index = u64::from(table.count) - 2;
-        self.forge_entry(kind, table.number, index, 0, table.place_bytes());
-    }
-
-    fn forge_unknown_table(&mut self, directory: &Directory) {
-        let table = self.random.pick(&directory.tables);
-        let number = self.unknown_number(directory, table.kind);
-        self.forge_entry(table.kind, number, 0, 1, table.place_bytes());
-    }
-
-    fn forge_index_too_large(&mut self, directory: &Directory) {
-        let table = self.random.pick(&directory.tables);
-        let index = self.random.pick(&[table.count.into(), 1 << 16, 1 << 32, u64::MAX]);
-        self.forge_entry(table.kind, table.number, index, 1, table.place_bytes());
-    }
-
-    fn forge_short_value(&mut self, directory: &Directory) {
-        let table = self.table_of(directory, Kind::Value);
-        let length = self.random.below(table.length as usize);
-        self.forge_entry(Kind::Value, table.number, u64::from(table.count) - 2, 0, length);
-    }
-
-    fn forge_long_value(&mut self, directory: &Directory) {
-        let table = self.table_of(directory, Kind::Value);
-        let length = self.random.pick(&[table.length as usize + 1, 513]);
-        self.forge_entry(Kind::Value, table.number, u64::from(table.count) - 2, 0, length);
-    }
-
-    fn forge_key_twice(&mut self, directory: &Directory) {
-        let table = self.random.pick(&directory.tables);
-        for _ in 0..2 {
-            self.forge_entry(table.kind, table.number, 1, 1, table.place_bytes());
-        }
-    }
-
-    fn forge_unknown_drop(&mut self, directory: &Directory) {
-        let kind = self.random.pick(&[Kind::Index, Kind::RefCount]);
-        let number = self.unknown_number(directory, kind);
-        self.forge_drop(kind, number);
-    }
-
-    fn forge_too_many(&mut self, directory: &Directory, kind: Kind, entries: u64) {
-        self.hand_list();
-        let table = self.table_of(directory, kind);
-        for index in 0..entries {
-            self.forge_entry(kind, table.number, index, 1, table.place_bytes());
-        }
-    }
-
-    fn forge_too_many_drops(&mut self, directory: &Directory) {
-        let kind = self.random.pick(&[Kind::Index, Kind::RefCount]);
-        self.hand_list();
-        let table = self.table_of(directory, kind);
-        for _ in 0..17 {
-            self.forge_drop(kind, table.number);
-        }
-    }
-
-    fn forge_entry(&mut self, kind: Kind, table: u16, index: u64, mask: u64, length: usize) {
-        let mut command = keyed(op::FORGE_LIST, table, index);
-        command.insert(1, kind as u8);
-        command.extend(mask.to_le_bytes());
-        command.push(self.random.number() as u8);
-        command.extend((length as u16).to_le_bytes());
-        self.script.push(command);
-    }
-
-    fn forge_drop(&mut self, kind: Kind, table: u16) {
-        self.script.push([&[op::FORGE_DROP, kind as u8], &table.to_le_bytes()[..]].concat());
-    }
-}
-
 /// The commands.
 impl Generator {
     fn hand_list_directory(&mut self) -> Directory {
@@ -315,24 +222,28 @@ impl Generator {
         directory
     }
 
-    fn hand_list(&mut self) {
+    pub fn hand_list(&mut self) {
         let any = self.random.number().max(1);
         let id = self.random.pick(&[1, 2, any, u64::MAX]);
-        self.script.push([&[op::NEWLIST], &id.to_le_bytes()[..]].concat());
+        self.hand_list_of(id);
     }
 
-    fn look_at_list(&mut self) {
+    pub fn hand_list_of(&mut self, id: u64) {
+        self.script.push(with_number(op::NEWLIST, id));
+    }
+
+    pub fn look_at_list(&mut self) {
         self.script.push(vec![op::LIST_SUM]);
     }
 
-    fn table_of(&mut self, directory: &Directory, kind: Kind) -> Table {
+    pub fn table_of(&mut self, directory: &Directory, kind: Kind) -> Table {
         let mut tables = directory.tables.clone();
         tables.retain(|table| table.kind == kind);
         self.random.pick(&tables)
     }
 
     /// A change that fits the directory; nothing if that is empty.
-    fn good_change(&mut self, directory: &Directory) {
+    pub fn good_change(&mut self, directory: &Directory) {
         if directory.tables.is_empty() {
             return;
         }
@@ -346,7 +257,7 @@ impl Generator {
         }
     }
 
-    fn good_insert(&mut self, table: &Table, index: u64) {
+    pub fn good_insert(&mut self, table: &Table, index: u64) {
         let slot = self.random.below(64) as u8;
         self.insert_with(table, table.number, index, slot, 0);
     }
@@ -360,7 +271,7 @@ impl Generator {
             Kind::RefCount => op::INS_REF,
         };
         let length = table.place_bytes().saturating_add_signed(longer);
-        let mut command = keyed(opcode, number, index);
+        let mut command = [&[opcode], &number.to_le_bytes()[..], &index.to_le_bytes()].concat();
         if table.kind != Kind::Value {
             command.push(slot);
         }
@@ -386,7 +297,7 @@ impl Generator {
     }
 
     /// Each of the calls on a list once.
-    fn each_call(&mut self, directory: &Directory) {
+    pub fn each_call(&mut self, directory: &Directory) {
         for kind in Kind::ALL {
             let same_kind = directory.tables.iter().copied().filter(|table| table.kind == kind);
             let tables: Vec<Table> = same_kind.collect();
@@ -401,10 +312,6 @@ impl Generator {
         let length = self.random.pick(&[0, 14, LONGEST_OUTPUT]);
         self.write_into(length);
     }
-}
-
-fn keyed(opcode: u8, table: u16, index: u64) -> Vec<u8> {
-    [&[opcode], &table.to_le_bytes()[..], &index.to_le_bytes()].concat()
 }
 
 fn drop_of(kind: Kind) -> Option<u8> {

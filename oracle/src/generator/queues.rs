@@ -6,7 +6,7 @@ use super::{records::known_tags_with_few_bytes, Form, Generator};
 use crate::{
     demanded::Demanded,
     names::Found,
-    protocol::{op, put_nums, tag, with_blob},
+    protocol::{op, put_file, put_nums, tag, with_blob, Fields},
 };
 
 pub const FORMS: [Form; 7] = [
@@ -21,28 +21,38 @@ pub const FORMS: [Form; 7] = [
 
 /// Where FORGE_QUEUES puts which numbers.
 #[derive(Clone, Default)]
-struct Queues {
-    appending: Option<u32>,
-    size: u64,
-    reading: Option<u32>,
-    read_queue: Vec<u32>,
-    cleanup: Vec<u32>,
-    pool: Vec<u32>,
-    replay: Vec<u32>,
-    next: u32,
-    dirty: bool,
+pub struct Queues {
+    pub appending: Option<u32>,
+    pub size: u64,
+    pub reading: Option<u32>,
+    pub read_queue: Vec<u32>,
+    pub cleanup: Vec<u32>,
+    pub pool: Vec<u32>,
+    pub replay: Vec<u32>,
+    pub next: u32,
+    pub dirty: bool,
 }
 
 impl Queues {
-    fn command(&self) -> Vec<u8> {
+    /// As STATE shows them.
+    pub fn from_state(state: &[u8]) -> Queues {
+        let mut fields = Fields(state);
+        Queues {
+            appending: fields.file(),
+            size: fields.u64(),
+            reading: fields.file(),
+            read_queue: fields.nums(),
+            cleanup: fields.nums(),
+            pool: fields.nums(),
+            ..Queues::default()
+        }
+    }
+
+    pub fn command(&self) -> Vec<u8> {
         let mut command = vec![op::FORGE_QUEUES];
-        let put = |command: &mut Vec<u8>, number: Option<u32>| {
-            command.push(number.is_some().into());
-            command.extend(number.unwrap_or(0).to_le_bytes());
-        };
-        put(&mut command, self.appending);
+        put_file(&mut command, self.appending);
         command.extend(self.size.to_le_bytes());
-        put(&mut command, self.reading);
+        put_file(&mut command, self.reading);
         for queue in [&self.read_queue, &self.cleanup, &self.pool, &self.replay] {
             put_nums(&mut command, queue);
         }
@@ -58,11 +68,11 @@ impl Queues {
     }
 }
 
-type Break = fn(&mut Generator, &mut Queues);
+pub type Break = fn(&mut Generator, &mut Queues);
 
 /// Ways to break a rule of the queues. Those told to be shown leave a state that any state type
 /// has room for, so that it can be looked at.
-const QUEUE_BREAKS: [(Break, bool); 7] = [
+pub const QUEUE_BREAKS: [(Break, bool); 7] = [
     (Generator::number_in_two_places, true),
     (Generator::number_twice_in_a_queue, true),
     (Generator::number_not_below_the_next, true),
@@ -229,11 +239,7 @@ impl Generator {
     /// Every call under each broken rule; then the same queues without the break.
     fn broken_queues(&mut self) {
         for (broken, shown) in QUEUE_BREAKS {
-            let files = self.random.below(8);
-            let good = self.queues(files);
-            let mut queues = good.clone();
-            broken(self, &mut queues);
-            self.script.push(queues.command());
+            let good = self.hand_broken_queues(broken);
             let calls = [op::REPLAY_NEXT, op::CLEAR_REPLAY, op::KILL].map(|opcode| vec![opcode]);
             self.script.extend(calls);
             self.script.push(with_number(op::FLUSH, 0));
@@ -245,6 +251,16 @@ impl Generator {
             self.script.push(good.command());
             self.some_calls(2, good.size);
         }
+    }
+
+    /// Hands over queues that break a rule, and tells what they are without the break.
+    pub fn hand_broken_queues(&mut self, broken: Break) -> Queues {
+        let files = self.random.below(8);
+        let good = self.queues(files);
+        let mut queues = good.clone();
+        broken(self, &mut queues);
+        self.script.push(queues.command());
+        good
     }
 
     /// Tags with few bytes behind them, at the front of the read queue and in the file being read.
@@ -422,11 +438,11 @@ impl Generator {
     }
 }
 
-fn with_number(opcode: u8, number: u64) -> Vec<u8> {
+pub fn with_number(opcode: u8, number: u64) -> Vec<u8> {
     [&[opcode], &number.to_le_bytes()[..]].concat()
 }
 
-fn reading(position: u64, validate: u8) -> Vec<u8> {
+pub fn reading(position: u64, validate: u8) -> Vec<u8> {
     [&with_number(op::READ_NEXT, position)[..], &[validate]].concat()
 }
 

@@ -3,7 +3,6 @@
 use super::{log_bytes::LogBytes, Generator};
 use crate::{
     directory::Directory,
-    log::driver::Driver,
     protocol::{op, LONGEST_IMAGE},
     written::id_of,
 };
@@ -32,10 +31,10 @@ impl Generator {
         let last = |script: &[Vec<u8>], opcode| script.iter().rposition(|row| row[0] == opcode);
         let list = last(&self.script, op::NEWLIST).expect("a list is handed over");
         let directory = last(&self.script[..list], op::DIR).expect("a directory is handed over");
-        let beside = self.beside.get_or_insert_with(|| Driver::new().expect("a driver"));
-        beside.answer(&self.script[directory]);
-        self.script[list..].iter().for_each(|command| drop(beside.answer(command)));
-        beside.record_due().unwrap_or_default()
+        let due = [&self.script[directory..=directory], &self.script[list..]].concat();
+        due.iter().for_each(|command| drop(self.side().answer(command)));
+        self.take_from_here();
+        self.record_due()
     }
 
     /// The list's record at the front of a log, alone or with other bytes behind it.

@@ -1,10 +1,13 @@
 //! Answers the run protocol out of log.rs: one state, and one function for each opcode.
 
+mod clearing;
+mod ending;
 mod entries;
 mod image;
 mod list;
 mod lists;
 mod log_file;
+mod overlays;
 mod queues;
 mod reading;
 mod replay;
@@ -59,15 +62,24 @@ impl Driver {
             op::RUN => self.run(&mut fields),
             op::IMAGE_SUM => self.image_sum(),
             op::OPEN => self.open(&mut fields),
+            op::BEGIN => self.begin(),
+            op::END => self.end(&mut fields),
+            op::CLEAR => self.clear(&mut fields),
             op::FLUSH => self.flush(&mut fields),
             op::READ_NEXT => self.read_next(&mut fields),
             op::REPLAY_NEXT => self.replay_next(),
             op::CLEAN => self.clean(&mut fields),
             op::CLEAR_REPLAY => self.clear_replay(),
             op::KILL => self.kill(),
+            op::LOOKUP => self.lookup(&mut fields),
+            op::VALUE_INTO => self.value_into(&mut fields),
             op::STATE => self.state.answer(),
+            op::OVERLAYS => self.overlays(),
+            op::LAST_ID => self.last_id(&mut fields),
             op::FORGE_QUEUES => self.forge_queues(&mut fields),
+            op::FORGE_NEXT_ID => self.forge_next_id(&mut fields),
             op::FORGE_LIST => self.forge_list(&mut fields),
+            op::FORGE_OVERLAY => self.forge_overlay(&mut fields),
             op::LIST_SUM => self.list.sum(),
             op::FORGE_DROP => self.forge_drop(&mut fields),
             op::WRITE => self.write(&mut fields),
@@ -83,6 +95,19 @@ impl Driver {
     fn log(&mut self, fields: &mut Fields) -> Vec<u8> {
         self.log_file.replace(fields.blob());
         vec![number::DONE]
+    }
+}
+
+#[cfg(test)]
+impl Driver {
+    /// A driver that has taken these commands, none of which it refuses.
+    fn after(lines: &[&str]) -> Driver {
+        let mut driver = Driver::new().unwrap();
+        for line in lines {
+            let command = crate::protocol::from_hex(line).unwrap();
+            assert_eq!(driver.answer(&command)[0], number::DONE, "{line}");
+        }
+        driver
     }
 }
 

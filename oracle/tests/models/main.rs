@@ -81,3 +81,32 @@ fn queues() {
     ];
     try_part(Part::Queues, &faults);
 }
+
+#[test]
+fn lives() {
+    let faults = [
+        Fault::JoinsSharedMasks,
+        Fault::ClearsAnyId,
+        Fault::IndexSetsLastId,
+        Fault::SharedBeforeLocal,
+        Fault::ClearsUnchecked,
+        Fault::ClearingForgetsMask0,
+        Fault::DropsClear,
+        Fault::ClearingSetsTheNextId,
+        Fault::ClearsTheLastId,
+        Fault::KeyInBothCountsTwice,
+        Fault::StaleBehindRoom,
+        Fault::NumbersBeforeOverlays,
+        Fault::ShortBeforeFiles,
+        Fault::SizeUntested,
+        Fault::PoolFromTheTop,
+        Fault::EndTakesTheList,
+        Fault::BeginsTheLastId,
+        Fault::ReplayClearedKeepsOverlays,
+        Fault::ReplayClearedKeepsLastIds,
+        Fault::CopyEmptiesTheRest,
+        Fault::ColumnOfAByte,
+        Fault::OverlayRoomUntested,
+    ];
+    try_part(Part::Lives, &faults);
+}

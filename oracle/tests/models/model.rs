@@ -2,15 +2,19 @@
 //! or the driver. It can be given a fault, to see that a comparison finds it.
 
 mod directory;
+mod ends;
 mod lists;
+mod overlays;
 mod queues;
 mod replay;
 mod writer;
 
 use directory::Table;
 use lists::List;
+use overlays::Overlays;
 use queues::Queues;
 use replay::opening;
+use std::sync::LazyLock;
 
 #[derive(Clone, Copy, PartialEq, Eq, Debug)]
 pub enum Fault {
@@ -45,6 +49,28 @@ pub enum Fault {
     KeepsTheHighest,
     ReadingBehindReplay,
     KillsCleanup,
+    JoinsSharedMasks,
+    ClearsAnyId,
+    IndexSetsLastId,
+    SharedBeforeLocal,
+    ClearsUnchecked,
+    ClearingForgetsMask0,
+    DropsClear,
+    ClearingSetsTheNextId,
+    ClearsTheLastId,
+    KeyInBothCountsTwice,
+    StaleBehindRoom,
+    NumbersBeforeOverlays,
+    ShortBeforeFiles,
+    SizeUntested,
+    PoolFromTheTop,
+    EndTakesTheList,
+    BeginsTheLastId,
+    ReplayClearedKeepsOverlays,
+    ReplayClearedKeepsLastIds,
+    CopyEmptiesTheRest,
+    ColumnOfAByte,
+    OverlayRoomUntested,
 }
 
 pub struct Model {
@@ -53,6 +79,7 @@ pub struct Model {
     image: Vec<u8>,
     log: Vec<u8>,
     list: List,
+    overlays: Overlays,
     queues: Queues,
 }
 
@@ -64,6 +91,7 @@ impl Model {
             image: Vec::new(),
             log: Vec::new(),
             list: List::new(1),
+            overlays: Overlays::new(),
             queues: Queues::new(),
         }
     }
@@ -95,6 +123,8 @@ impl Model {
             0x05..=0x0a | 0x21 | 0x23 | 0x24 => self.answer_of_list(command[0], &mut take),
             0xf0 => self.write(take.number(4) as usize),
             0x10 | 0x14..=0x19 | 0x1c | 0x1f => self.answer_of_queues(command[0], &mut take),
+            0x11..=0x13 | 0x20 => self.answer_of_records(command[0], &mut take),
+            0x1a | 0x1b | 0x1d | 0x1e | 0x22 => self.answer_of_overlays(command[0], &mut take),
             0x0d => self.replay(take.number(8), take.number(8)),
             0x0e => self.run(take.number(8), take.number(8)),
             0x0f => {
@@ -123,8 +153,12 @@ fn hex(bytes: &[u8]) -> String {
 
 /// ITU-T V.42's, low bit first.
 pub fn checksum(bytes: &[u8]) -> u32 {
-    let step = |remainder: u32| (remainder >> 1) ^ (0xedb8_8320 & (remainder & 1).wrapping_neg());
-    let table: Vec<u32> = (0..256).map(|byte| (0..8).fold(byte, |all, _| step(all))).collect();
+    static TABLE: LazyLock<Vec<u32>> = LazyLock::new(|| {
+        let step =
+            |remainder: u32| (remainder >> 1) ^ (0xedb8_8320 & (remainder & 1).wrapping_neg());
+        (0..256).map(|byte| (0..8).fold(byte, |all, _| step(all))).collect()
+    });
+    let table = &*TABLE;
     let shifted = |all: u32, byte: &u8| (all >> 8) ^ table[((all ^ *byte as u32) & 255) as usize];
     !bytes.iter().fold(u32::MAX, shifted)
 }
@@ -147,6 +181,11 @@ impl<'a> Take<'a> {
         let length = self.number(4) as usize;
         self.bytes(length)
     }
+}
+
+/// Puts a number behind an answer.
+pub fn put(answer: &mut Vec<u8>, number: u64, length: usize) {
+    answer.extend(&number.to_le_bytes()[..length]);
 }
 
 pub fn number(bytes: &[u8]) -> u64 {

@@ -1,22 +1,14 @@
 -- `answer_all` ends, and each call in it is handed what it asks for. Assumes nothing.
 use borrow.Author.Needs.{needs}
 use Prim.Native.Nat.{_≤_}
-use Rattle.compare.specs.Bounds.{Held, Kept}
+use Rattle.lines.specs.Bounds.{Held}
+use Rattle.reading.specs.Bounds.{Kept}
 use Rattle.compare.proofs.answer_all.Statement.{statement}
 use Rattle.compare.proofs.answer_all.Tie as tie
-use Rattle.compare.proofs.answer_all.Reads as reads
-use Rattle.compare.proofs.answer_all.Lts as lts
-use Rattle.compare.proofs.dispatch.dispatch.Reads as dispatch-reads
-use Rattle.compare.proofs.input.Input.new.Reads as input-Input-new-reads
-use Rattle.compare.proofs.input.Input.next_command.Reads as next-command-reads
-use Rattle.compare.proofs.output.Output.flushed.Reads as flushed-reads
-use Rattle.compare.proofs.output.Output.new.Reads as output-Output-new-reads
-use Rattle.compare.proofs.output.Output.take.Reads as take-reads
-use Rattle.compare.proofs.session.Session.new.Reads as session-Session-new-reads
 
 abbrev Inv-loop : tie.InvT-loop
 Inv-loop chunk₀ command₀ log₀ image₀ answer₀ output₀ input₀ session₀ out₀ turns₀ chunk command log image answer output input session out turns =
-    (Held input) × (Kept session) × (out .filled ≤ 131071)
+    (Held input) × (Kept (session .reading)) × (out .filled ≤ 131071)
 
 abbrev μ-loop : tie.MeasureT-loop
 μ-loop chunk₀ command₀ log₀ image₀ answer₀ output₀ input₀ session₀ out₀ turns₀ chunk command log image answer output input session out turns =

@@ -3,7 +3,7 @@
 use super::super::{
     IndexChunk, IndexLogOverlay, RefCountChunk, RefCountLogOverlay, ValueLogOverlay,
 };
-use crate::protocol::Fields;
+use crate::{directory::Kind, protocol::Fields};
 use std::hash::BuildHasher;
 
 pub struct Entry<'a> {
@@ -20,11 +20,34 @@ impl Entry<'_> {
         (self.table, self.index)
     }
 
-    /// The checksum stands for the bytes.
-    pub fn put_sum(&self, answer: &mut Vec<u8>) {
-        answer.extend(self.mask.to_le_bytes());
-        answer.extend(crc32fast::hash(self.bytes).to_le_bytes());
+    /// What can be said of an entry without a directory.
+    pub fn keeps_the_rules(&self, kind: Kind) -> bool {
+        match kind {
+            Kind::Index | Kind::RefCount => self.mask != 0,
+            Kind::Value => (1..=512).contains(&self.bytes.len()),
+        }
     }
+}
+
+/// How many, then each with its key, its id if one is to be shown, its mask, and a checksum for its
+/// bytes.
+pub fn put_entries(answer: &mut Vec<u8>, entries: &[Entry], id: fn(&Entry) -> Option<u64>) {
+    answer.extend((entries.len() as u16).to_le_bytes());
+    for entry in entries {
+        answer.extend(entry.table.to_le_bytes());
+        answer.extend(entry.index.to_le_bytes());
+        answer.extend(id(entry).into_iter().flat_map(u64::to_le_bytes));
+        answer.extend(entry.mask.to_le_bytes());
+        answer.extend(crc32fast::hash(entry.bytes).to_le_bytes());
+    }
+}
+
+/// The entries of several tables by table, then index: the Rust's maps have no order.
+pub fn sorted<'a>(overlays: impl Iterator<Item = (u16, &'a dyn Overlay)>) -> Vec<Entry<'a>> {
+    let mut entries: Vec<Entry> =
+        overlays.flat_map(|(table, overlay)| overlay.entries(table)).collect();
+    entries.sort_by_key(Entry::key);
+    entries
 }
 
 /// The end of a forging command: a mask, and the bytes as a fill and a length.

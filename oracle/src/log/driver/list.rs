@@ -2,7 +2,7 @@
 
 use super::{
     super::{IndexTableId, LogChange, RefCountTableId, ValueTableId},
-    entries::{Entry, Overlay},
+    entries::{put_entries, sorted, Entry, Overlay},
 };
 use crate::{
     directory::{Directory, Kind},
@@ -21,14 +21,18 @@ fn room_for(kind: Kind) -> usize {
 
 pub struct List {
     change: LogChange,
-    /// An entry was forged that the Rust's maps can't hold. Such a list breaks a rule, and no call
-    /// shows it.
-    beyond_the_rust: bool,
+    /// An entry of that kind was forged that the Rust's maps can't hold. Such a list breaks a rule,
+    /// and no call shows it.
+    beyond_the_rust: [bool; 3],
 }
 
 impl List {
     pub fn new(id: u64) -> List {
-        List { change: LogChange::new(id), beyond_the_rust: false }
+        List::of(LogChange::new(id))
+    }
+
+    pub fn of(change: LogChange) -> List {
+        List { change, beyond_the_rust: [false; 3] }
     }
 
     pub fn id(&self) -> u64 {
@@ -66,13 +70,8 @@ impl List {
         }
     }
 
-    /// Sorted by table, then index: the Rust's maps have no order.
     pub fn entries(&self, kind: Kind) -> Vec<Entry<'_>> {
-        let overlays = self.overlays(kind).into_iter();
-        let mut entries: Vec<Entry> =
-            overlays.flat_map(|(table, overlay)| overlay.entries(table)).collect();
-        entries.sort_by_key(Entry::key);
-        entries
+        sorted(self.overlays(kind).into_iter())
     }
 
     pub fn drops(&self, kind: Kind) -> Vec<u16> {
@@ -85,16 +84,23 @@ impl List {
         }
     }
 
-    /// Room kept, no key twice, no mask 0, every key, value and drop fits the directory.
+    /// Those of its overlays, room for drops, and every key, value and drop fits the directory.
     pub fn keeps_the_rules(&self, directory: &Directory) -> bool {
-        let kept = |kind| {
+        Kind::ALL.into_iter().all(|kind| {
             let (entries, drops) = (self.entries(kind), self.drops(kind));
-            entries.len() <= room_for(kind)
+            self.overlay_keeps_the_rules(kind)
                 && drops.len() <= MOST_DROPS
                 && entries.iter().all(|entry| fits(entry, kind, directory))
                 && drops.iter().all(|number| directory.find(kind, *number).is_some())
-        };
-        !self.beyond_the_rust && Kind::ALL.into_iter().all(kept)
+        })
+    }
+
+    /// Room kept, no key twice, no mask 0: what can be said without a directory.
+    pub fn overlay_keeps_the_rules(&self, kind: Kind) -> bool {
+        let entries = self.entries(kind);
+        !self.beyond_the_rust[kind as usize]
+            && entries.len() <= room_for(kind)
+            && entries.iter().all(|entry| entry.keeps_the_rules(kind))
     }
 
     /// A key that is listed already needs no room.
@@ -106,7 +112,7 @@ impl List {
 
     pub fn forge(&mut self, kind: Kind, entry: &Entry) {
         let held = self.overlay_of(kind, entry.table).put(entry);
-        self.beyond_the_rust |= !held;
+        self.beyond_the_rust[kind as usize] |= !held;
     }
 
     pub fn forge_drop(&mut self, kind: Kind, table: u16) {
@@ -132,17 +138,29 @@ impl List {
         })
     }
 
+    /// The list once more, for `end_record`, which takes it by value and asks a value's table for
+    /// its column.
+    pub fn copy(&self, directory: &Directory) -> LogChange {
+        let mut copy = List::new(self.id());
+        for kind in Kind::ALL {
+            self.entries(kind).iter().for_each(|entry| copy.forge(kind, entry));
+            self.drops(kind).into_iter().for_each(|table| copy.forge_drop(kind, table));
+        }
+        let mut change = copy.change;
+        let with_column = |id: ValueTableId| {
+            let table = directory.find(Kind::Value, id.as_u16()).expect("a list that fits");
+            id.in_column(table.column)
+        };
+        let values = change.local_values.into_iter();
+        change.local_values = values.map(|(id, overlay)| (with_column(id), overlay)).collect();
+        change
+    }
+
     /// What LIST_SUM tells.
     pub fn sum(&self) -> Vec<u8> {
         let mut answer = self.id().to_le_bytes().to_vec();
         for kind in Kind::ALL {
-            let entries = self.entries(kind);
-            answer.extend((entries.len() as u16).to_le_bytes());
-            for entry in entries {
-                answer.extend(entry.table.to_le_bytes());
-                answer.extend(entry.index.to_le_bytes());
-                entry.put_sum(&mut answer);
-            }
+            put_entries(&mut answer, &self.entries(kind), |_| None);
         }
         for kind in [Kind::Index, Kind::RefCount] {
             let drops = self.drops(kind).into_iter().map(u32::from);
@@ -154,8 +172,6 @@ impl List {
 
 fn fits(entry: &Entry, kind: Kind, directory: &Directory) -> bool {
     directory.find(kind, entry.table).is_some_and(|table| {
-        entry.index < table.count.into()
-            && (kind == Kind::Value || entry.mask != 0)
-            && entry.bytes.len() == table.place_bytes()
+        entry.index < table.count.into() && entry.bytes.len() == table.place_bytes()
     })
 }

@@ -130,7 +130,7 @@ impl Driver {
     }
 
     pub fn clear_replay(&mut self) -> Vec<u8> {
-        if !self.state.keeps_the_rules() {
+        if !self.state.keeps_the_rules() || !self.state.overlays_keep_the_rules() {
             return vec![number::RULE_BROKEN];
         }
         self.state.log.clear_replay_logs();
@@ -157,15 +157,13 @@ impl Driver {
     }
 }
 
-/// What a generator needs to lead a log's life: END isn't driven, so that records are ended here and
-/// the state that they leave is handed over as a forged one.
+/// What a generator needs to lead a log's life for ports that don't speak END yet: records are ended
+/// here, and the state that they leave is handed over as a forged one.
 impl Driver {
     /// Lets the Rust begin and end a record of so many drops. The command that makes the state it
     /// leaves, or none if document 01 has no file for the record.
     pub fn end_a_record(&mut self, drops: u16) -> Option<Vec<u8>> {
-        if !self.state.has_a_file_to_append_to() {
-            return None;
-        }
+        self.state.test_append(0).ok()?;
         let mut writer = self.state.log.begin_record();
         (0..drops).for_each(|table| writer.drop_table(IndexTableId::from_u16(table)));
         let change = writer.drain();

@@ -1,4 +1,4 @@
-//! What STEP and REPLAY have in common: an opening, an action and its payload, and their numbers.
+//! What STEP, REPLAY and CLEAR have in common: an opening, an action and its payload, and their numbers.
 
 use super::{
     super::{
@@ -10,6 +10,7 @@ use super::{
 use crate::{
     directory::{Directory, Kind},
     error::{Error, Result},
+    listed::Listed,
     protocol::{number, Stepped},
 };
 use std::io::ErrorKind;
@@ -75,6 +76,26 @@ fn read_entries(reader: &mut LogReader, entry_bytes: usize) -> Result<Vec<u8>> {
         payload.extend(entry);
     }
     Ok(payload)
+}
+
+/// Reads up to the record's end. What the Rust doesn't test is told from the bytes before its
+/// reader takes them: so 4, 6 and 7 come where document 01 has them.
+pub fn check(
+    reader: &mut LogReader,
+    from_record: &[u8],
+    directory: &Directory,
+) -> std::result::Result<(), u8> {
+    loop {
+        let rest = &from_record[reader.read_bytes() as usize..];
+        if let Some((_, number)) = Listed::inside(directory, rest) {
+            return Err(number);
+        }
+        let action = next_action(reader).map_err(number_of)?;
+        if action.tag == END_RECORD {
+            return Ok(());
+        }
+        read_payload(reader, &action, directory).map_err(number_of)?;
+    }
 }
 
 pub fn number_of(error: Error) -> u8 {

@@ -2,15 +2,10 @@
 //! then it is reset, and what it reads again is applied to the image.
 
 use super::{
-    super::LogReader,
-    reading::{next_action, number_of, open_record, read_payload},
+    reading::{check, next_action, open_record, read_payload},
     Driver,
 };
-use crate::{
-    directory::Directory,
-    listed::Listed,
-    protocol::{number, tag, Fields},
-};
+use crate::protocol::{number, tag, Fields};
 
 impl Driver {
     pub fn replay(&mut self, fields: &mut Fields) -> Vec<u8> {
@@ -61,22 +56,6 @@ impl Driver {
             let payload = read_payload(&mut reader, &action, &self.directory);
             self.image.apply(&action, &payload.expect("read before"), &self.directory);
         }
-    }
-}
-
-/// Reads up to the record's end. What the Rust doesn't test is told from the bytes before its
-/// reader takes them: so 4, 6 and 7 come where document 01 has them.
-fn check(reader: &mut LogReader, from_record: &[u8], directory: &Directory) -> Result<(), u8> {
-    loop {
-        let rest = &from_record[reader.read_bytes() as usize..];
-        if let Some((_, number)) = Listed::inside(directory, rest) {
-            return Err(number);
-        }
-        let action = next_action(reader).map_err(number_of)?;
-        if action.tag == tag::END {
-            return Ok(());
-        }
-        read_payload(reader, &action, directory).map_err(number_of)?;
     }
 }
 

@@ -1,12 +1,15 @@
 //! The log state: a `Log` of log.rs in a folder of its own, with real files.
 
-use super::super::{Appending, Log, LogOverlays, Reading, MAX_LOG_POOL_SIZE};
+use super::{
+    super::{Appending, Log, LogOverlays, Reading, MAX_LOG_POOL_SIZE},
+    overlays::Shared,
+};
 use crate::{
     error::Result,
     names::{self, Found, MOST_FILES},
     options::{Options, COLUMNS},
     parking_lot::RwLock,
-    protocol::{op, put_nums, Fields},
+    protocol::{number, op, put_file, put_nums, Fields},
     scratch::Scratch,
 };
 use std::{
@@ -24,6 +27,8 @@ const SIZE_BOUND: u64 = 1 << 63;
 
 pub struct State {
     pub log: Log,
+    /// What is known of its overlays.
+    pub shared: Shared,
     /// Holds the log's files; removed with them.
     folder: Scratch,
 }
@@ -35,7 +40,7 @@ impl State {
     pub fn new() -> io::Result<State> {
         let folder = Scratch::new()?;
         let log = open(folder.path()).expect("a Log over an empty folder");
-        Ok(State { log, folder })
+        Ok(State { log, shared: Shared::default(), folder })
     }
 
     /// `Log::open` on a folder with these files, and which of them it has removed, in the order
@@ -46,7 +51,7 @@ impl State {
             let path = folder.path().join(OsStr::from_bytes(&file.name));
             fs::write(path, &file.bytes).expect("writing a log's file");
         }
-        let state = State { log: open(folder.path())?, folder };
+        let state = State { log: open(folder.path())?, shared: Shared::default(), folder };
         state.order_ties();
         let there = state.numbers_there();
         let taken = found.iter().filter_map(Found::taken);
@@ -115,13 +120,22 @@ impl State {
         numbers.extend(self.cleanup());
         numbers.extend(self.pool());
         numbers.extend(self.log.replay_queue.read().iter().map(|(number, _, _)| *number));
-        numbers.extend(self.log.appending.read().as_ref().map(|appending| appending.id));
+        numbers.extend(self.appending());
         numbers.extend(self.reading());
         numbers
     }
 
+    /// The file being appended to.
+    pub fn appending(&self) -> Option<u32> {
+        self.log.appending.read().as_ref().map(|appending| appending.id)
+    }
+
     pub fn size(&self) -> u64 {
         self.log.appending.read().as_ref().map_or(0, |appending| appending.size)
+    }
+
+    pub fn next_id(&self) -> u64 {
+        self.log.next_record_id.load(Relaxed)
     }
 
     pub fn answer(&self) -> Vec<u8> {
@@ -133,7 +147,7 @@ impl State {
             answer.extend(id.to_le_bytes());
         }
         answer.extend(self.log.next_log_id.load(Relaxed).to_le_bytes());
-        answer.extend(self.log.next_record_id.load(Relaxed).to_le_bytes());
+        answer.extend(self.next_id().to_le_bytes());
         answer.push(self.log.dirty.load(Relaxed).into());
         answer
             .extend(self.overlays().read().last_record_ids.iter().flat_map(|id| id.to_le_bytes()));
@@ -143,10 +157,9 @@ impl State {
     /// What STATE and FORGE_QUEUES have in common: all places but the replay queue.
     fn places(&self) -> Vec<u8> {
         let mut places = Vec::new();
-        let appending = self.log.appending.read().as_ref().map(|appending| appending.id);
-        put_number(&mut places, appending);
+        put_file(&mut places, self.appending());
         places.extend(self.size().to_le_bytes());
-        put_number(&mut places, self.reading());
+        put_file(&mut places, self.reading());
         for queue in [&self.log.read_queue, &self.log.cleanup_queue, &self.log.log_pool] {
             put_nums(&mut places, &numbers_of(queue));
         }
@@ -164,12 +177,17 @@ impl State {
         command
     }
 
-    /// Whether a record that ends now finds a file to go into: 9 and 12 of 01.
-    pub fn has_a_file_to_append_to(&self) -> bool {
-        let needs_new = self.log.appending.read().is_none() && self.pool().is_empty();
-        let all_used = self.numbers().len() == MOST_FILES;
-        let next = self.log.next_log_id.load(Relaxed);
-        !needs_new || !(all_used || next == u32::MAX)
+    /// Whether a record of that length finds a file to go into: 9, 12.
+    pub fn test_append(&self, length: u64) -> std::result::Result<(), u8> {
+        let needs_new = self.appending().is_none() && self.pool().is_empty();
+        let last = self.log.next_log_id.load(Relaxed) == u32::MAX;
+        if needs_new && self.numbers().len() == MOST_FILES {
+            Err(number::NO_ROOM)
+        } else if needs_new && last || self.size() + length >= SIZE_BOUND {
+            Err(number::USED_UP)
+        } else {
+            Ok(())
+        }
     }
 
     /// Puts a state together that no call makes, with a file for each number in an empty folder.
@@ -177,12 +195,12 @@ impl State {
         for number in self.numbers_there() {
             fs::remove_file(self.path_of(number)).expect("removing a log's file");
         }
-        let appending = take_number(fields);
+        let appending = fields.file();
         let size = fields.u64();
         *self.log.appending.write() =
             appending.map(|id| Appending { id, file: BufWriter::new(self.file_of(id)), size });
         *self.log.reading.write() =
-            take_number(fields).map(|id| Reading { id, file: BufReader::new(self.file_of(id)) });
+            fields.file().map(|id| Reading { id, file: BufReader::new(self.file_of(id)) });
         for queue in [&self.log.read_queue, &self.log.cleanup_queue, &self.log.log_pool] {
             let numbers = fields.nums().into_iter();
             *queue.write() = numbers.map(|number| (number, self.file_of(number))).collect();
@@ -214,15 +232,4 @@ fn can_be_a_file(name: &[u8]) -> bool {
 
 fn numbers_of(queue: &Queue) -> Vec<u32> {
     queue.read().iter().map(|(number, _)| *number).collect()
-}
-
-fn put_number(answer: &mut Vec<u8>, number: Option<u32>) {
-    answer.push(number.is_some().into());
-    answer.extend(number.unwrap_or(0).to_le_bytes());
-}
-
-fn take_number(fields: &mut Fields) -> Option<u32> {
-    let is_there = fields.u8() != 0;
-    let number = fields.u32();
-    is_there.then_some(number)
 }

@@ -13,7 +13,7 @@ use std::{
 };
 
 /// What fills an output before a record is written to its front.
-const FILL: u8 = 0x5a;
+pub const FILL: u8 = 0x5a;
 
 impl Driver {
     pub fn write(&mut self, fields: &mut Fields) -> Vec<u8> {

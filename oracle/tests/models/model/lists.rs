@@ -6,11 +6,18 @@ use super::{
     Fault, Model, Take,
 };
 
+#[derive(Clone)]
 pub struct Entry {
     pub table: u64,
     pub index: u64,
     pub mask: u64,
     pub bytes: Vec<u8>,
+}
+
+impl Entry {
+    pub fn key(&self) -> (u64, u64) {
+        (self.table, self.index)
+    }
 }
 
 /// By kind: 0 index, 1 value, 2 reference count.
@@ -21,7 +28,7 @@ pub struct List {
     pub drops: [Vec<u64>; 3],
 }
 
-const ROOM: [usize; 3] = [32, 32, 16];
+pub const ROOM: [usize; 3] = [32, 32, 16];
 
 impl List {
     pub fn new(id: u64) -> List {
@@ -31,7 +38,7 @@ impl List {
     fn entries_keep_the_rules(&self, tables: &[Table]) -> bool {
         (0..3).all(|kind| {
             let entries = &self.entries[kind];
-            let mut keys: Vec<_> = entries.iter().map(|entry| (entry.table, entry.index)).collect();
+            let mut keys: Vec<_> = entries.iter().map(Entry::key).collect();
             keys.sort();
             keys.dedup();
             let fits = |entry: &Entry| match directory::find(tables, kind as u8, entry.table) {
@@ -57,7 +64,7 @@ impl List {
 
     pub fn sorted(&self, kind: usize) -> Vec<&Entry> {
         let mut sorted: Vec<&Entry> = self.entries[kind].iter().collect();
-        sorted.sort_by_key(|entry| (entry.table, entry.index));
+        sorted.sort_by_key(|entry| entry.key());
         sorted
     }
 
@@ -131,7 +138,7 @@ impl Model {
         let needs_room = self.has(Fault::ListedKeyNeedsRoom);
         let entries = &mut self.list.entries[kind];
         let full = entries.len() == ROOM[kind];
-        let listed = entries.iter_mut().find(|entry| (entry.table, entry.index) == (number, index));
+        let listed = entries.iter_mut().find(|entry| entry.key() == (number, index));
         match listed {
             Some(_) if full && needs_room => return 9,
             Some(entry) => {

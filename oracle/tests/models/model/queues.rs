@@ -1,18 +1,18 @@
 //! 01, "File numbers".
 
-use super::{number, opening, Fault, Model, Take};
+use super::{number, opening, overlays::Overlays, put, Fault, Model, Take};
 
 pub struct Queues {
-    appending: Option<u64>,
-    size: u64,
-    reading: Option<u64>,
-    read_queue: Vec<u64>,
-    cleanup: Vec<u64>,
-    pool: Vec<u64>,
+    pub appending: Option<u64>,
+    pub size: u64,
+    pub reading: Option<u64>,
+    pub read_queue: Vec<u64>,
+    pub cleanup: Vec<u64>,
+    pub pool: Vec<u64>,
     /// Number and id.
-    replay: Vec<(u64, u64)>,
-    next: u64,
-    dirty: bool,
+    pub replay: Vec<(u64, u64)>,
+    pub next: u64,
+    pub dirty: bool,
 }
 
 impl Queues {
@@ -31,7 +31,8 @@ impl Queues {
         }
     }
 
-    fn keep_the_rules(&self) -> bool {
+    /// Of all places.
+    pub fn numbers(&self) -> Vec<u64> {
         let mut numbers: Vec<u64> = Vec::new();
         numbers.extend(self.appending);
         numbers.extend(self.reading);
@@ -39,6 +40,11 @@ impl Queues {
         numbers.extend(&self.cleanup);
         numbers.extend(&self.pool);
         numbers.extend(self.replay.iter().map(|(number, _)| number));
+        numbers
+    }
+
+    pub fn keep_the_rules(&self) -> bool {
+        let mut numbers = self.numbers();
         let files = numbers.len();
         numbers.sort();
         numbers.dedup();
@@ -48,7 +54,7 @@ impl Queues {
         numbers.len() == files && below_next && ascending && fits
     }
 
-    fn state(&self) -> Vec<u8> {
+    fn state(&self, overlays: &Overlays) -> Vec<u8> {
         let mut state = Vec::new();
         put(&mut state, self.appending.is_some().into(), 1);
         put(&mut state, self.appending.unwrap_or(0), 4);
@@ -64,15 +70,11 @@ impl Queues {
             put(&mut state, *id, 8);
         }
         put(&mut state, self.next, 4);
-        put(&mut state, 1, 8);
+        put(&mut state, overlays.next_id, 8);
         put(&mut state, self.dirty.into(), 1);
-        state.extend([0; 64]);
+        overlays.last_ids.iter().for_each(|id| put(&mut state, *id, 8));
         state
     }
-}
-
-fn put(answer: &mut Vec<u8>, number: u64, length: usize) {
-    answer.extend(&number.to_le_bytes()[..length]);
 }
 
 fn nums(answer: &mut Vec<u8>, numbers: &[u64]) {
@@ -85,7 +87,7 @@ impl Model {
     pub fn answer_of_queues(&mut self, command: u8, take: &mut Take) -> Vec<u8> {
         match command {
             0x10 => return self.open(take),
-            0x1c => return self.queues.state(),
+            0x1c => return self.queues.state(&self.overlays),
             0x1f => {
                 self.forge(take);
                 return vec![0];
@@ -101,7 +103,7 @@ impl Model {
             0x16 => vec![13, 0, 0, 0, 0, 0],
             0x17 if kept => self.clean(take.number(8)),
             0x17 => vec![13, 0, 0, 0, 0, 0],
-            0x18 if kept => self.clear_replay(),
+            0x18 if kept && self.overlays_keep_the_rules() => self.clear_replay(),
             0x19 if kept => self.kill(),
             0x19 => vec![13, 0, 0],
             _ => vec![13],
@@ -142,6 +144,7 @@ impl Model {
         }
         let next = replay.iter().map(|(number, _)| number + 1).max().unwrap_or(0);
         self.queues = Queues { replay, next, ..Queues::new() };
+        self.overlays = Overlays::new();
         let removed: Vec<u64> = short.into_iter().map(|(number, _)| number).collect();
         let mut answer = vec![0];
         nums(&mut answer, &removed);
@@ -250,6 +253,12 @@ impl Model {
         queues.cleanup.extend(replay);
         queues.cleanup.extend(reading.filter(|_| reading_last));
         queues.dirty = false;
+        if !self.has(Fault::ReplayClearedKeepsOverlays) {
+            self.overlays.entries = Default::default();
+        }
+        if !self.has(Fault::ReplayClearedKeepsLastIds) {
+            self.overlays.last_ids = [0; 8];
+        }
         vec![0]
     }
 

@@ -2,8 +2,19 @@
 
 use super::{checksum, directory, number, Fault, Model};
 
-/// What a record does to the image: so many bytes from a place on become these.
-type Write = (u64, Vec<u8>);
+/// What is read of a record, up to its end or to what refuses it.
+#[derive(Default)]
+pub struct Record {
+    pub id: u64,
+    /// Where it ends.
+    pub behind: u64,
+    /// What it does to the image: so many bytes from a place on become these.
+    writes: Vec<(u64, Vec<u8>)>,
+    /// The keys that it names: kind, table, index, and whether its mask is 0.
+    pub keys: Vec<(usize, u64, u64, bool)>,
+    /// Kind and table.
+    pub drops: Vec<(usize, u64)>,
+}
 
 impl Model {
     pub fn replay(&mut self, position: u64, expected: u64) -> Vec<u8> {
@@ -35,22 +46,22 @@ impl Model {
     }
 
     fn replay_record(&mut self, position: u64, expected: u64) -> (u8, u64) {
-        let mut writes = Vec::new();
-        let read = self.read_record(position, expected, &mut writes);
+        let mut record = Record::default();
+        let read = self.read_for_replay(position, expected, &mut record);
         if read.is_ok() || self.has(Fault::AppliesBeforeTheEnd) {
             if self.has(Fault::FirstKeyWins) {
-                writes.reverse();
+                record.writes.reverse();
             }
-            for (place, bytes) in writes {
+            for (place, bytes) in record.writes {
                 let place = place as usize;
                 self.image[place..place + bytes.len()].copy_from_slice(&bytes);
             }
         }
         match read {
-            Ok(behind) if self.has(Fault::RecordLengthOf16Bits) => {
-                (0, position + u64::from((behind - position) as u16))
+            Ok(()) if self.has(Fault::RecordLengthOf16Bits) => {
+                (0, position + u64::from((record.behind - position) as u16))
             }
-            Ok(behind) => (0, behind),
+            Ok(()) => (0, record.behind),
             Err(answer) => {
                 if self.has(Fault::WritesOnRefusal) && answer == 8 {
                     self.image.iter_mut().take(1).for_each(|byte| *byte ^= 1);
@@ -60,20 +71,27 @@ impl Model {
         }
     }
 
-    fn read_record(
+    fn read_for_replay(&self, position: u64, expected: u64, record: &mut Record) -> Result<(), u8> {
+        if self.image.len() as u64 != directory::image_length(&self.directory) {
+            return Err(13);
+        }
+        let expected = (!self.has(Fault::TakesAnyId)).then_some(expected);
+        self.read_record(position, expected, record)
+    }
+
+    pub fn read_record(
         &self,
         position: u64,
-        expected: u64,
-        writes: &mut Vec<Write>,
-    ) -> Result<u64, u8> {
+        expected: Option<u64>,
+        record: &mut Record,
+    ) -> Result<(), u8> {
         let tables = &self.directory;
-        let fits = self.image.len() as u64 == directory::image_length(tables);
-        if !directory::keeps_the_rules(tables) || !fits {
+        if !directory::keeps_the_rules(tables) {
             return Err(13);
         }
         let log = self.log.get(position as usize..).ok_or(14)?;
-        let id = opening(log, true)?;
-        if id != expected && !self.has(Fault::TakesAnyId) {
+        record.id = opening(log, true)?;
+        if expected.is_some_and(|expected| record.id != expected) {
             return Err(5);
         }
         let mut at = 9;
@@ -98,11 +116,13 @@ impl Model {
                     if tag == 3 {
                         let value = part(at, table.length as usize)?;
                         at += value.len();
-                        writes.push((place, value.to_vec()));
+                        record.writes.push((place, value.to_vec()));
+                        record.keys.push((1, table.number, index, false));
                         continue;
                     }
                     let mask = number(part(at, 8)?);
                     at += 8;
+                    record.keys.push((kind as usize, table.number, index, mask == 0));
                     let width = table.place_bytes() / 64;
                     part(at, mask.count_ones() as usize * width as usize)?;
                     let mut slots: Vec<u64> =
@@ -113,7 +133,7 @@ impl Model {
                     for slot in slots {
                         let entry = part(at, width as usize)?;
                         at += entry.len();
-                        writes.push((place + slot * width, entry.to_vec()));
+                        record.writes.push((place + slot * width, entry.to_vec()));
                     }
                 }
                 4 => {
@@ -121,7 +141,8 @@ impl Model {
                     if number(stated) != u64::from(checksum(&log[..at])) {
                         return Err(8);
                     }
-                    return Ok(position + at as u64 + 4);
+                    record.behind = position + at as u64 + 4;
+                    return Ok(());
                 }
                 5 | 7 => {
                     let table = number(part(at, 2)?);
@@ -130,7 +151,8 @@ impl Model {
                     let (start, table) = directory::find(tables, kind, table).ok_or(6)?;
                     let kept = u64::from(self.has(Fault::DropLeavesLastByte));
                     let length = table.count * table.place_bytes() - kept;
-                    writes.push((start, vec![0; length as usize]));
+                    record.writes.push((start, vec![0; length as usize]));
+                    record.drops.push((kind as usize, table.number));
                 }
                 _ => return Err(3),
             }

@@ -1,6 +1,6 @@
 //! 01, "Record bytes": the writer's order, and a record in its output.
 
-use super::{checksum, lists::Entry, Fault, Model};
+use super::{checksum, lists::Entry, put, Fault, Model};
 
 impl Model {
     /// The list's record.
@@ -44,12 +44,13 @@ impl Model {
             (true, false) => 0,
         };
         let mut answer = vec![number];
+        put(&mut answer, if number == 0 { record.len() as u64 } else { 0 }, 4);
         self.put_written(&mut answer, &record, length);
         answer
     }
 
-    /// What is written, how much of it, and the output as a checksum; nothing if it is refused.
-    fn put_written(&self, answer: &mut Vec<u8>, record: &[u8], length: usize) {
+    /// What is written, and the output as a checksum; nothing if it is refused.
+    pub fn put_written(&self, answer: &mut Vec<u8>, record: &[u8], length: usize) {
         let mut output = vec![0x5a; length];
         let written = if answer[0] == 0 { record } else { &[] };
         output[..written.len()].copy_from_slice(written);
@@ -59,9 +60,7 @@ impl Model {
         if answer[0] == 10 && self.has(Fault::WritesWhatFits) {
             output.copy_from_slice(&record[..length]);
         }
-        let count = written.len() as u32;
-        answer.extend(count.to_le_bytes());
-        answer.extend(count.to_le_bytes());
+        put(answer, written.len() as u64, 4);
         answer.extend(written);
         answer.extend(checksum(&output).to_le_bytes());
     }

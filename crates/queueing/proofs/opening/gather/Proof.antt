@@ -1,0 +1,51 @@
+-- `gather` keeps within its rooms. Assumes nothing.
+use Prim.Native.Nat.{_≤_, _-_}
+use native.Mathlib.Omega.{arith}
+use lib.ListN.{length}
+use Rattle.queueing.proofs.opening.gather.Statement.{statement}
+use Rattle.queueing.proofs.opening.gather.Tie as tie
+
+abbrev Inv-loop : tie.InvT-loop
+Inv-loop command n numbers₀ lengths₀ heads₀ count₀ at₀ i₀ numbers lengths heads count at i = (i ≤ n) × (count ≤ i) × (at ≤ length command)
+
+abbrev μ-loop : tie.MeasureT-loop
+μ-loop command n numbers₀ lengths₀ heads₀ count₀ at₀ i₀ numbers lengths heads count at i = n - i
+
+loop-holds : tie.Need-loop-holds Inv-loop μ-loop
+loop-holds c = omega arith
+
+span-at-requires : tie.Need-span-at-requires Inv-loop μ-loop
+span-at-requires c κs = omega arith
+
+returns : tie.Need-returns Inv-loop μ-loop
+returns c = omega arith
+
+gather-one-requires : tie.Need-gather-one-requires Inv-loop μ-loop
+gather-one-requires c κs = omega arith
+
+add-i : tie.Need-add-i Inv-loop μ-loop
+add-i c = omega arith
+
+loop-less : tie.Need-loop-less Inv-loop μ-loop
+loop-less c = omega arith
+
+loop-again : tie.Need-loop-again Inv-loop μ-loop
+loop-again c = omega arith
+
+returns-2 : tie.Need-returns-2 Inv-loop μ-loop
+returns-2 c = omega arith
+
+pub gather-spec : {M : Type 1} → statement M
+gather-spec =
+    tie.close
+    (tie.spec
+    Inv-loop
+    μ-loop
+    loop-holds
+    span-at-requires
+    returns
+    gather-one-requires
+    add-i
+    loop-less
+    loop-again
+    returns-2)
