@@ -113,13 +113,7 @@ fn shown_line(line: &str) -> String {
 pub fn walks_through_records(script: &Script) -> io::Result<Script> {
     let mut driver = Driver::new()?;
     let mut walks = Script::new();
-    let makes_a_list = |command: &&Vec<u8>| {
-        matches!(
-            command[0],
-            op::DIR | op::NEWLIST..=op::DROP_REF | op::BEGIN | op::FORGE_LIST | op::LIST_SUM..=op::FORGE_DROP
-        )
-    };
-    for command in script.iter().filter(makes_a_list) {
+    for command in script.iter().filter(|command| bears_on_the_list(command)) {
         driver.answer(command);
         if command[0] == op::LIST_SUM && driver.list_keeps_the_rules() {
             let record = driver.written_record();
@@ -128,6 +122,14 @@ pub fn walks_through_records(script: &Script) -> io::Result<Script> {
         }
     }
     Ok(walks)
+}
+
+fn bears_on_the_list(command: &[u8]) -> bool {
+    match command[0] {
+        op::DIR | op::NEWLIST | op::BEGIN | op::FORGE_LIST | op::FORGE_DROP | op::LIST_SUM => true,
+        op::WRITE => false,
+        _ => Part::called_by(command) == Some(Part::Lists),
+    }
 }
 
 /// The commands that lead to a difference: the last DIR and LOG before its chain of calls, and all

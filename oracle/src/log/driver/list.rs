@@ -110,12 +110,12 @@ impl List {
         listed || entries.len() < room_for(kind)
     }
 
-    pub fn forge(&mut self, kind: Kind, entry: &Entry) {
+    pub fn put(&mut self, kind: Kind, entry: &Entry) {
         let held = self.overlay_of(kind, entry.table).put(entry);
         self.beyond_the_rust[kind as usize] |= !held;
     }
 
-    pub fn forge_drop(&mut self, kind: Kind, table: u16) {
+    pub fn put_drop(&mut self, kind: Kind, table: u16) {
         let LogChange { dropped_tables, dropped_ref_count_tables, .. } = &mut self.change;
         match kind {
             Kind::RefCount => dropped_ref_count_tables.push(RefCountTableId::from_u16(table)),
@@ -143,8 +143,8 @@ impl List {
     pub fn copy(&self, directory: &Directory) -> LogChange {
         let mut copy = List::new(self.id());
         for kind in Kind::ALL {
-            self.entries(kind).iter().for_each(|entry| copy.forge(kind, entry));
-            self.drops(kind).into_iter().for_each(|table| copy.forge_drop(kind, table));
+            self.entries(kind).iter().for_each(|entry| copy.put(kind, entry));
+            self.drops(kind).into_iter().for_each(|table| copy.put_drop(kind, table));
         }
         let mut change = copy.change;
         let with_column = |id: ValueTableId| {

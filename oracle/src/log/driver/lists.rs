@@ -137,13 +137,13 @@ impl Driver {
         let (table, index) = (fields.u16(), fields.u64());
         let (mask, bytes) = forged(fields);
         let id = self.list.id();
-        self.list.forge(kind, &Entry { table, index, id, mask, bytes: &bytes });
+        self.list.put(kind, &Entry { table, index, id, mask, bytes: &bytes });
         vec![number::DONE]
     }
 
     pub fn forge_drop(&mut self, fields: &mut Fields) -> Vec<u8> {
         let kind = Kind::ALL[fields.u8() as usize];
-        self.list.forge_drop(kind, fields.u16());
+        self.list.put_drop(kind, fields.u16());
         vec![number::DONE]
     }
 }
