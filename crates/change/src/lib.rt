@@ -9,3 +9,4 @@ pub use change::LogChange;
 pub use drops::Drops;
 pub use overlay::LocalValues;
 pub use overlay::LogOverlayLocal;
+pub use room::slot_at;
