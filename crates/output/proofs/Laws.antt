@@ -7,7 +7,7 @@ use Prim.Native.Nat.{ℕ, zero, suc, _+_, _^_, _≤_, _<_, _/_, zero-le, suc-le-
 use native.Mathlib.Nat.{add-zero, add-assoc, pow-suc}
 use native.Mathlib.Numerals.{add-one}
 use native.Mathlib.Omega.{arith}
-use lib.ListN.{length, take, drop, set, getD, length-append, length-drop, take-append-drop, drop-of-length-le}
+use lib.ListN.{length, take, drop, set, getD, length-append, take-append-drop, drop-of-length-le}
 use lib.Seq.{take-all, take-at, drop-at, drop-drop, drop-cons, getD-take, length-take-le, set-split}
 use Rattle.words.specs.Words.{little}
 use Rattle.output.specs.Put.{put, Wrote, le, joined}
@@ -20,12 +20,6 @@ le-or-le (suc a) (suc b) = ⊎-elim (λ p. inl (suc-le-suc p)) (λ q. inr (suc-l
 pub put-nil : (l : List ℕ) (at : ℕ) → put l at [] ≡ l
 unfolding put
 put-nil l at = simp (append-nil, add-zero, take-append-drop)
-
-pub length-put : (l : List ℕ) (at : ℕ) (bs : List ℕ) → at + length bs ≤ length l → length (put l at bs) ≡ length l
-unfolding put
-length-put l at bs h =
-    let e : length (take at l) ≡ at = length-take-le at l (omega arith) in
-    simp (length-append, length-drop, e) (omega arith)
 
 -- a write at or past the end goes behind what is there
 far : (l : List ℕ) (at : ℕ) (bs : List ℕ) → length l ≤ at → put l at bs ≡ l ++ bs
@@ -98,18 +92,6 @@ all-left l at bs = record { next = refl; bytes = refl }
 pub none-left : {l : List ℕ} {at : ℕ} {bs m : List ℕ} {r : ℕ} → Wrote m r [] (put l at bs) (at + length bs) → Wrote l at bs m r
 none-left {l} {at} {bs} {m} {r} w =
     record { next = omega (arith, w .next); bytes = sym (put-nil m r) ∙ sym (w .bytes) }
-
--- a run of calls: what was written so far, and that the length stayed
-pub record Run (o : List ℕ) (at : ℕ) (a m : List ℕ) (r : ℕ) : Type 0 where
-  pub wrote : Wrote o at a m r
-  pub kept : length m ≡ length o
-
-pub run-then : {o : List ℕ} {at : ℕ} {a m : List ℕ} {r : ℕ} {b n : List ℕ} {s : ℕ} → Run o at a m r → Wrote m r b n s → length n ≡ length m → Run o at (a ++ b) n s
-run-then x y k = record { wrote = x .wrote ⨾ y; kept = k ∙ x .kept }
-
--- what a next call asks
-pub run-room : {o : List ℕ} {at : ℕ} {a m : List ℕ} {r : ℕ} (b : List ℕ) → Run o at a m r → at + (length a + length b) ≤ length o → r + length b ≤ length m
-run-room {a = a} b x h = omega (arith, x .wrote .next, x .kept)
 
 -- a number in n bytes has n bytes, and reads back as itself
 pub length-le : (n x : ℕ) → length (le n x) ≡ n
