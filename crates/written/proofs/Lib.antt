@@ -1,0 +1,11 @@
+-- The laws, for other crates to cite.
+pub mod Accepted
+pub mod Entries
+pub mod Here
+pub mod Last
+pub mod Lists
+pub mod Parts
+pub mod Replayed
+pub mod Said
+pub mod Slots
+pub mod Walk
