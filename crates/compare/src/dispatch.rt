@@ -8,7 +8,35 @@ use super::session::Session;
 use lines::Found;
 use lines::Reply;
 
-fn queue(session: Session, command: &[u8], log: &[u8; 80000], answer: &mut [u8; 65536]) -> Served
+fn list(
+    session: Session,
+    command: &[u8],
+    local: &mut [u8; 49152],
+    written: &mut [u8; 60000],
+    answer: &mut [u8; 65536],
+) -> Served
+    requires { ⌜ (Kept (session .reading)) × (1 ≤ length (now command)) ⌝ }
+    ensures { λ r. ⌜ Kept (r .session .reading) ⌝ }
+{
+    let reading = session.reading;
+    let directory = reading.directory;
+    let before = session.list;
+    let done = listing::serve(before, directory, command, local, written, answer);
+    let after = done.list;
+    let mut kept = session;
+    kept.list = after;
+    let reply = done.reply;
+    kept.replied(reply)
+}
+
+fn queue(
+    session: Session,
+    command: &[u8],
+    log: &[u8; 80000],
+    local: &mut [u8; 49152],
+    written: &mut [u8; 60000],
+    answer: &mut [u8; 65536],
+) -> Served
     requires { ⌜ (Kept (session .reading)) × (1 ≤ length (now command)) ⌝ }
     ensures { λ r. ⌜ Kept (r .session .reading) ⌝ }
 {
@@ -17,10 +45,13 @@ fn queue(session: Session, command: &[u8], log: &[u8; 80000], answer: &mut [u8; 
     let room: &[u8] = log;
     let before = session.queues;
     let done = queueing::serve(before, command, &room[0..logged], answer);
+    let reply = done.reply;
+    if let Reply::Unknown = reply {
+        return list(session, command, local, written, answer);
+    }
     let after = done.queues;
     let mut kept = session;
     kept.queues = after;
-    let reply = done.reply;
     kept.replied(reply)
 }
 
@@ -29,18 +60,20 @@ fn serve(
     command: &[u8],
     log: &mut [u8; 80000],
     image: &mut [u8; 300000],
+    local: &mut [u8; 49152],
+    written: &mut [u8; 60000],
     answer: &mut [u8; 65536],
 ) -> Served
     requires { ⌜ (Kept (session .reading)) × (1 ≤ length (now command)) ⌝ }
     ensures { λ r. ⌜ Kept (r .session .reading) ⌝ }
 {
     let before = session.reading;
-    let read = reading::serve(before, command, log, image, answer);
-    let reply = read.reply;
+    let done = reading::serve(before, command, log, image, answer);
+    let reply = done.reply;
     if let Reply::Unknown = reply {
-        return queue(session, command, log, answer);
+        return queue(session, command, log, local, written, answer);
     }
-    let after = read.reading;
+    let after = done.reading;
     let mut kept = session;
     kept.reading = after;
     kept.replied(reply)
@@ -52,6 +85,8 @@ pub fn dispatch(
     line: &[u8; 80005],
     log: &mut [u8; 80000],
     image: &mut [u8; 300000],
+    local: &mut [u8; 49152],
+    written: &mut [u8; 60000],
     answer: &mut [u8; 65536],
 ) -> Served
     requires { ⌜ (Kept (session .reading)) × (CommandFits found) ⌝ }
@@ -62,7 +97,15 @@ pub fn dispatch(
         Found::Broken(fault) => session.replied(Reply::Broken(fault)),
         Found::Command(length) => {
             let bytes: &[u8] = line;
-            serve(session, &bytes[0..length], log, image, answer)
+            serve(
+                session,
+                &bytes[0..length],
+                log,
+                image,
+                local,
+                written,
+                answer,
+            )
         }
     }
 }

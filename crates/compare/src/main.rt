@@ -2,36 +2,88 @@
 mod dispatch;
 mod session;
 
+ghost use Rattle.compare.specs.Bounds.{Running};
 use dispatch::dispatch;
 use lines::Input;
 use lines::Output;
 use lines::TURNS;
 use session::Session;
 
-// One command a turn.
+pub struct Run {
+    pub input: Input,
+    pub session: Session,
+    pub out: Output,
+}
+
+fn started() -> Run
+    ensures { λ r. ⌜ Running r ⌝ }
+{
+    Run {
+        input: Input::new(),
+        session: Session::new(),
+        out: Output::new(),
+    }
+}
+
+// One command.
+fn turn(
+    run: Run,
+    chunk: &mut [u8; 65536],
+    command: &mut [u8; 80005],
+    log: &mut [u8; 80000],
+    image: &mut [u8; 300000],
+    local: &mut [u8; 49152],
+    written: &mut [u8; 60000],
+    answer: &mut [u8; 65536],
+    output: &mut [u8; 262144],
+) -> Run
+    requires { ⌜ Running run ⌝ }
+    ensures { λ r. ⌜ Running r ⌝ }
+{
+    let before = run.input;
+    let next = before.next_command(chunk, command);
+    let input = next.input;
+    let found = next.found;
+    let session = run.session;
+    let served = dispatch(session, found, command, log, image, local, written, answer);
+    let reply = served.reply;
+    let after = served.session;
+    let out = run.out;
+    Run {
+        input: input,
+        session: after,
+        out: out.take(reply, input.line, answer, output),
+    }
+}
+
 fn answer_all(
     chunk: &mut [u8; 65536],
     command: &mut [u8; 80005],
     log: &mut [u8; 80000],
     image: &mut [u8; 300000],
+    local: &mut [u8; 49152],
+    written: &mut [u8; 60000],
     answer: &mut [u8; 65536],
     output: &mut [u8; 262144],
 ) {
-    let mut input = Input::new();
-    let mut session = Session::new();
-    let mut out = Output::new();
+    let mut run = started();
     let mut turns = TURNS;
-    while 0 < turns && out.going {
-        let next = input.next_command(chunk, command);
-        input = next.input;
-        let found = next.found;
-        let served = dispatch(session, found, command, log, image, answer);
-        session = served.session;
-        let reply = served.reply;
-        out = out.take(reply, input.line, answer, output);
+    while 0 < turns && run.out.going {
+        run = turn(
+            run,
+            chunk,
+            command,
+            log,
+            image,
+            local,
+            written,
+            answer,
+            output,
+        );
         turns -= 1;
     }
-    out.flushed(input.line, output);
+    let out = run.out;
+    out.flushed(run.input.line, output);
 }
 
 // The longest command is a LOG. The longest answer has at most 65,535 bytes, and its line fits twice into the output.
@@ -40,6 +92,8 @@ fn main() {
     let mut command = [0u8; 80005];
     let mut log = [0u8; 80000];
     let mut image = [0u8; 300000];
+    let mut local = [0u8; 49152];
+    let mut written = [0u8; 60000];
     let mut answer = [0u8; 65536];
     let mut output = [0u8; 262144];
     answer_all(
@@ -47,6 +101,8 @@ fn main() {
         &mut command,
         &mut log,
         &mut image,
+        &mut local,
+        &mut written,
         &mut answer,
         &mut output,
     );

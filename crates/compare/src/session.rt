@@ -1,5 +1,6 @@
-// What is kept from command to command, besides the bytes of the log and of the image.
+// What is kept from command to command, besides the bytes of the log, of the image and of the list.
 ghost use Rattle.reading.specs.Bounds.{Kept};
+use change::LogChange;
 use files::Queues;
 use lines::Reply;
 use reading::Reading;
@@ -7,6 +8,7 @@ use reading::Reading;
 pub struct Session {
     pub reading: Reading,
     pub queues: Queues,
+    pub list: LogChange,
 }
 
 pub struct Served {
@@ -21,6 +23,7 @@ impl Session {
         Session {
             reading: Reading::new(),
             queues: queueing::no_files(),
+            list: LogChange::new(1),
         }
     }
 

@@ -7,10 +7,9 @@ use lib.ListN.{take, replicate}
 use Rattle.numbers.specs.Numbers.{least}
 use Rattle.record.specs.declared.answer.Answer.the-variants.{Done}
 use Rattle.files.specs.Queues.{poolOf, sizeOf, filesOf, fileCount, roomKept, queuesKept}
-use Rattle.files.specs.Moves.{withAppending, withCleanup, withPool, withNext, listed}
+use Rattle.found.specs.Listed.{listed}
+use Rattle.files.specs.Moves.{withAppending, withCleanup, withPool, withNext}
 use Rattle.files.specs.Calls.{flushes, flushOne, notFlushed, pooled, cleanLogs}
-use Rattle.files.specs.Names.{beginsLog, decimalFrom, logName}
-use Rattle.files.specs.declared.name.LogName.the-variants.{Log, Other}
 use Rattle.files.specs.declared.queues.Queues.{Queues}
 
 abbrev pub noFiles : Queues
@@ -55,28 +54,3 @@ l-highest-removed = refl
 pub l-lowest-kept : poolOf (cleanLogs seventeen 1 .queues) ≡ 0 ∷ 1 ∷ 2 ∷ 3 ∷ 4 ∷ 5 ∷ 6 ∷ 7 ∷ 8 ∷ 9 ∷ 10 ∷ 11 ∷ 12 ∷ 13 ∷ 14 ∷ 15 ∷ []
 unfolding cleanLogs pooled listed queuesKept roomKept filesOf fileCount sizeOf least
 l-lowest-kept = refl
-
--- names: "log0" stands; a leading zero, a sign, a blank, another letter, nothing, or a number of more than 32 bits doesn't
-pub log0 : logName (108 ∷ 111 ∷ 103 ∷ 48 ∷ []) ≡ Log 0
-unfolding logName beginsLog decimalFrom
-log0 = refl
-
-pub log07 : logName (108 ∷ 111 ∷ 103 ∷ 48 ∷ 55 ∷ []) ≡ Other
-unfolding logName beginsLog decimalFrom
-log07 = refl
-
-pub log-plus : logName (108 ∷ 111 ∷ 103 ∷ 43 ∷ 55 ∷ []) ≡ Other
-unfolding logName beginsLog decimalFrom
-log-plus = refl
-
-pub log-alone : logName (108 ∷ 111 ∷ 103 ∷ []) ≡ Other
-unfolding logName beginsLog decimalFrom
-log-alone = refl
-
-pub log-greatest : logName (108 ∷ 111 ∷ 103 ∷ 52 ∷ 50 ∷ 57 ∷ 52 ∷ 57 ∷ 54 ∷ 55 ∷ 50 ∷ 57 ∷ 53 ∷ []) ≡ Log 4294967295
-unfolding logName beginsLog decimalFrom
-log-greatest = refl
-
-pub log-greater : logName (108 ∷ 111 ∷ 103 ∷ 52 ∷ 50 ∷ 57 ∷ 52 ∷ 57 ∷ 54 ∷ 55 ∷ 50 ∷ 57 ∷ 54 ∷ []) ≡ Other
-unfolding logName beginsLog decimalFrom
-log-greater = refl

@@ -15,11 +15,13 @@ use Rattle.numbers.proofs.Laws.{least-le, over-front, over-same}
 use Rattle.numbers.proofs.Sort.{length-all}
 use Rattle.record.specs.declared.answer.Answer.the-variants.{Done}
 use Rattle.files.specs.Queues.{poolOf, cleanupOf, queuesKept}
-use Rattle.files.specs.Moves.{withReading, withPool, withCleanup, listed}
+use Rattle.found.specs.Listed.{listed}
+use Rattle.files.specs.Moves.{withReading, withPool, withCleanup}
 use Rattle.files.specs.Calls.{pooled, cleanedBy, killLogs}
 use Rattle.files.specs.declared.queues.Queues.{Queues}
 use Rattle.files.proofs.Rule.{Sized, Room}
-use Rattle.files.proofs.Parts.{zeros-over, listed-one, least-rest, least-low, least-high}
+use Rattle.found.proofs.Listed.{zeros-over}
+use Rattle.files.proofs.Parts.{listed-one, least-rest, least-low, least-high}
 
 -- the pool copied to the front of an array, and cleanup's first put in
 pub pooled-as : (q : Queues) (m : ℕ) (a a′ : List ℕ) → m ≤ q .«cleanup_count» → q .«pool_count» ≤ length a → q .«pool_count» ≤ length (q .«log_pool»)

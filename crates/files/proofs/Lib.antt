@@ -8,9 +8,5 @@ pub mod CleanKept
 pub mod KeepsRules
 pub mod NoneLost
 pub mod Cases
-pub mod NameLaws
-pub mod OpenLaws
-pub mod Found
 pub mod ReadKept
-pub mod Order
 pub mod OpenKept

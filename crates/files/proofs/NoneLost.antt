@@ -10,11 +10,12 @@ use lib.ListN.{take, drop, length, length-append, length-drop}
 use lib.Dec.{eqb, leb, ltb}
 use borrow.Author.Tests.{ltb-true, eqb-false}
 use Rattle.words.specs.Choice.{if_then_else_}
-use lib.Seq.{take-at, length-take-le}
+use lib.Seq.{length-take-le}
 use Rattle.numbers.specs.Numbers.{times, one, ones, least}
 use Rattle.numbers.proofs.Laws.{least-le}
 use Rattle.files.specs.Queues.{poolOf, readingOf, sizeOf, filesOf, fileCount, queuesKept}
-use Rattle.files.specs.Moves.{withDirty, listed, readingCleaned, replayCleaned}
+use Rattle.found.proofs.Listed.{filled}
+use Rattle.files.specs.Moves.{withDirty, readingCleaned, replayCleaned}
 use Rattle.files.specs.Calls.{flushes, flushOne, replayNext, clearReplayLogs, pooled, cleanLogs, killLogs, needsNew, goesOn, madeNew, fromPool, takenBy, takeFile}
 use Rattle.files.specs.declared.queues.Queues.{Queues}
 use Rattle.files.specs.declared.writing.FileSource.{FileSource}
@@ -24,11 +25,6 @@ use Rattle.files.proofs.Rule.{Sized, Kept, kept-facts, sized-appending}
 use Rattle.files.proofs.Kept.{flushed-times, reading-times, reading-kept, reading-sized, replayed-times, replay-times, killed-times, goes-times, pool-times, made-times}
 use Rattle.files.proofs.Clean.{pooled-length}
 use Rattle.files.proofs.CleanKept.{cleaned-times}
-
--- the first of an array that a list fills
-filled : (n k : ℕ) (l : List ℕ) → length l ≡ k → take k (listed n l) ≡ l
-unfolding listed
-filled n k l e = take-at l _ k e
 
 dirty-files : (q : Queues) (b : Bool) → filesOf (withDirty q b) ≡ filesOf q
 unfolding filesOf

@@ -1,59 +1,53 @@
--- `open` and `read_next` keep the rules and lose no number. Document 01: "The same taken name twice gives 13, then more than 64 kept files 9, then
--- a kept 2^32-1 gives 12."; "0 makes that the one being read, 1 sends the file to cleanup, other answers move nothing". Assumes nothing.
-use Prim.Native.Nat.{ℕ, _+_, _≤_, _<_}
+-- `open` and `read_next` keep the rules and lose no number, and what `open` is to replay is in order. Document 01: "Replay order is by id, ties by
+-- number (added). .. The same taken name twice gives 13, then more than 64 kept files 9, then a kept 2^32-1 gives 12."; "0 makes that the one
+-- being read, 1 sends the file to cleanup, other answers move nothing". Assumes nothing.
+use Prim.Native.Nat.{ℕ, _+_, _≤_}
 use mathlib.Core.Bool.{Bool, true, false}
-use mathlib.Core.List.{List, [], _∷_, map}
+use mathlib.Core.List.{List, map}
 use mathlib.Core.Path.{_≡_, refl, ap, _∙_}
 use native.Mathlib.Omega.{arith}
-use lib.ListN.{length, length-map}
-use lib.Seq.{take-at}
-use lib.Dec.{ltb, eqb}
-use borrow.Author.Tests.{ltb-true, ltb-false, lt-ltb, eqb-false, eqb-true}
+use lib.ListN.{take, length, length-map}
+use lib.Dec.{eqb}
+use borrow.Author.Tests.{eqb-false, eqb-true}
 use Rattle.words.specs.Choice.{if_then_else_}
-use Rattle.numbers.specs.Numbers.{has, times, allBelow, distinct}
-use Rattle.numbers.proofs.Laws.{both}
+use Rattle.numbers.specs.Numbers.{times, allBelow, distinct}
 use Rattle.record.specs.Answer.{numberOf}
 use Rattle.record.specs.Next.{readerAt}
-use Rattle.record.specs.declared.answer.Answer.the-variants.{Done, NoRoom, UsedUp, BadState}
+use Rattle.record.specs.declared.answer.Answer.{Answer}
+use Rattle.record.specs.declared.answer.Answer.the-variants.{Done}
 use Rattle.record.specs.declared.reader.LogReader.{LogReader}
 use Rattle.record.specs.declared.reader.Step.{Step}
 use Rattle.record.specs.declared.reader.Step.the-variants.{Took, Refused}
-use Rattle.files.specs.Queues.{sizeOf, filesOf, queuesKept}
-use Rattle.files.specs.Moves.{listed, readingCleaned}
-use Rattle.files.specs.Open.{LogFile, fileNumber, removed, inOrder, nextFrom, openedWith, foundKept, openLogs}
+use Rattle.found.specs.Names.{saidBy}
+use Rattle.found.specs.Logs.{LogFile, fileNumber, fileId, takenNumbers, removed, keptFiles, inOrder, nextFrom, answered}
+use Rattle.found.specs.Inner.{pairs}
+use Rattle.found.proofs.Listed.{filled}
+use Rattle.found.proofs.SortLaws.{pairs-map, next-above}
+use Rattle.found.proofs.Found.{order-times}
+use Rattle.found.proofs.Order.{ordered, count, same-files}
+use Rattle.found.proofs.Answers.{logs-told, logs-all}
+use Rattle.files.specs.Queues.{replayOf, sizeOf, filesOf, queuesKept}
+use Rattle.files.specs.Moves.{readingCleaned}
+use Rattle.files.specs.Open.{openedWith, openLogs}
 use Rattle.files.specs.Read.{hasFile, nowReading, openingAt, readBy, readNext}
 use Rattle.files.specs.declared.queues.Queues.{Queues}
 use Rattle.files.specs.declared.read.ReadNext.{ReadNext}
 use Rattle.files.proofs.Rule.{Sized, Kept, kept-facts, kept-makes}
 use Rattle.files.proofs.Kept.{reading-kept, reading-times}
 use Rattle.files.proofs.ReadKept.{now-kept, now-sized, now-times, has-reading, has-waiting, next-reading, next-none, next-front}
-use Rattle.files.proofs.Found.{found-facts, order-times, order-once}
 
-next-ge : (n : ℕ) (l : List ℕ) → n ≤ nextFrom n l
-next-ge n [] = omega arith
-next-ge n (v ∷ l) = by (ltb v n) refl (next-ge (if ltb v n then n else v + 1) l)
-  where
-    by : (b : Bool) → ltb v n ≡ b → (if b then n else v + 1) ≤ nextFrom (if b then n else v + 1) l → n ≤ nextFrom (if b then n else v + 1) l
-    by true e h = h
-    by false e h = omega (arith, ltb-false v n e)
+-- the replay queue: each file with its first id
+abbrev pub replayFiles : Queues → List LogFile
+replayFiles q = pairs (replayOf q) (take (q .«replay_count») (q .«replay_ids»))
 
--- each number is below the next one
-next-above : (n : ℕ) (l : List ℕ) → allBelow (nextFrom n l) l ≡ true
-next-above n [] = refl
-next-above n (v ∷ l) = both (lt-ltb v _ (by (ltb v n) refl (next-ge (if ltb v n then n else v + 1) l))) (next-above (if ltb v n then n else v + 1) l)
-  where
-    by : (b : Bool) → ltb v n ≡ b → (if b then n else v + 1) ≤ nextFrom (if b then n else v + 1) l → v < nextFrom (if b then n else v + 1) l
-    by true e h = omega (arith, ltb-true v n e)
-    by false e h = omega arith
+module _ (answer : Answer) (n : ℕ) (files : List LogFile) where
+  opened-files : filesOf (openedWith (answered answer n files)) ≡ map fileNumber files
+  unfolding filesOf
+  opened-files = filled 64 (length files) (map fileNumber files) (length-map files fileNumber)
 
-module _ (files : List LogFile) where
-  pub opened-files : filesOf (openedWith files) ≡ map fileNumber files
-  unfolding filesOf listed
-  opened-files = take-at (map fileNumber files) _ (length files) (length-map files fileNumber)
-
-  opened-kept : length files ≤ 64 → distinct (map fileNumber files) ≡ true → queuesKept (openedWith files) ≡ true
+  opened-kept : length files ≤ 64 → distinct (map fileNumber files) ≡ true → queuesKept (openedWith (answered answer n files)) ≡ true
   unfolding sizeOf
-  opened-kept h d = kept-makes (openedWith files) (record {
+  opened-kept h d = kept-makes (openedWith (answered answer n files)) (record {
     room = record { read = omega arith; cleanup = omega arith; pool = omega arith; replay = h; all = omega arith };
     below = ap (allBelow (nextFrom 0 (map fileNumber files))) opened-files ∙ next-above 0 (map fileNumber files);
     once = ap distinct opened-files ∙ d;
@@ -61,39 +55,36 @@ module _ (files : List LogFile) where
     size = omega arith;
   })
 
-module _ (numbers lengths heads remove : List ℕ) where
-  files : List LogFile
-  files = inOrder numbers lengths heads
+  opened-queue : replayFiles (openedWith (answered answer n files)) ≡ files
+  opened-queue =
+      rw (filled 64 (length files) (map fileNumber files) (length-map files fileNumber), filled 64 (length files) (map fileId files) (length-map files fileId))
+      (pairs-map files)
 
-  pub open-keeps : queuesKept (openLogs numbers lengths heads remove .queues) ≡ true
-  unfolding openLogs files
-  open-keeps = by (foundKept numbers lengths heads (length remove)) refl (ltb 64 (length files)) refl (has 4294967295 (map fileNumber files)) refl
-    where
-      none : queuesKept (openedWith []) ≡ true
-      none = opened-kept [] (omega arith) refl
+module _ (names nameLengths lengths heads : List ℕ) (room : ℕ) where
+  pub open-keeps : queuesKept (openLogs names nameLengths lengths heads room .queues) ≡ true
+  unfolding openLogs
+  open-keeps = let t = logs-told names nameLengths lengths heads room in rw (t .told) (opened-kept (t .answer) (t .toRemove) (t .files) (t .few) (t .once))
 
-      by : (a : Bool) → foundKept numbers lengths heads (length remove) ≡ a → (b : Bool) → ltb 64 (length files) ≡ b
-          → (c : Bool) → has 4294967295 (map fileNumber files) ≡ c → queuesKept (openLogs numbers lengths heads remove .queues) ≡ true
-      by false e b f c g = rw e none
-      by true e true f c g = rw (e, f) none
-      by true e false f true g = rw (e, f, g) none
-      by true e false f false g =
-          rw (e, f, g) (opened-kept files (ltb-false 64 (length files) f) (order-once numbers lengths heads (found-facts numbers lengths heads (length remove) e .once)))
+  -- "Replay order is by id, ties by number"
+  pub open-ordered : ordered (replayFiles (openLogs names nameLengths lengths heads room .queues)) ≡ true
+  unfolding openLogs
+  open-ordered = let t = logs-told names nameLengths lengths heads room in rw (t .told) (ap ordered (opened-queue (t .answer) (t .toRemove) (t .files)) ∙ t .ordered)
 
-  -- each file found is to be replayed or to be removed
-  pub open-loses-none : (v : ℕ) → openLogs numbers lengths heads remove .answer ≡ Done
-      → times v (filesOf (openLogs numbers lengths heads remove .queues)) + times v (removed numbers lengths) ≡ times v numbers
-  unfolding openLogs files
-  open-loses-none v = by (foundKept numbers lengths heads (length remove)) refl (ltb 64 (length files)) refl (has 4294967295 (map fileNumber files)) refl
-    where
-      by : (a : Bool) → foundKept numbers lengths heads (length remove) ≡ a → (b : Bool) → ltb 64 (length files) ≡ b
-          → (c : Bool) → has 4294967295 (map fileNumber files) ≡ c → openLogs numbers lengths heads remove .answer ≡ Done
-          → times v (filesOf (openLogs numbers lengths heads remove .queues)) + times v (removed numbers lengths) ≡ times v numbers
-      by false e b f c g d = let z : BadState ≡ Done = rw e at d in let w : _≡_ {A = ℕ} 0 1 = cc in absurd (omega arith)
-      by true e true f c g d = let z : NoRoom ≡ Done = rw (e, f) at d in let w : _≡_ {A = ℕ} 0 1 = cc in absurd (omega arith)
-      by true e false f true g d = let z : UsedUp ≡ Done = rw (e, f, g) at d in let w : _≡_ {A = ℕ} 0 1 = cc in absurd (omega arith)
-      by true e false f false g d =
-          rw (e, f, g) (ap (λ (l : List ℕ). times v l + times v (removed numbers lengths)) (opened-files files) ∙ order-times numbers lengths heads v)
+  module _ (d : openLogs names nameLengths lengths heads room .answer ≡ Done) where
+    -- the files kept, in another order: as many pass any test
+    pub open-same : (p : LogFile → Bool) → count p (replayFiles (openLogs names nameLengths lengths heads room .queues)) ≡ count p (keptFiles (saidBy names nameLengths) lengths heads)
+    unfolding openLogs
+    open-same p =
+        rw (logs-all names nameLengths lengths heads room d) (ap (count p) (opened-queue Done (length (removed (saidBy names nameLengths) lengths)) (inOrder (saidBy names nameLengths) lengths heads)) ∙ same-files p (saidBy names nameLengths) lengths heads)
+
+    -- each file found under a taken name is to be replayed or to be removed
+    pub open-loses-none : (v : ℕ)
+        → times v (filesOf (openLogs names nameLengths lengths heads room .queues)) + times v (removed (saidBy names nameLengths) lengths) ≡ times v (takenNumbers (saidBy names nameLengths))
+    unfolding openLogs
+    open-loses-none v =
+        rw (logs-all names nameLengths lengths heads room d)
+        (ap (λ (l : List ℕ). times v l + times v (removed (saidBy names nameLengths) lengths)) (opened-files Done (length (removed (saidBy names nameLengths) lengths)) (inOrder (saidBy names nameLengths) lengths heads))
+        ∙ order-times (saidBy names nameLengths) lengths heads v)
 
 module _ (q : Queues) (s : Sized q) (ok : queuesKept q ≡ true) where
   k : Kept q

@@ -1,19 +1,20 @@
 -- One queue changed at an end: what it holds then, and how often. Assumes nothing.
-use Prim.Native.Nat.{ℕ, zero, suc, _+_, _-_, _≤_, _<_}
+use Prim.Native.Nat.{ℕ, suc, _+_, _-_, _≤_, _<_}
 use mathlib.Core.Bool.{Bool, true, false}
 use mathlib.Core.List.{List, [], _∷_, _++_, append-nil}
 use mathlib.Core.Path.{_≡_, refl, sym, ap, _∙_}
 use native.Mathlib.Omega.{arith}
 use native.Mathlib.Numerals.{add-one}
 use lib.ListN.{getD, set, take, drop, length, length-drop, length-append, replicate}
-use lib.Seq.{paste, take-paste, take-suc-set, drop-cons, length-take-le, set-at, append-snoc}
+use lib.Seq.{paste, take-paste, take-suc-set, drop-cons, set-at, append-snoc}
 use lib.Dec.{ltb}
 use borrow.Author.Tests.{ltb-true, lt-ltb, le-ltb}
 use Rattle.words.specs.Choice.{if_then_else_}
-use Rattle.numbers.specs.Numbers.{times, one, ones, putOne, least, over}
+use Rattle.numbers.specs.Numbers.{times, one, ones, putOne, least}
 use Rattle.numbers.proofs.Laws.{one-added, over-front}
 use Rattle.numbers.proofs.Sort.{times-append}
-use Rattle.files.specs.Moves.{shifted, listed}
+use Rattle.found.specs.Listed.{listed}
+use Rattle.files.specs.Moves.{shifted}
 
 module _ (l : List ℕ) (n : ℕ) (x : ℕ) where
   pub times-pushed : (v : ℕ) → n < length l → times x (take (n + 1) (set l n v)) ≡ times x (take n l) + times x (v ∷ [])
@@ -40,17 +41,6 @@ module _ (l : List ℕ) (n : ℕ) (x : ℕ) where
       ap (times x) (front h k) ∙ times-append x (getD l 0 0 ∷ []) (take (n - 1) (drop 1 l)) ∙ ap (λ (t : List ℕ). times x (getD l 0 0 ∷ []) + times x t) (sym (left-behind h k))
 
 -- ---- lists with zeros behind them
-drop-zeros : (n k : ℕ) → drop {A = ℕ} k (replicate n 0) ≡ replicate (n - k) 0
-drop-zeros n zero = let e : n - 0 ≡ n = omega arith in rw e
-drop-zeros zero (suc k) = let e : 0 - suc k ≡ 0 = omega arith in rw e
-drop-zeros (suc n) (suc k) = let e : suc n - suc k ≡ n - k = omega arith in rw e (drop-zeros n k)
-
-pub zeros-over : (n k : ℕ) (l : List ℕ) → k ≤ length l → over (replicate n 0) l k ≡ listed n (take k l)
-unfolding listed
-zeros-over n k l h =
-    let e : 0 + k ≡ k = omega arith in
-    rw (length-take-le k l h) (ap (λ (m : ℕ). take k l ++ drop m (replicate n 0)) e ∙ ap (λ (t : List ℕ). take k l ++ t) (drop-zeros n k))
-
 pub listed-one : (n k : ℕ) (l : List ℕ) (b : Bool) (v : ℕ) → length l ≡ k → k < n → putOne (listed n l) k b v ≡ listed n (l ++ one b v)
 unfolding listed
 listed-one n k l true v e h =

@@ -10,7 +10,8 @@ use Rattle.numbers.specs.Numbers.{insertAll, ones, least, over}
 use Rattle.record.specs.declared.answer.Answer.{Answer}
 use Rattle.record.specs.declared.answer.Answer.the-variants.{Done, NoRoom, UsedUp, BadState}
 use Rattle.files.specs.Queues.{poolOf, cleanupOf, readingOf, sizeOf, fileCount, queuesKept}
-use Rattle.files.specs.Moves.{withAppending, withReading, withReadQueue, withCleanup, withPool, withNext, withDirty, shifted, listed, readingCleaned, frontReplayed, replayCleaned}
+use Rattle.found.specs.Listed.{listed}
+use Rattle.files.specs.Moves.{withAppending, withReading, withReadQueue, withCleanup, withPool, withNext, withDirty, shifted, readingCleaned, frontReplayed, replayCleaned}
 use Rattle.files.specs.declared.queues.Queues.{Queues}
 use Rattle.files.specs.declared.reading.FirstId.{FirstId}
 use Rattle.files.specs.declared.reading.Replayed.{Replayed}

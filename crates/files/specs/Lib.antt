@@ -2,7 +2,5 @@
 pub mod Queues
 pub mod Moves
 pub mod Calls
-pub mod Names
 pub mod Open
-pub mod Sorted
 pub mod Read

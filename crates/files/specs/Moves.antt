@@ -1,8 +1,8 @@
 -- The moves that the calls are made of: one place of the queues changed, the others as they were.
 use Prim.Native.Nat.{ℕ, _+_, _-_}
 use mathlib.Core.Bool.{Bool, true, false}
-use mathlib.Core.List.{List, _++_}
-use lib.ListN.{getD, drop, length, replicate}
+use mathlib.Core.List.{List}
+use lib.ListN.{getD, drop}
 use lib.Seq.{paste}
 use Rattle.numbers.specs.Numbers.{ones, putOne, over}
 use Rattle.files.specs.declared.queues.Queues.{Queues}
@@ -170,10 +170,6 @@ withDirty q b = record {
 -- an array without its first: the n - 1 behind it move down, and the last place in use keeps what it has
 abbrev pub shifted : List ℕ → ℕ → List ℕ
 shifted l n = over l (drop 1 l) (n - 1)
-
--- a list in an array of a given length, zeros behind it
-unfoldable pub listed : ℕ → List ℕ → List ℕ
-listed n l = l ++ replicate (n - length l) 0
 
 -- the file being read, if there is one, to the end of cleanup
 unfoldable pub readingCleaned : Queues → Queues

@@ -1,17 +1,15 @@
 // File numbers and the queues they stand in.
 mod cleaning;
-mod name;
 mod open;
 mod queues;
 mod read;
 mod reading;
-mod sorted;
 mod writing;
 
 pub use cleaning::Cleaned;
 pub use cleaning::Killed;
-pub use name::LogName;
-pub use name::log_name;
+pub use found::LogName;
+pub use found::log_name;
 pub use open::Opened;
 pub use queues::Queues;
 pub use read::ReadNext;

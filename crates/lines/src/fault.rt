@@ -9,6 +9,7 @@ pub enum Fault {
     LongCommand,
     LongBlob,
     LongImage,
+    LongOutput,
     ManyNames,
     UnknownKind,
     NoInput,
@@ -30,6 +31,10 @@ impl Fault {
             Fault::LongImage => io::write_all(
                 STDERR_FILENO,
                 b"an image of more than 300,000 bytes",
+            ),
+            Fault::LongOutput => io::write_all(
+                STDERR_FILENO,
+                b"an output of more than 60,000 bytes",
             ),
             Fault::ManyNames => io::write_all(STDERR_FILENO, b"more than 80 names"),
             Fault::UnknownKind => io::write_all(STDERR_FILENO, b"a kind above 2"),

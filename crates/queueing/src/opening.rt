@@ -4,7 +4,6 @@ ghost use lib.ListN.{length};
 ghost use Rattle.queueing.specs.Bounds.{SpanFits};
 use super::queued::Queued;
 use super::queued::replied;
-use files::LogName;
 use files::Opened;
 use files::Queues;
 use lines::Fault;
@@ -23,10 +22,10 @@ pub struct FileSpan {
     pub end: usize,
 }
 
-// Those under taken names, and where the command goes on behind them all.
+// How many bytes all names have, and where the command goes on behind the files.
 pub struct Gathered {
     pub whole: bool,
-    pub count: usize,
+    pub named: usize,
     pub end: usize,
 }
 
@@ -78,44 +77,54 @@ fn put_head(heads: &mut [u8; 720], k: usize, bytes: &[u8])
     }
 }
 
-// Behind the first k, if the name is taken. Answers how many there are then.
+// A name behind those that are there.
+fn put_name(names: &mut [u8; 20400], at: usize, bytes: &[u8])
+    requires { ⌜ at + length (now bytes) ≤ 20400 ⌝ }
+{
+    let mut i = 0;
+    while i < bytes.len() {
+        names[at + i] = bytes[i];
+        i += 1;
+    }
+}
+
+// Behind the first k, whose names have so many bytes. Answers how many the names have then.
 fn gather_one(
     command: &[u8],
     s: FileSpan,
     k: usize,
-    numbers: &mut [u64; 80],
+    named: usize,
+    names: &mut [u8; 20400],
+    name_lengths: &mut [usize; 80],
     lengths: &mut [u64; 80],
     heads: &mut [u8; 720],
 ) -> usize
-    requires { ⌜ (SpanFits s (length (now command))) × (k < 80) ⌝ }
-    ensures { λ r. ⌜ r ≤ k + 1 ⌝ }
+    requires { ⌜ (SpanFits s (length (now command))) × (k < 80) × (named ≤ 255 * k) ⌝ }
+    ensures { λ r. ⌜ r ≤ 255 * k + 255 ⌝ }
 {
     let name = s.name;
     let name_end = s.name_end;
     let start = s.start;
     let end = s.end;
-    match files::log_name(&command[name..name_end]) {
-        LogName::Other => k,
-        LogName::Log(number) => {
-            numbers[k] = number;
-            lengths[k] = (end - start) as u64;
-            put_head(heads, k, &command[start..end]);
-            k + 1
-        }
-    }
+    put_name(names, named, &command[name..name_end]);
+    name_lengths[k] = name_end - name;
+    lengths[k] = (end - start) as u64;
+    put_head(heads, k, &command[start..end]);
+    named + (name_end - name)
 }
 
 fn gather(
     command: &[u8],
     n: usize,
-    numbers: &mut [u64; 80],
+    names: &mut [u8; 20400],
+    name_lengths: &mut [usize; 80],
     lengths: &mut [u64; 80],
     heads: &mut [u8; 720],
 ) -> Gathered
     requires { ⌜ (n ≤ 80) × (3 ≤ length (now command)) ⌝ }
-    ensures { λ r. ⌜ r .count ≤ 80 ⌝ }
+    ensures { λ r. ⌜ r .named ≤ 20400 ⌝ }
 {
-    let mut count = 0;
+    let mut named = 0;
     let mut at = 3;
     let mut i = 0;
     while i < n {
@@ -123,33 +132,36 @@ fn gather(
         if !s.whole {
             return Gathered {
                 whole: false,
-                count: 0,
+                named: 0,
                 end: at,
             };
         }
-        count = gather_one(command, s, count, numbers, lengths, heads);
+        named = gather_one(command, s, i, named, names, name_lengths, lengths, heads);
         at = s.end;
         i += 1;
     }
     Gathered {
         whole: true,
-        count: count,
+        named: named,
         end: at,
     }
 }
 
 // Of the rooms only the fronts are handed on.
 fn opened<'a>(
-    numbers: &'a [u64],
+    names: &'a [u8],
+    name_lengths: &'a [usize],
     lengths: &'a [u64],
     heads: &'a [u8],
     remove: &mut [u64],
+    named: usize,
     n: usize,
 ) -> Opened
-    requires { ⌜ (n ≤ 80) × (n ≤ length (now numbers)) × (n ≤ length (now lengths)) × (9 * n ≤ length (now heads)) × (n ≤ length (now remove)) ⌝ }
+    requires { ⌜ (n ≤ 80) × (named ≤ length (now names)) × (n ≤ length (now «name_lengths»)) × (n ≤ length (now lengths)) × (9 * n ≤ length (now heads)) × (n ≤ length (now remove)) ⌝ }
 {
     Queues::open(
-        &numbers[0..n],
+        &names[0..named],
+        &name_lengths[0..n],
         &lengths[0..n],
         &heads[0..9 * n],
         &mut remove[0..n],
@@ -175,19 +187,22 @@ fn answer_opened(
 
 fn open_gathered<'a>(
     queues: Queues,
-    numbers: &'a [u64; 80],
+    names: &'a [u8; 20400],
+    name_lengths: &'a [usize; 80],
     lengths: &'a [u64; 80],
     heads: &'a [u8; 720],
+    named: usize,
     n: usize,
     answer: &mut [u8; 65536],
 ) -> Queued
-    requires { ⌜ n ≤ 80 ⌝ }
+    requires { ⌜ (named ≤ 20400) × (n ≤ 80) ⌝ }
 {
     let mut remove = [0u64; 80];
-    let done = opened(numbers, lengths, heads, &mut remove, n);
+    let done = opened(names, name_lengths, lengths, heads, &mut remove, named, n);
     answer_opened(queues, done, &remove, answer)
 }
 
+// At most 80 names of at most 255 bytes.
 pub fn open(queues: Queues, command: &[u8], answer: &mut [u8; 65536]) -> Queued {
     if command.len() < 3 {
         return replied(queues, Reply::Broken(Fault::ShortCommand));
@@ -196,16 +211,33 @@ pub fn open(queues: Queues, command: &[u8], answer: &mut [u8; 65536]) -> Queued 
     if 80 < n {
         return replied(queues, Reply::Broken(Fault::ManyNames));
     }
-    let mut numbers = [0u64; 80];
+    let mut names = [0u8; 20400];
+    let mut name_lengths = [0usize; 80];
     let mut lengths = [0u64; 80];
     let mut heads = [0u8; 720];
-    let found = gather(command, n, &mut numbers, &mut lengths, &mut heads);
+    let found = gather(
+        command,
+        n,
+        &mut names,
+        &mut name_lengths,
+        &mut lengths,
+        &mut heads,
+    );
     if !found.whole {
         return replied(queues, Reply::Broken(Fault::ShortCommand));
     }
     if command.len() != found.end {
         return replied(queues, wrong_length(command.len(), found.end));
     }
-    let count = found.count;
-    open_gathered(queues, &numbers, &lengths, &heads, count, answer)
+    let named = found.named;
+    open_gathered(
+        queues,
+        &names,
+        &name_lengths,
+        &lengths,
+        &heads,
+        named,
+        n,
+        answer,
+    )
 }

@@ -9,3 +9,4 @@ mod tables;
 pub use opcode::serve;
 pub use state::Read;
 pub use state::Reading;
+pub use tables::kind_of;

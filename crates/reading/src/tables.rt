@@ -13,7 +13,7 @@ use lines::put;
 use lines::wide;
 use lines::wrong_length;
 
-fn kind_of(number: u8) -> TableKind {
+pub fn kind_of(number: u8) -> TableKind {
     match number {
         0 => TableKind::Index,
         1 => TableKind::Value,

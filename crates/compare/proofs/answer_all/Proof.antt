@@ -1,39 +1,25 @@
 -- `answer_all` ends, and each call in it is handed what it asks for. Assumes nothing.
 use borrow.Author.Needs.{needs}
-use Prim.Native.Nat.{_≤_}
-use Rattle.lines.specs.Bounds.{Held}
-use Rattle.reading.specs.Bounds.{Kept}
+use Rattle.compare.specs.Bounds.{Running}
 use Rattle.compare.proofs.answer_all.Statement.{statement}
 use Rattle.compare.proofs.answer_all.Tie as tie
 
 abbrev Inv-loop : tie.InvT-loop
-Inv-loop chunk₀ command₀ log₀ image₀ answer₀ output₀ input₀ session₀ out₀ turns₀ chunk command log image answer output input session out turns =
-    (Held input) × (Kept (session .reading)) × (out .filled ≤ 131071)
+Inv-loop chunk₀ command₀ log₀ image₀ local₀ written₀ answer₀ output₀ run₀ turns₀ chunk command log image local written answer output run turns =
+    Running run
 
 abbrev μ-loop : tie.MeasureT-loop
-μ-loop chunk₀ command₀ log₀ image₀ answer₀ output₀ input₀ session₀ out₀ turns₀ chunk command log image answer output input session out turns =
+μ-loop chunk₀ command₀ log₀ image₀ local₀ written₀ answer₀ output₀ run₀ turns₀ chunk command log image local written answer output run turns =
     turns
 
-new-requires : tie.Need-new-requires Inv-loop μ-loop
-new-requires c κs = search needs
-
-new-requires-2 : tie.Need-new-requires-2 Inv-loop μ-loop
-new-requires-2 c κs = search needs
-
-new-requires-3 : tie.Need-new-requires-3 Inv-loop μ-loop
-new-requires-3 c κs = search needs
+started-requires : tie.Need-started-requires Inv-loop μ-loop
+started-requires c κs = search needs
 
 loop-holds : tie.Need-loop-holds Inv-loop μ-loop
 loop-holds c = search needs
 
-next-command-requires : tie.Need-next-command-requires Inv-loop μ-loop
-next-command-requires c κs = search needs
-
-dispatch-requires : tie.Need-dispatch-requires Inv-loop μ-loop
-dispatch-requires c κs = search needs
-
-take-requires : tie.Need-take-requires Inv-loop μ-loop
-take-requires c κs = search needs
+turn-requires : tie.Need-turn-requires Inv-loop μ-loop
+turn-requires c κs = search needs
 
 sub-turns : tie.Need-sub-turns Inv-loop μ-loop
 sub-turns c = search needs
@@ -56,13 +42,9 @@ answer-all-spec =
     (tie.spec
     Inv-loop
     μ-loop
-    new-requires
-    new-requires-2
-    new-requires-3
+    started-requires
     loop-holds
-    next-command-requires
-    dispatch-requires
-    take-requires
+    turn-requires
     sub-turns
     loop-less
     loop-again

@@ -1,15 +1,15 @@
 -- `gather` keeps within its rooms. Assumes nothing.
-use Prim.Native.Nat.{_≤_, _-_}
+use Prim.Native.Nat.{_*_, _≤_, _-_}
 use native.Mathlib.Omega.{arith}
 use lib.ListN.{length}
 use Rattle.queueing.proofs.opening.gather.Statement.{statement}
 use Rattle.queueing.proofs.opening.gather.Tie as tie
 
 abbrev Inv-loop : tie.InvT-loop
-Inv-loop command n numbers₀ lengths₀ heads₀ count₀ at₀ i₀ numbers lengths heads count at i = (i ≤ n) × (count ≤ i) × (at ≤ length command)
+Inv-loop command n names₀ name-lengths₀ lengths₀ heads₀ named₀ at₀ i₀ names name-lengths lengths heads named at i = (i ≤ n) × (named ≤ 255 * i) × (at ≤ length command)
 
 abbrev μ-loop : tie.MeasureT-loop
-μ-loop command n numbers₀ lengths₀ heads₀ count₀ at₀ i₀ numbers lengths heads count at i = n - i
+μ-loop command n names₀ name-lengths₀ lengths₀ heads₀ named₀ at₀ i₀ names name-lengths lengths heads named at i = n - i
 
 loop-holds : tie.Need-loop-holds Inv-loop μ-loop
 loop-holds c = omega arith

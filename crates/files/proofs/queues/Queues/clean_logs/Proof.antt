@@ -2,7 +2,7 @@
 use mathlib.Core.Path.{sym, ap, _∙_}
 use borrow.Author.Tests.{not-true, not-false}
 use Rattle.numbers.proofs.Laws.{least-le}
-use Rattle.files.specs.Moves.{listed}
+use Rattle.found.specs.Listed.{listed}
 use Rattle.files.specs.Calls.{cleanedBy, cleanLogs}
 use borrow.Author.Needs.{needs}
 use Rattle.files.proofs.queues.Queues.clean_logs.Statement.{statement}

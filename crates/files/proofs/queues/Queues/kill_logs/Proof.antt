@@ -3,7 +3,7 @@ use mathlib.Core.Path.{sym, _∙_}
 use native.Mathlib.Omega.{arith}
 use borrow.Author.Tests.{not-true, not-false}
 use Rattle.numbers.proofs.Laws.{ones-le}
-use Rattle.files.specs.Moves.{listed}
+use Rattle.found.specs.Listed.{listed}
 use Rattle.files.specs.Calls.{killLogs}
 use Rattle.files.proofs.Rule.{Sized, kept-facts}
 use Rattle.files.proofs.Clean.{kill-done}

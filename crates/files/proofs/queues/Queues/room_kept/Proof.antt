@@ -1,6 +1,7 @@
 -- `Queues::room_kept` meets its contract: the five tests in turn. Assumes nothing.
 use Prim.Native.Nat.{ℕ}
 use mathlib.Core.Path.{ap}
+use native.Mathlib.Omega.{arith}
 use borrow.Author.Tests.{lt-leb, le-leb}
 use lib.Dec.{leb}
 use Rattle.files.specs.Queues.{roomKept}
@@ -21,7 +22,7 @@ returns-2 c = rw (le-leb _ _ (c .before .before .if1 .left), lt-leb _ _ (c .if2 
 
 returns-3 : tie.Need-returns-3
 unfolding roomKept
-returns-3 c = rw (le-leb _ _ (c .before .before .before .before .if1 .left), le-leb _ _ (c .before .before .if2 .left), lt-leb _ _ (c .if3 .taken))
+returns-3 c = rw (le-leb _ _ (c .before .before .before .before .if1 .left), le-leb _ _ (c .before .before .if2 .left), lt-leb (c .before .before .before .before .before .before .args .self .«pool_count») 16 (omega (arith, c .if3 .taken)))
 
 returns-4 : tie.Need-returns-4
 unfolding roomKept
