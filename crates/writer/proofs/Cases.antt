@@ -19,7 +19,7 @@ use Rattle.output.specs.Put.{le, joined}
 use Rattle.writer.specs.Bytes.{slots, masked, entry, entryAt, entries, dropEntry, drops, body, recordOf}
 
 -- index table 1, value table 2 with values of 20 bytes, reference count table 3
-abbrev directory : Directory
+abbrev pub directory : Directory
 directory =
     record {
       tables =
@@ -30,44 +30,44 @@ directory =
       count = 3;
     }
 
-abbrev memory : List ℕ
+abbrev pub memory : List ℕ
 memory = replicate 49152 0
 
 -- n, n + 1, ..: so many bytes
-abbrev from : ℕ → ℕ → List ℕ
+abbrev pub from : ℕ → ℕ → List ℕ
 from zero n = []
 from (suc k) n = n ∷ from k (suc n)
 
 -- a chunk whose first 64 bytes are 1 to 64
-abbrev chunk : ℕ → List ℕ
+abbrev pub chunk : ℕ → List ℕ
 chunk n = from 64 1 ++ replicate (n - 64) 0
 
 -- a number below 256 in eight bytes, and what every record of id 1 begins with
-abbrev eight : ℕ → List ℕ
+abbrev pub eight : ℕ → List ℕ
 eight n = n ∷ replicate 7 0
 
-abbrev begun : List ℕ
+abbrev pub begun : List ℕ
 begun = 1 ∷ eight 1
 
-abbrev empty : List ℕ
+abbrev pub empty : List ℕ
 empty = begun ++ 4 ∷ 18 ∷ 211 ∷ 94 ∷ 28 ∷ []
 
 -- slots 0 and 2 of index 3
-abbrev twoSlots : List ℕ
+abbrev pub twoSlots : List ℕ
 twoSlots = begun ++ 2 ∷ 1 ∷ 0 ∷ eight 3 ++ eight 5 ++ from 8 1 ++ from 8 17 ++ 4 ∷ 177 ∷ 67 ∷ 1 ∷ 190 ∷ []
 
-abbrev oneValue : List ℕ
+abbrev pub oneValue : List ℕ
 oneValue = begun ++ 3 ∷ 2 ∷ 0 ∷ eight 4 ++ from 20 1 ++ 4 ∷ 110 ∷ 36 ∷ 58 ∷ 141 ∷ []
 
-abbrev oneDrop : List ℕ
+abbrev pub oneDrop : List ℕ
 oneDrop = begun ++ 5 ∷ 1 ∷ 0 ∷ 4 ∷ 116 ∷ 141 ∷ 54 ∷ 120 ∷ []
 
 -- slot 1 of index 5
-abbrev oneCount : List ℕ
+abbrev pub oneCount : List ℕ
 oneCount = begun ++ 6 ∷ 3 ∷ 0 ∷ eight 5 ++ eight 2 ++ from 16 17 ++ 4 ∷ 122 ∷ 93 ∷ 75 ∷ 3 ∷ []
 
 -- what is written after one insert into a list and its memory
-abbrev insertedBytes : TableKind → LogChange → List ℕ → ℕ → ℕ → ℕ → List ℕ → List ℕ
+abbrev pub insertedBytes : TableKind → LogChange → List ℕ → ℕ → ℕ → ℕ → List ℕ → List ℕ
 insertedBytes kind l local number index sub bytes =
     recordOf (inserted kind directory l local number index sub bytes .list) (localAfter kind directory l local number index sub bytes)
 

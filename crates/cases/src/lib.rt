@@ -1,0 +1,1 @@
+// Document 01's cases as a single proved table: proofs/Table.antt.

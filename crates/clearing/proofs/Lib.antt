@@ -1,0 +1,5 @@
+-- The laws, for other crates to cite.
+pub mod Again
+pub mod Cleared
+pub mod Meaning
+pub mod Walk
