@@ -1,0 +1,4 @@
+-- What the contracts cite.
+pub mod EndRecord
+pub mod Listed
+pub mod Ready
