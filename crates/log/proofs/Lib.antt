@@ -1,2 +1,3 @@
 pub mod Begins
 pub mod Clears
+pub mod EndThenRead
