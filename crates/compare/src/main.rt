@@ -34,6 +34,15 @@ fn turn(
     image: &mut [u8; 300000],
     local: &mut [u8; 49152],
     written: &mut [u8; 60000],
+    irows: &mut [u64; 1024],
+    iorder: &mut [u64; 256],
+    ibytes: &mut [u8; 131072],
+    vrows: &mut [u64; 1024],
+    vorder: &mut [u64; 256],
+    vbytes: &mut [u8; 131072],
+    crows: &mut [u64; 1024],
+    corder: &mut [u64; 256],
+    cbytes: &mut [u8; 262144],
     answer: &mut [u8; 65536],
     output: &mut [u8; 262144],
 ) -> Run
@@ -45,7 +54,25 @@ fn turn(
     let input = next.input;
     let found = next.found;
     let session = run.session;
-    let served = dispatch(session, found, command, log, image, local, written, answer);
+    let served = dispatch(
+        session,
+        found,
+        command,
+        log,
+        image,
+        local,
+        written,
+        irows,
+        iorder,
+        ibytes,
+        vrows,
+        vorder,
+        vbytes,
+        crows,
+        corder,
+        cbytes,
+        answer,
+    );
     let reply = served.reply;
     let after = served.session;
     let out = run.out;
@@ -63,6 +90,15 @@ fn answer_all(
     image: &mut [u8; 300000],
     local: &mut [u8; 49152],
     written: &mut [u8; 60000],
+    irows: &mut [u64; 1024],
+    iorder: &mut [u64; 256],
+    ibytes: &mut [u8; 131072],
+    vrows: &mut [u64; 1024],
+    vorder: &mut [u64; 256],
+    vbytes: &mut [u8; 131072],
+    crows: &mut [u64; 1024],
+    corder: &mut [u64; 256],
+    cbytes: &mut [u8; 262144],
     answer: &mut [u8; 65536],
     output: &mut [u8; 262144],
 ) {
@@ -77,6 +113,15 @@ fn answer_all(
             image,
             local,
             written,
+            irows,
+            iorder,
+            ibytes,
+            vrows,
+            vorder,
+            vbytes,
+            crows,
+            corder,
+            cbytes,
             answer,
             output,
         );
@@ -94,6 +139,15 @@ fn main() {
     let mut image = [0u8; 300000];
     let mut local = [0u8; 49152];
     let mut written = [0u8; 60000];
+    let mut irows = [0u64; 1024];
+    let mut iorder = [0u64; 256];
+    let mut ibytes = [0u8; 131072];
+    let mut vrows = [0u64; 1024];
+    let mut vorder = [0u64; 256];
+    let mut vbytes = [0u8; 131072];
+    let mut crows = [0u64; 1024];
+    let mut corder = [0u64; 256];
+    let mut cbytes = [0u8; 262144];
     let mut answer = [0u8; 65536];
     let mut output = [0u8; 262144];
     answer_all(
@@ -103,6 +157,15 @@ fn main() {
         &mut image,
         &mut local,
         &mut written,
+        &mut irows,
+        &mut iorder,
+        &mut ibytes,
+        &mut vrows,
+        &mut vorder,
+        &mut vbytes,
+        &mut crows,
+        &mut corder,
+        &mut cbytes,
         &mut answer,
         &mut output,
     );

@@ -1,14 +1,16 @@
-// What is kept from command to command, besides the bytes of the log, of the image and of the list.
+// What is kept from command to command, besides the bytes of the log, of the image, of the list and of the overlays.
 ghost use Rattle.reading.specs.Bounds.{Kept};
 use change::LogChange;
 use files::Queues;
 use lines::Reply;
+use living::Living;
 use reading::Reading;
 
 pub struct Session {
     pub reading: Reading,
     pub queues: Queues,
     pub list: LogChange,
+    pub living: Living,
 }
 
 pub struct Served {
@@ -24,6 +26,7 @@ impl Session {
             reading: Reading::new(),
             queues: queueing::no_files(),
             list: LogChange::new(1),
+            living: Living::new(),
         }
     }
 

@@ -1,4 +1,4 @@
-// The commands over the files and the queues they stand in.
+// The commands over the files and the queues they stand in, but for those that touch the overlays too.
 mod forging;
 mod nums;
 mod opcode;
@@ -8,5 +8,7 @@ mod queues;
 mod state;
 
 pub use opcode::serve;
+pub use opening::open;
 pub use queued::Queued;
 pub use queued::no_files;
+pub use state::put_queues;

@@ -2,16 +2,13 @@
 ghost use Prim.Native.Nat.{_≤_};
 ghost use lib.ListN.{length};
 use super::forging::forge_queues;
-use super::opening::open;
 use super::queued::Queued;
 use super::queued::replied;
 use super::queues::clean;
-use super::queues::clear_replay;
 use super::queues::flush;
 use super::queues::kill;
 use super::queues::read_next;
 use super::queues::replay_next;
-use super::state::state;
 use files::Queues;
 use lines::Reply;
 
@@ -20,14 +17,11 @@ pub fn serve(queues: Queues, command: &[u8], log: &[u8], answer: &mut [u8; 65536
 {
     let opcode = command[0];
     match opcode {
-        0x10 => open(queues, command, answer),
         0x14 => flush(queues, command, answer),
         0x15 => read_next(queues, command, log, answer),
         0x16 => replay_next(queues, command, answer),
         0x17 => clean(queues, command, answer),
-        0x18 => clear_replay(queues, command, answer),
         0x19 => kill(queues, command, answer),
-        0x1c => state(queues, command, answer),
         0x1f => forge_queues(queues, command, answer),
         _ => replied(queues, Reply::Unknown),
     }

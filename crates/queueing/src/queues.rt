@@ -1,4 +1,4 @@
-// FLUSH, READ_NEXT, REPLAY_NEXT, CLEAN, CLEAR_REPLAY and KILL: the files and the queues they stand in.
+// FLUSH, READ_NEXT, REPLAY_NEXT, CLEAN and KILL: the files and the queues they stand in.
 use super::nums::put_queue;
 use super::queued::Queued;
 use super::queued::replied;
@@ -66,17 +66,6 @@ pub fn clean(queues: Queues, command: &[u8], answer: &mut [u8; 65536]) -> Queued
     let removed = put_queue(answer, emptied, remove, done.remove_count);
     let after = done.queues;
     replied(after, Reply::Line(removed as u16))
-}
-
-pub fn clear_replay(queues: Queues, command: &[u8], answer: &mut [u8; 65536]) -> Queued {
-    if command.len() != 1 {
-        return replied(queues, wrong_length(command.len(), 1));
-    }
-    let done = queues.clear_replay_logs();
-    let number = done.answer;
-    put(answer, 0, number.number() as u64, 1);
-    let after = done.queues;
-    replied(after, Reply::Line(1))
 }
 
 pub fn kill(queues: Queues, command: &[u8], answer: &mut [u8; 65536]) -> Queued {

@@ -1,15 +1,11 @@
-// STATE: the log state.
+// The part of STATE that the queues are.
 ghost use Prim.Native.Nat.{_+_, _≤_};
 use super::nums::put_pool;
 use super::nums::put_queue;
-use super::queued::Queued;
-use super::queued::replied;
 use files::Queues;
-use lines::Reply;
 use lines::flag;
 use lines::least;
 use lines::put;
-use lines::wrong_length;
 
 // What lies beside a false flag means nothing, and shows as 0.
 fn if_there(there: bool, number: u64) -> u64 {
@@ -49,23 +45,11 @@ fn put_replay(answer: &mut [u8; 65536], at: usize, q: Queues) -> usize
     at + 2 + 12 * n
 }
 
-// No call gives out ids yet: the next one is 1, and the eight columns' last ones are 0.
-fn put_ids(answer: &mut [u8; 65536], at: usize, q: Queues) -> usize
-    requires { ⌜ at ≤ 1770 ⌝ }
-    ensures { λ r. ⌜ r ≤ at + 77 ⌝ }
+// All that STATE tells of the queues, up to the next number.
+pub fn put_queues(answer: &mut [u8; 65536], queues: Queues) -> usize
+    ensures { λ r. ⌜ r ≤ 1774 ⌝ }
 {
-    put(answer, at, q.next_log_id as u64, 4);
-    put(answer, at + 4, 1, 8);
-    put(answer, at + 12, flag(q.dirty), 1);
-    put(answer, at + 13, 0, 64)
-}
-
-pub fn state(queues: Queues, command: &[u8], answer: &mut [u8; 65536]) -> Queued {
-    if command.len() != 1 {
-        return replied(queues, wrong_length(command.len(), 1));
-    }
     let places = put_places(answer, queues);
     let replay = put_replay(answer, places, queues);
-    let end = put_ids(answer, replay, queues);
-    replied(queues, Reply::Line(end as u16))
+    put(answer, replay, queues.next_log_id as u64, 4)
 }
