@@ -1,3 +1,4 @@
 pub mod Begins
 pub mod Clears
 pub mod EndThenRead
+pub mod Kept
