@@ -1,6 +1,6 @@
+-- `with_last_id` meets its contract: beyond the columns nothing is set. Assumes nothing.
 use mathlib.Core.Path.{_≡_}
 use lib.ListN.{length}
--- `with_last_id` meets its contract: beyond the columns nothing is set. Assumes nothing.
 use native.Mathlib.Omega.{arith}
 use lib.Seq.{set-out}
 use borrow.Author.Needs.{needs}

@@ -1,7 +1,7 @@
+-- `put_place` meets its contract: its words are those of its row, its bytes those of its slot. Assumes nothing.
 use denote.Ref.{now}
 use Rattle.ending.specs.Listed.{putPlace}
 use Rattle.ending.proofs.Puts.{bytes-fit, part-is}
--- `put_place` meets its contract: its words are those of its row, its bytes those of its slot. Assumes nothing.
 use native.Mathlib.Omega.{arith}
 use borrow.Author.Needs.{needs}
 use Rattle.ending.proofs.listed.put_place.Statement.{statement}

@@ -1,7 +1,7 @@
+-- `unit` meets its contract. Assumes nothing.
 use native.Mathlib.Omega.{arith}
 use Rattle.directory.specs.declared.table.TableKind.the-variants.{Value}
 use Rattle.overlay.proofs.Ruled.{unit-fits}
--- `unit` meets its contract. Assumes nothing.
 use borrow.Author.Needs.{needs}
 use Rattle.ending.proofs.listed.unit.Statement.{statement}
 use Rattle.ending.proofs.listed.unit.Tie as tie
