@@ -10,7 +10,7 @@ use Rattle.directory.specs.Directory.{directoryKept}
 use Rattle.directory.specs.declared.directory.Directory.{Directory}
 use Rattle.directory.specs.declared.table.TableKind.the-variants.{Index, Value, RefCount}
 use Rattle.record.specs.Next.{readerAt, nextOf}
-use Rattle.record.specs.declared.answer.Answer.the-variants.{Done, BadArgument}
+use Rattle.answer.specs.declared.answer.Answer.the-variants.{Done, BadArgument}
 use Rattle.record.proofs.Cases.{answerOf}
 use Rattle.record.proofs.Cases as openings
 use Rattle.change.specs.Listed.{newList}

@@ -10,8 +10,8 @@ use lib.Dec.{ltb, leb, eqb}
 use lib.ListN.{length, getD}
 use borrow.Author.Tests.{leb-true, leb-false, ltb-false, eqb-true, lt-ltb, eq-eqb}
 use Rattle.words.specs.Choice.{if_then_else_}
-use Rattle.record.specs.declared.answer.Answer.{Answer}
-use Rattle.record.specs.declared.answer.Answer.the-variants.{NoTable, NoIndex, NoRoom, BadState, BadArgument}
+use Rattle.answer.specs.declared.answer.Answer.{Answer}
+use Rattle.answer.specs.declared.answer.Answer.the-variants.{NoTable, NoIndex, NoRoom, BadState, BadArgument}
 use Rattle.directory.specs.Table.{sameKind, isTable, lengthFits, tableKept, unitOf}
 use Rattle.directory.specs.Directory.{tablesOf, lookup, findTable, allKept, directoryKept}
 use Rattle.directory.specs.declared.table.TableKind.{TableKind}

@@ -8,8 +8,8 @@ use lib.ListN.{getD, length}
 use lib.Dec.{ltb}
 use lib.Seq.{paste}
 use borrow.Author.Tests.{ltb-true, le-leb, lt-leb, lt-ltb, le-ltb, eq-eqb, ne-eqb}
-use Rattle.record.specs.declared.answer.Answer.{Answer}
-use Rattle.record.specs.declared.answer.Answer.the-variants.{Done, NoIndex, NoRoom, BadArgument}
+use Rattle.answer.specs.declared.answer.Answer.{Answer}
+use Rattle.answer.specs.declared.answer.Answer.the-variants.{Done, NoIndex, NoRoom, BadArgument}
 use Rattle.directory.specs.Table.{unitOf}
 use Rattle.directory.specs.declared.table.TableKind.{TableKind}
 use Rattle.directory.specs.declared.table.TableKind.the-variants.{Index, Value, RefCount}

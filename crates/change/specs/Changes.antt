@@ -4,7 +4,7 @@ use mathlib.Core.Bool.{_&&_}
 use Prim.Native.Nat.{ℕ, _+_}
 use lib.Dec.{leb}
 use Rattle.words.specs.Choice.{if_then_else_}
-use Rattle.record.specs.declared.answer.Answer.the-variants.{Done, BadState}
+use Rattle.answer.specs.declared.answer.Answer.the-variants.{Done, BadState}
 use Rattle.keys.specs.Keys.{rank, ruled, spot}
 use Rattle.change.specs.Listed.{keysIn}
 use Rattle.change.specs.declared.overlay.LogOverlayLocal.{LogOverlayLocal}

@@ -3,7 +3,7 @@ use Prim.Native.Nat.{ℕ, _+_}
 use lib.Dec.{leb}
 use lib.ListN.{set}
 use Rattle.words.specs.Choice.{if_then_else_}
-use Rattle.record.specs.declared.answer.Answer.the-variants.{Done, NoTable, NoRoom, BadState}
+use Rattle.answer.specs.declared.answer.Answer.the-variants.{Done, NoTable, NoRoom, BadState}
 use Rattle.directory.specs.Directory.{tablesOf, stands}
 use Rattle.directory.specs.declared.table.TableKind.{TableKind}
 use Rattle.directory.specs.declared.table.TableKind.the-variants.{Index, RefCount}

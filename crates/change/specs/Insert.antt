@@ -5,8 +5,8 @@ use lib.Dec.{ltb, leb, eqb}
 use lib.ListN.{getD, length}
 use lib.Seq.{paste}
 use Rattle.words.specs.Choice.{if_then_else_}
-use Rattle.record.specs.declared.answer.Answer.{Answer}
-use Rattle.record.specs.declared.answer.Answer.the-variants.{Done, NoTable, NoIndex, NoRoom, BadState, BadArgument}
+use Rattle.answer.specs.declared.answer.Answer.{Answer}
+use Rattle.answer.specs.declared.answer.Answer.the-variants.{Done, NoTable, NoIndex, NoRoom, BadState, BadArgument}
 use Rattle.directory.specs.Table.{unitOf}
 use Rattle.directory.specs.Directory.{findTable}
 use Rattle.directory.specs.declared.table.TableKind.{TableKind}

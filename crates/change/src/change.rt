@@ -12,12 +12,12 @@ use super::overlay::LocalValues;
 use super::overlay::LogOverlayLocal;
 use super::overlay::Plan;
 use super::room::slot_at;
+use answer::Answer;
 use directory::Directory;
 use directory::IndexTableId;
 use directory::RefCountTableId;
 use directory::TableKind;
 use directory::ValueTableId;
-use record::Answer;
 
 pub struct LogChange {
     pub local_index: LogOverlayLocal,

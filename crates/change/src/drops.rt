@@ -4,10 +4,10 @@ ghost use Prim.Native.Nat.{_<_};
 ghost use Rattle.directory.specs.Directory.{tablesOf, stands};
 ghost use Rattle.change.specs.Listed.{noDrops, dropsKept};
 ghost use Rattle.change.specs.Drop.{dropsWith, dropped};
+use answer::Answer;
 use directory::Directory;
 use directory::Found;
 use directory::TableKind;
-use record::Answer;
 
 pub struct Drops {
     pub tables: [u16; 16],

@@ -11,10 +11,10 @@ ghost use Rattle.change.specs.Insert.{roomFor, planIn, rowWith, keyOver,
 use super::room::mark;
 use super::room::mark_kept;
 use super::room::room;
+use answer::Answer;
 use directory::Directory;
 use directory::Found;
 use directory::TableKind;
-use record::Answer;
 
 // One struct for the three kinds, so that one path serves them all: for reference counts half of its room stays unused.
 pub struct LogOverlayLocal {

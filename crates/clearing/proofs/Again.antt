@@ -16,8 +16,8 @@ use Rattle.directory.specs.declared.directory.Directory.{Directory}
 use Rattle.keys.proofs.Places.{left-of, right-of}
 use Rattle.record.specs.Format.{Got, stopped, got}
 use Rattle.record.specs.Next.{readerAt, stepOf}
-use Rattle.record.specs.declared.answer.Answer.{Answer}
-use Rattle.record.specs.declared.answer.Answer.the-variants.{Done, WrongSum, UsedUp, BadState}
+use Rattle.answer.specs.declared.answer.Answer.{Answer}
+use Rattle.answer.specs.declared.answer.Answer.the-variants.{Done, WrongSum, UsedUp, BadState}
 use Rattle.record.specs.declared.reader.LogReader.{LogReader}
 use Rattle.record.specs.declared.reader.Stepped.{Stepped}
 use Rattle.record.specs.declared.reader.Step.{Step}

@@ -10,7 +10,7 @@ use Rattle.directory.specs.declared.directory.Directory.{Directory}
 use Rattle.directory.specs.declared.table.TableKind.the-variants.{Index, Value, RefCount}
 use Rattle.record.specs.Format.{Got, stopped, got}
 use Rattle.record.specs.Next.{readerAt, stepOf}
-use Rattle.record.specs.declared.answer.Answer.the-variants.{Done, UsedUp, BadState}
+use Rattle.answer.specs.declared.answer.Answer.the-variants.{Done, UsedUp, BadState}
 use Rattle.record.specs.declared.reader.LogReader.{LogReader}
 use Rattle.record.specs.declared.reader.Step.{Step}
 use Rattle.record.specs.declared.reader.Step.the-variants.{Took, Refused}

@@ -11,7 +11,7 @@ use Rattle.directory.specs.declared.directory.Directory.{Directory}
 use Rattle.directory.specs.declared.table.TableKind.{TableKind}
 use Rattle.record.specs.Format.{Got, stopped, got}
 use Rattle.record.specs.Next.{readerAt, stepOf}
-use Rattle.record.specs.declared.answer.Answer.the-variants.{UsedUp, BadState}
+use Rattle.answer.specs.declared.answer.Answer.the-variants.{UsedUp, BadState}
 use Rattle.effect.specs.Effect.{Written}
 use Rattle.replay.specs.Parts.{wholeOf}
 use Rattle.replay.specs.Replay.{restOf}

@@ -4,9 +4,9 @@ ghost use Rattle.overlay.specs.Shared.{sharedOf};
 ghost use Rattle.clearing.specs.EndRead.{toClear, sharedAfter, nextAfter, endedRead};
 ghost use Rattle.clearing.specs.Parts.{wholeToClear};
 use super::all::clear_all;
+use answer::Answer;
 use directory::Directory;
 use overlay::LogOverlays;
-use record::Answer;
 use replay::WholeAnswer;
 
 pub struct EndRead {

@@ -23,7 +23,7 @@ use Rattle.directory.specs.declared.directory.Found.the-variants.{At, Nothing}
 use Rattle.record.specs.Format.{Format, need, refuse, give, got, readAt, _>>=_, _>>_, test}
 use Rattle.record.specs.Record.{Item, insertOf, dropIndex, dropRefCount, known, key, chunk, masked, value, valued, table, dropped, sumHolds, ended, insideBy, inside, opening}
 use Rattle.record.specs.Next.{stepOf}
-use Rattle.record.specs.declared.answer.Answer.{Answer}
+use Rattle.answer.specs.declared.answer.Answer.{Answer}
 use Rattle.record.specs.declared.action.LogAction.{LogAction}
 use Rattle.record.specs.declared.action.LogAction.the-variants.{BeginRecord}
 use Rattle.record.specs.declared.item.Key.{Key}

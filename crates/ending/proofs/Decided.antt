@@ -10,9 +10,9 @@ use Rattle.words.specs.Choice.{if_then_else_}
 use Rattle.directory.specs.declared.table.TableKind.{TableKind}
 use Rattle.directory.specs.declared.table.TableKind.the-variants.{Index, Value, RefCount}
 use Rattle.directory.specs.declared.directory.Directory.{Directory}
-use Rattle.record.specs.Answer.{numberOf}
-use Rattle.record.specs.declared.answer.Answer.{Answer}
-use Rattle.record.specs.declared.answer.Answer.the-variants.{Done, NoRoom, ShortOutput, NotNext, BadState}
+use Rattle.answer.specs.Answer.{numberOf}
+use Rattle.answer.specs.declared.answer.Answer.{Answer}
+use Rattle.answer.specs.declared.answer.Answer.the-variants.{Done, NoRoom, ShortOutput, NotNext, BadState}
 use Rattle.keys.specs.Keys.{keysOf, news}
 use Rattle.keys.proofs.Places.{both, left-of, right-of}
 use Rattle.keys.proofs.Rank.{ltb-same}

@@ -6,8 +6,8 @@ use lib.ListN.{length}
 use borrow.Author.Tests.{le-ltb, eq-eqb, ne-eqb}
 use Rattle.directory.specs.declared.table.TableKind.the-variants.{Index, Value, RefCount}
 use Rattle.directory.specs.declared.directory.Directory.{Directory}
-use Rattle.record.specs.Answer.{numberOf}
-use Rattle.record.specs.declared.answer.Answer.the-variants.{Done}
+use Rattle.answer.specs.Answer.{numberOf}
+use Rattle.answer.specs.declared.answer.Answer.the-variants.{Done}
 use Rattle.change.specs.declared.change.LogChange.{LogChange}
 use Rattle.writer.specs.Size.{recordSize}
 use Rattle.writer.specs.Flush.{flushed}

@@ -15,7 +15,7 @@ use Rattle.words.specs.Choice.{if_then_else_}
 use Rattle.directory.specs.declared.table.TableKind.{TableKind}
 use Rattle.directory.specs.declared.table.TableKind.the-variants.{Index, Value, RefCount}
 use Rattle.directory.specs.declared.directory.Directory.{Directory}
-use Rattle.record.specs.Answer.{numberOf}
+use Rattle.answer.specs.Answer.{numberOf}
 use Rattle.keys.specs.Keys.{keyAt, keysOf, above, ascends, has}
 use Rattle.keys.proofs.Places.{both, left-of, right-of, above-ascends, above-lacks, rule-rises}
 use Rattle.change.specs.Room.{roomOf, localLength}

@@ -5,9 +5,9 @@ use Prim.Native.Nat.{ℕ, _+_}
 use lib.Dec.{ltb, eqb}
 use Rattle.words.specs.Choice.{if_then_else_}
 use Rattle.directory.specs.declared.directory.Directory.{Directory}
-use Rattle.record.specs.Answer.{numberOf}
-use Rattle.record.specs.declared.answer.Answer.{Answer}
-use Rattle.record.specs.declared.answer.Answer.the-variants.{Done, NoRoom, ShortOutput, NotNext, BadState}
+use Rattle.answer.specs.Answer.{numberOf}
+use Rattle.answer.specs.declared.answer.Answer.{Answer}
+use Rattle.answer.specs.declared.answer.Answer.the-variants.{Done, NoRoom, ShortOutput, NotNext, BadState}
 use Rattle.change.specs.Listed.{stateKept}
 use Rattle.change.specs.declared.change.LogChange.{LogChange}
 use Rattle.output.specs.Put.{put}

@@ -9,13 +9,13 @@ ghost use Rattle.ending.specs.EndRecord.{refusedBy, sharedAfter, outputA
 use super::last_id::last_ids;
 use super::listed::put_listed;
 use super::refusal::ending;
+use answer::Answer;
 use change::LogChange;
 use directory::Directory;
 use directory::TableKind;
 use files::FileSource;
 use files::Queues;
 use overlay::LogOverlays;
-use record::Answer;
 
 pub struct Ended {
     pub answer: Answer,

@@ -10,6 +10,7 @@ ghost use Rattle.files.specs.Calls.{notTaken};
 ghost use Rattle.ending.specs.EndRecord.{allKept};
 ghost use Rattle.ending.specs.Listed.{passes, anyCrowded};
 ghost use Rattle.ending.specs.Ready.{BothRuled};
+use answer::Answer;
 use change::LogChange;
 use change::LogOverlayLocal;
 use directory::Directory;
@@ -18,7 +19,6 @@ use files::FileSource;
 use files::Queues;
 use files::Taken;
 use overlay::LogOverlays;
-use record::Answer;
 
 fn crowded<'a>(
     kind: TableKind,

@@ -5,7 +5,7 @@ use mathlib.Core.List.{List, [], _∷_}
 use mathlib.Core.Path.{_≡_, refl}
 use lib.ListN.{take, replicate}
 use Rattle.numbers.specs.Numbers.{least}
-use Rattle.record.specs.declared.answer.Answer.the-variants.{Done}
+use Rattle.answer.specs.declared.answer.Answer.the-variants.{Done}
 use Rattle.files.specs.Queues.{poolOf, sizeOf, filesOf, fileCount, roomKept, queuesKept}
 use Rattle.found.specs.Listed.{listed}
 use Rattle.files.specs.Moves.{withAppending, withCleanup, withPool, withNext}

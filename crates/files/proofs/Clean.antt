@@ -13,7 +13,7 @@ use Rattle.words.proofs.Cut.{drop-take}
 use Rattle.numbers.specs.Numbers.{insertAll, ones, putOne, least, over}
 use Rattle.numbers.proofs.Laws.{least-le, over-front, over-same}
 use Rattle.numbers.proofs.Sort.{length-all}
-use Rattle.record.specs.declared.answer.Answer.the-variants.{Done}
+use Rattle.answer.specs.declared.answer.Answer.the-variants.{Done}
 use Rattle.files.specs.Queues.{poolOf, cleanupOf, queuesKept}
 use Rattle.found.specs.Listed.{listed}
 use Rattle.files.specs.Moves.{withReading, withPool, withCleanup}

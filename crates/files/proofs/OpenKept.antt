@@ -11,10 +11,10 @@ use lib.Dec.{eqb}
 use borrow.Author.Tests.{eqb-false, eqb-true}
 use Rattle.words.specs.Choice.{if_then_else_}
 use Rattle.numbers.specs.Numbers.{times, allBelow, distinct}
-use Rattle.record.specs.Answer.{numberOf}
+use Rattle.answer.specs.Answer.{numberOf}
 use Rattle.record.specs.Next.{readerAt}
-use Rattle.record.specs.declared.answer.Answer.{Answer}
-use Rattle.record.specs.declared.answer.Answer.the-variants.{Done}
+use Rattle.answer.specs.declared.answer.Answer.{Answer}
+use Rattle.answer.specs.declared.answer.Answer.the-variants.{Done}
 use Rattle.record.specs.declared.reader.LogReader.{LogReader}
 use Rattle.record.specs.declared.reader.Step.{Step}
 use Rattle.record.specs.declared.reader.Step.the-variants.{Took, Refused}

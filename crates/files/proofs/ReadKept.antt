@@ -8,10 +8,10 @@ use lib.Dec.{eqb}
 use borrow.Author.Tests.{eqb-false, eq-eqb, ne-eqb}
 use Rattle.words.specs.Choice.{if_then_else_}
 use Rattle.numbers.specs.Numbers.{times}
-use Rattle.record.specs.Answer.{numberOf}
+use Rattle.answer.specs.Answer.{numberOf}
 use Rattle.record.specs.Next.{readerAt}
-use Rattle.record.specs.declared.answer.Answer.{Answer}
-use Rattle.record.specs.declared.answer.Answer.the-variants.{EndOfLog, BadState}
+use Rattle.answer.specs.declared.answer.Answer.{Answer}
+use Rattle.answer.specs.declared.answer.Answer.the-variants.{EndOfLog, BadState}
 use Rattle.files.specs.Queues.{filesOf, queuesKept}
 use Rattle.files.specs.Moves.{frontRead, readingCleaned}
 use Rattle.files.specs.Read.{openingAt, hasFile, nowReading, notRead, readBy, readNext}

@@ -7,8 +7,8 @@ use lib.ListN.{getD, set, take, drop}
 use lib.Dec.{ltb, eqb, leb}
 use Rattle.words.specs.Choice.{if_then_else_}
 use Rattle.numbers.specs.Numbers.{insertAll, ones, least, over}
-use Rattle.record.specs.declared.answer.Answer.{Answer}
-use Rattle.record.specs.declared.answer.Answer.the-variants.{Done, NoRoom, UsedUp, BadState}
+use Rattle.answer.specs.declared.answer.Answer.{Answer}
+use Rattle.answer.specs.declared.answer.Answer.the-variants.{Done, NoRoom, UsedUp, BadState}
 use Rattle.files.specs.Queues.{poolOf, cleanupOf, readingOf, sizeOf, fileCount, queuesKept}
 use Rattle.found.specs.Listed.{listed}
 use Rattle.files.specs.Moves.{withAppending, withReading, withReadQueue, withCleanup, withPool, withNext, withDirty, shifted, readingCleaned, frontReplayed, replayCleaned}

@@ -6,7 +6,7 @@ ghost use lib.ListN.{length, take};
 ghost use Rattle.files.specs.Queues.{queuesKept};
 ghost use Rattle.files.specs.Calls.{pooled, cleanedBy, cleanLogs, killLogs};
 use super::queues::Queues;
-use record::Answer;
+use answer::Answer;
 
 // Which files the host is to empty, and then which to remove, and whether cleanup still holds any.
 pub struct Cleaned {

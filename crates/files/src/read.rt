@@ -6,10 +6,10 @@ ghost use Rattle.files.specs.Queues.{queuesKept};
 ghost use Rattle.files.specs.Moves.{frontRead};
 ghost use Rattle.files.specs.Read.{openingAt, hasFile, nowReading, notRead, readBy, readNext};
 use super::queues::Queues;
+use answer::Answer;
 use directory::Directory;
 use directory::TableDescription;
 use directory::TableKind;
-use record::Answer;
 use record::LogReader;
 use record::Step;
 

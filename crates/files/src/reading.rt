@@ -7,7 +7,7 @@ ghost use Rattle.files.specs.Queues.{queuesKept};
 ghost use Rattle.files.specs.Moves.{readingCleaned, frontReplayed, replayCleaned};
 ghost use Rattle.files.specs.Calls.{replayRecordId, replayNext, clearReplayLogs};
 use super::queues::Queues;
-use record::Answer;
+use answer::Answer;
 
 pub struct FirstId {
     pub found: bool,

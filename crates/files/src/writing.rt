@@ -7,7 +7,7 @@ ghost use Rattle.files.specs.Queues.{fileCount, queuesKept};
 ghost use Rattle.files.specs.Calls.{notFlushed, flushOne, needsNew, tookFrom, takenBy, notTaken, takeFile};
 use super::queues::Queues;
 use super::queues::wide;
-use record::Answer;
+use answer::Answer;
 
 // Whether the appending file was moved, and its number.
 pub struct Flushed {

@@ -9,8 +9,8 @@ use lib.Seq.{paste-zero}
 use lib.Dec.{ltb}
 use borrow.Author.Tests.{lt-ltb, le-ltb, ltb-false}
 use Rattle.numbers.specs.Numbers.{has, allBelow, distinct, over}
-use Rattle.record.specs.declared.answer.Answer.{Answer}
-use Rattle.record.specs.declared.answer.Answer.the-variants.{Done, NoRoom, UsedUp, BadState}
+use Rattle.answer.specs.declared.answer.Answer.{Answer}
+use Rattle.answer.specs.declared.answer.Answer.the-variants.{Done, NoRoom, UsedUp, BadState}
 use Rattle.found.specs.Names.{saidBy}
 use Rattle.found.specs.Logs.{LogFile, fileNumber, takenNumbers, removed, inOrder, belong, foundKept, answered, toReplay, logFiles}
 use Rattle.found.specs.Inner.{filesIn, Gathered}

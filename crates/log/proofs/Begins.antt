@@ -2,7 +2,7 @@
 use mathlib.Core.Path.{_≡_, sym, ap, _∙_}
 use Prim.Native.Nat.{ℕ, _+_}
 use borrow.Author.Tests.{eq-eqb, ne-eqb}
-use Rattle.record.specs.declared.answer.Answer.the-variants.{Done, UsedUp, BadState}
+use Rattle.answer.specs.declared.answer.Answer.the-variants.{Done, UsedUp, BadState}
 use Rattle.replay.specs.Run.{lastId}
 use Rattle.change.specs.Listed.{newList}
 use Rattle.change.specs.declared.change.LogChange.{LogChange}

@@ -3,8 +3,8 @@ use mathlib.Core.Path.{_≡_, sym, ap, _∙_}
 use mathlib.Core.Bool.{true, false}
 use Prim.Native.Nat.{ℕ}
 use borrow.Author.Tests.{eq-eqb, ne-eqb}
-use Rattle.record.specs.Answer.{numberOf}
-use Rattle.record.specs.declared.answer.Answer.the-variants.{BadState}
+use Rattle.answer.specs.Answer.{numberOf}
+use Rattle.answer.specs.declared.answer.Answer.the-variants.{BadState}
 use Rattle.overlay.specs.LastIds.{noOverlays}
 use Rattle.overlay.specs.Shared.{Shared, sharedKept}
 use Rattle.overlay.specs.declared.overlays.LogOverlays.{LogOverlays}

@@ -17,9 +17,9 @@ use Rattle.directory.specs.Directory.{imageLength}
 use Rattle.directory.specs.declared.table.TableKind.{TableKind}
 use Rattle.directory.specs.declared.table.TableKind.the-variants.{Index, Value, RefCount}
 use Rattle.directory.specs.declared.directory.Directory.{Directory}
-use Rattle.record.specs.Answer.{numberOf}
+use Rattle.answer.specs.Answer.{numberOf}
 use Rattle.record.specs.Format.{Got, got}
-use Rattle.record.specs.declared.answer.Answer.the-variants.{Done, NoRoom, NotNext, BadState}
+use Rattle.answer.specs.declared.answer.Answer.the-variants.{Done, NoRoom, NotNext, BadState}
 use Rattle.effect.specs.Effect.{Written}
 use Rattle.replay.specs.Replay.{judged, replayedAs}
 use Rattle.replay.specs.Run.{lastId}

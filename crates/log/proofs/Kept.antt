@@ -8,7 +8,7 @@ use lib.Dec.{eqb}
 use Rattle.words.specs.Choice.{if_then_else_}
 use Rattle.directory.specs.declared.table.TableKind.{TableKind}
 use Rattle.directory.specs.declared.table.TableKind.the-variants.{Index, Value, RefCount}
-use Rattle.record.specs.Answer.{numberOf}
+use Rattle.answer.specs.Answer.{numberOf}
 use Rattle.keys.specs.Keys.{keysOf, ruled}
 use Rattle.keys.proofs.Places.{both}
 use Rattle.overlay.specs.Rules.{Overlay, overlayOf, overlayKept}

@@ -2,8 +2,8 @@
 use Prim.Native.Nat.{ℕ, _+_}
 use lib.Dec.{eqb}
 use Rattle.words.specs.Choice.{if_then_else_}
-use Rattle.record.specs.declared.answer.Answer.{Answer}
-use Rattle.record.specs.declared.answer.Answer.the-variants.{Done, UsedUp, BadState}
+use Rattle.answer.specs.declared.answer.Answer.{Answer}
+use Rattle.answer.specs.declared.answer.Answer.the-variants.{Done, UsedUp, BadState}
 use Rattle.replay.specs.Run.{lastId}
 use Rattle.change.specs.Listed.{newList}
 use Rattle.log.specs.declared.begin.Begun.{Begun}

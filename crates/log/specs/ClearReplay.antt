@@ -2,8 +2,8 @@
 -- 0, clears dirty."; log.rs lines 816 to 837).
 use lib.Dec.{eqb}
 use Rattle.words.specs.Choice.{if_then_else_}
-use Rattle.record.specs.Answer.{numberOf}
-use Rattle.record.specs.declared.answer.Answer.the-variants.{BadState}
+use Rattle.answer.specs.Answer.{numberOf}
+use Rattle.answer.specs.declared.answer.Answer.the-variants.{BadState}
 use Rattle.overlay.specs.LastIds.{noOverlays}
 use Rattle.overlay.specs.Shared.{Shared, sharedKept}
 use Rattle.overlay.specs.declared.overlays.LogOverlays.{LogOverlays}

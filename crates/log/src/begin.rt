@@ -1,8 +1,8 @@
 // The beginning of a record.
 ghost use mathlib.Core.Path.{_≡_};
 ghost use Rattle.log.specs.Begin.{notBegun, begun};
+use answer::Answer;
 use change::LogChange;
-use record::Answer;
 
 // The next id afterwards, and the list to fill.
 pub struct Begun {

@@ -2,10 +2,10 @@
 ghost use mathlib.Core.Path.{_≡_};
 ghost use Rattle.overlay.specs.Shared.{sharedOf};
 ghost use Rattle.log.specs.ClearReplay.{byQueues, replayCleared};
+use answer::Answer;
 use files::Queues;
 use files::ReplayCleared;
 use overlay::LogOverlays;
-use record::Answer;
 
 pub struct Cleared {
     pub answer: Answer,

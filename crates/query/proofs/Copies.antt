@@ -9,8 +9,8 @@ use lib.Dec.{ltb, eqb}
 use lib.ListN.{take, length, drop-of-length-le}
 use lib.Seq.{take-nil, paste, take-all, take-length, take-take, length-take-le}
 use Rattle.words.specs.Choice.{if_then_else_}
-use Rattle.record.specs.Answer.{numberOf}
-use Rattle.record.specs.declared.answer.Answer.the-variants.{Done, BadState}
+use Rattle.answer.specs.Answer.{numberOf}
+use Rattle.answer.specs.declared.answer.Answer.the-variants.{Done, BadState}
 use Rattle.overlay.specs.Entries.{Entry}
 use Rattle.query.specs.Query.{lookedIf, bytesOf, isThere, copiedOver, copiedBy}
 

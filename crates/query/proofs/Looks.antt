@@ -10,8 +10,8 @@ use lib.ListN.{drop, length}
 use Rattle.words.specs.Choice.{if_then_else_}
 use Rattle.directory.specs.Table.{unitOf}
 use Rattle.directory.specs.declared.table.TableKind.{TableKind}
-use Rattle.record.specs.Answer.{numberOf}
-use Rattle.record.specs.declared.answer.Answer.the-variants.{Done, BadState}
+use Rattle.answer.specs.Answer.{numberOf}
+use Rattle.answer.specs.declared.answer.Answer.the-variants.{Done, BadState}
 use Rattle.keys.specs.Keys.{rank}
 use Rattle.keys.proofs.Places.{left-of, right-of}
 use Rattle.change.specs.Room.{roomOf, slotAt}

@@ -8,8 +8,8 @@ use lib.Dec.{eqb}
 use lib.ListN.{take, drop, length}
 use Rattle.words.specs.Choice.{if_then_else_}
 use Rattle.directory.specs.declared.table.TableKind.{TableKind}
-use Rattle.record.specs.declared.answer.Answer.{Answer}
-use Rattle.record.specs.declared.answer.Answer.the-variants.{Done, BadState}
+use Rattle.answer.specs.declared.answer.Answer.{Answer}
+use Rattle.answer.specs.declared.answer.Answer.the-variants.{Done, BadState}
 use Rattle.change.specs.Room.{roomOf, slotAt, localLength}
 use Rattle.change.specs.declared.overlay.LogOverlayLocal.{LogOverlayLocal}
 use Rattle.overlay.specs.Rules.{Overlay, overlayOf, keysRuled, overlayKept}

@@ -3,9 +3,9 @@ ghost use mathlib.Core.Path.{_≡_};
 ghost use lib.Dec.{ltb, eqb};
 ghost use lib.ListN.{length};
 ghost use Rattle.words.specs.Choice.{if_then_else_};
-ghost use Rattle.record.specs.declared.answer.Answer.the-variants.{Done, BadState};
+ghost use Rattle.answer.specs.declared.answer.Answer.the-variants.{Done, BadState};
 ghost use Rattle.query.specs.Query.{copiedOver};
-use record::Answer;
+use answer::Answer;
 
 // The answer, and whether there was a value to copy.
 pub struct Copied {

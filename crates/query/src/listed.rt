@@ -3,7 +3,7 @@ ghost use mathlib.Core.Path.{_≡_};
 ghost use Prim.Native.Nat.{_≤_};
 ghost use lib.ListN.{length, drop};
 ghost use Rattle.directory.specs.declared.table.TableKind.the-variants.{Index, Value, RefCount};
-ghost use Rattle.record.specs.Answer.{numberOf};
+ghost use Rattle.answer.specs.Answer.{numberOf};
 ghost use Rattle.keys.specs.Keys.{rank};
 ghost use Rattle.change.specs.Room.{roomOf, slotAt};
 ghost use Rattle.overlay.specs.Rules.{overlayOf};

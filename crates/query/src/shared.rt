@@ -1,7 +1,7 @@
 // Lookups in a shared overlay alone: log.rs lines 159 to 202. Each answers with a part of the lent memory and has its number beside it; `value` copies.
 ghost use mathlib.Core.Path.{_≡_};
 ghost use Rattle.directory.specs.declared.table.TableKind.the-variants.{Index, Value, RefCount};
-ghost use Rattle.record.specs.Answer.{numberOf};
+ghost use Rattle.answer.specs.Answer.{numberOf};
 ghost use Rattle.keys.specs.Keys.{rank};
 ghost use Rattle.overlay.specs.Rules.{overlayOf};
 ghost use Rattle.query.specs.Query.{sharedLook, bytesOf, copiedOver, copiedBy};

@@ -6,7 +6,7 @@ use Prim.Native.Nat.{ℕ}
 use Rattle.directory.specs.Directory.{directoryKept}
 use Rattle.directory.specs.declared.directory.Directory.{Directory}
 use Rattle.words.specs.Choice.{if_then_else_}
-use Rattle.record.specs.Answer.{numberOf}
+use Rattle.answer.specs.Answer.{numberOf}
 use Rattle.record.specs.Format.{readAt}
 use Rattle.record.specs.Next.{readerAt, stepOf, nextOf}
 use Rattle.record.specs.Record.{opening, openingBy, begun, early}

@@ -13,7 +13,7 @@ use borrow.Author.Tests.{ltb-true, ltb-false, lt-ltb, le-ltb}
 use Rattle.words.specs.Choice.{if_then_else_}
 use Rattle.words.proofs.Cut.{drop-take}
 use Rattle.record.specs.Format.{Format, need, refuse, give, Got, stopped, got, readAt, _>>=_}
-use Rattle.record.specs.declared.answer.Answer.{Answer}
+use Rattle.answer.specs.declared.answer.Answer.{Answer}
 
 -- ---- a need, met or not
 

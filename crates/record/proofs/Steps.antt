@@ -17,7 +17,7 @@ use Rattle.directory.specs.declared.directory.Directory.{Directory}
 use Rattle.record.specs.Format.{Format, need, Got, stopped, got, readAt}
 use Rattle.record.specs.Record.{Item, inside, opening}
 use Rattle.record.specs.Next.{isEnd, forwardTo, readerAfter, stepped, beginning, opened, readerAt, stepOf}
-use Rattle.record.specs.declared.answer.Answer.{Answer}
+use Rattle.answer.specs.declared.answer.Answer.{Answer}
 use Rattle.record.specs.declared.action.LogAction.{LogAction}
 use Rattle.record.specs.declared.reader.LogReader.{LogReader}
 use Rattle.record.specs.declared.reader.Stepped.{Stepped}

@@ -5,7 +5,7 @@ use Prim.Native.Nat.{ℕ, _+_, _-_}
 use lib.Dec.{ltb}
 use lib.ListN.{length, take, drop, getD}
 use Rattle.words.specs.Choice.{if_then_else_}
-use Rattle.record.specs.declared.answer.Answer.{Answer}
+use Rattle.answer.specs.declared.answer.Answer.{Answer}
 
 -- a format: a need of bytes, a refusal, or what the bytes read so far come to
 pub data Format (A : Type 0) : Type 0 where

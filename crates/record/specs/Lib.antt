@@ -1,4 +1,3 @@
-pub mod Answer
 pub mod Format
 pub mod Next
 pub mod Parts

@@ -11,9 +11,9 @@ use Rattle.directory.specs.Directory.{directoryKept}
 use Rattle.directory.specs.declared.directory.Directory.{Directory}
 use Rattle.record.specs.Format.{Got, stopped, got, readAt}
 use Rattle.record.specs.Record.{Item, inside, opening}
-use Rattle.record.specs.declared.answer.Answer.{Answer}
-use Rattle.record.specs.declared.answer.Answer.the-variants.{BadState, BadArgument}
-use Rattle.record.specs.declared.answer.Refusal.{Refusal}
+use Rattle.answer.specs.declared.answer.Answer.{Answer}
+use Rattle.answer.specs.declared.answer.Answer.the-variants.{BadState, BadArgument}
+use Rattle.answer.specs.declared.answer.Refusal.{Refusal}
 use Rattle.record.specs.declared.action.LogAction.{LogAction}
 use Rattle.record.specs.declared.action.LogAction.the-variants.{BeginRecord, InsertIndex, InsertValue, InsertRefCount, EndRecord, DropTable, DropRefCountTable}
 use Rattle.record.specs.declared.reader.LogReader.{LogReader}

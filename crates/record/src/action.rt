@@ -2,7 +2,7 @@
 ghost use mathlib.Core.Path.{_≡_};
 ghost use Rattle.record.specs.Next.{isEnd};
 ghost use Rattle.record.specs.Record.{insertOf, tagOf};
-use super::tag::Tag;
+use answer::Tag;
 use directory::IndexTableId;
 use directory::RefCountTableId;
 use directory::TableKind;

@@ -1,19 +1,14 @@
 // A record's bytes, and the reader that steps through them.
 mod action;
-mod answer;
 mod item;
 mod mask;
 mod opening;
 mod reader;
-mod tag;
 
 pub use action::InsertIndexAction;
 pub use action::InsertRefCountAction;
 pub use action::InsertValueAction;
 pub use action::LogAction;
-pub use answer::Answer;
-pub use answer::Refusal;
 pub use reader::LogReader;
 pub use reader::Step;
 pub use reader::Stepped;
-pub use tag::Tag;

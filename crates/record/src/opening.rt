@@ -5,7 +5,7 @@ ghost use lib.ListN.{length};
 ghost use Rattle.record.specs.Format.{readAt};
 ghost use Rattle.record.specs.Parts.{gotId};
 ghost use Rattle.record.specs.Record.{begun, early, earlyEnd, opening};
-use super::answer::Answer;
+use answer::Answer;
 
 pub enum IdAnswer {
     Opened(u64),

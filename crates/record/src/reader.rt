@@ -8,12 +8,12 @@ ghost use Rattle.record.specs.Format.{readAt};
 ghost use Rattle.record.specs.Next.{refused, readerAt, forwardTo, readerAfter, stepped, opened, stepOf, nextOf};
 ghost use Rattle.record.specs.Record.{inside, opening};
 use super::action::LogAction;
-use super::answer::Answer;
-use super::answer::Refusal;
 use super::item::ItemAnswer;
 use super::item::item_at;
 use super::opening::IdAnswer;
 use super::opening::opening_at;
+use answer::Answer;
+use answer::Refusal;
 use directory::Directory;
 
 // `inside` says whether a record was begun and not ended; then `record_id` is its id and, if validating, `crc32` the checksum's register

@@ -1,6 +1,6 @@
 // What standard error is told, besides the faults of a directory's text.
+use answer::Answer;
 use libc::STDERR_FILENO;
-use record::Answer;
 
 pub fn tell(what: &[u8], text: &[u8]) {
     io::write_all(STDERR_FILENO, b"recover: ");

@@ -6,8 +6,8 @@
 ghost use Prim.Native.Nat.{_≤_};
 ghost use lib.ListN.{length};
 ghost use Rattle.recover.specs.Bounds.{Within};
+use answer::Answer;
 use directory::Directory;
-use record::Answer;
 
 pub const ROOM: usize = 2097152;
 

@@ -13,8 +13,8 @@ use Rattle.checksum.specs.Checksum.{checksumOf}
 use Rattle.directory.specs.Directory.{directoryKept, imageLength}
 use Rattle.directory.specs.declared.directory.Directory.{Directory}
 use Rattle.record.specs.Format.{Got, stopped, got}
-use Rattle.record.specs.declared.answer.Answer.{Answer}
-use Rattle.record.specs.declared.answer.Answer.the-variants.{Done, WrongSum, BadState}
+use Rattle.answer.specs.declared.answer.Answer.{Answer}
+use Rattle.answer.specs.declared.answer.Answer.the-variants.{Done, WrongSum, BadState}
 use Rattle.record.specs.declared.reader.LogReader.{LogReader}
 use Rattle.record.proofs.Parts.{tested}
 use Rattle.effect.specs.Effect.{Written}

@@ -13,8 +13,8 @@ use Rattle.words.specs.Choice.{if_then_else_}
 use Rattle.words.proofs.Choices.{if-true, if-false}
 use Rattle.directory.specs.declared.directory.Directory.{Directory}
 use Rattle.record.specs.Format.{Got, stopped, got}
-use Rattle.record.specs.declared.answer.Answer.{Answer}
-use Rattle.record.specs.declared.answer.Answer.the-variants.{EndOfLog}
+use Rattle.answer.specs.declared.answer.Answer.{Answer}
+use Rattle.answer.specs.declared.answer.Answer.the-variants.{EndOfLog}
 use Rattle.effect.specs.Effect.{Written, apply}
 use Rattle.replay.specs.Replay.{recordAt, tablesKept}
 use Rattle.replay.specs.Run.{Outcome, stops, lastId, byRecord, runFrom, runOf, byWhole, wholeWithin, wholeRecords, applyAll}

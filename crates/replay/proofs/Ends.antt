@@ -19,8 +19,8 @@ use Rattle.directory.specs.declared.directory.Directory.{Directory}
 use Rattle.record.specs.Format.{Format, need, refuse, give, Got, stopped, got, readAt, _>>=_}
 use Rattle.record.specs.Next.{isEnd}
 use Rattle.record.specs.Record.{Item, insertOf, dropIndex, dropRefCount, key, chunk, masked, value, valued, table, dropped, sumHolds, ended, insideBy, inside}
-use Rattle.record.specs.declared.answer.Answer.{Answer}
-use Rattle.record.specs.declared.answer.Answer.the-variants.{Cut, WrongSum}
+use Rattle.answer.specs.declared.answer.Answer.{Answer}
+use Rattle.answer.specs.declared.answer.Answer.the-variants.{Cut, WrongSum}
 use Rattle.record.specs.declared.action.LogAction.{LogAction}
 use Rattle.record.specs.declared.action.LogAction.the-variants.{EndRecord}
 use Rattle.record.specs.declared.item.Key.{Key}

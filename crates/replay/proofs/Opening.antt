@@ -12,8 +12,8 @@ use Rattle.checksum.specs.Checksum.{allOnes, updated}
 use Rattle.directory.specs.declared.directory.Directory.{Directory}
 use Rattle.record.specs.Format.{Got, stopped, got, readAt}
 use Rattle.record.specs.Next.{forwardTo, beginning, opened, readerAt, stepOf}
-use Rattle.record.specs.declared.answer.Answer.the-variants.{WrongId}
-use Rattle.record.specs.declared.answer.Refusal.{Refusal}
+use Rattle.answer.specs.declared.answer.Answer.the-variants.{WrongId}
+use Rattle.answer.specs.declared.answer.Refusal.{Refusal}
 use Rattle.record.specs.declared.reader.LogReader.{LogReader}
 use Rattle.record.specs.declared.reader.Stepped.{Stepped}
 use Rattle.record.specs.declared.reader.Step.{Step}

@@ -10,8 +10,8 @@ use Rattle.words.specs.Choice.{if_then_else_}
 use Rattle.words.proofs.Choices.{if-true, if-false}
 use Rattle.directory.specs.declared.directory.Directory.{Directory}
 use Rattle.record.specs.Format.{Got, stopped, got}
-use Rattle.record.specs.declared.answer.Answer.{Answer}
-use Rattle.record.specs.declared.answer.Answer.the-variants.{UsedUp, BadState}
+use Rattle.answer.specs.declared.answer.Answer.{Answer}
+use Rattle.answer.specs.declared.answer.Answer.the-variants.{UsedUp, BadState}
 use Rattle.effect.specs.Effect.{Written, apply}
 use Rattle.replay.specs.Parts.{endIn}
 use Rattle.replay.specs.Replay.{recordAt, tablesKept, imageAfter}

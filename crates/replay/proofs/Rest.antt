@@ -10,8 +10,8 @@ use Rattle.words.proofs.Choices.{if-true, if-false}
 use Rattle.directory.specs.declared.directory.Directory.{Directory}
 use Rattle.record.specs.Format.{Got, stopped, got}
 use Rattle.record.specs.Next.{isEnd, stepOf}
-use Rattle.record.specs.declared.answer.Answer.{Answer}
-use Rattle.record.specs.declared.answer.Refusal.{Refusal}
+use Rattle.answer.specs.declared.answer.Answer.{Answer}
+use Rattle.answer.specs.declared.answer.Refusal.{Refusal}
 use Rattle.record.specs.declared.reader.LogReader.{LogReader}
 use Rattle.record.specs.declared.reader.Stepped.{Stepped}
 use Rattle.record.specs.declared.reader.Step.{Step}

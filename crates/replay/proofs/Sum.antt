@@ -17,7 +17,7 @@ use Rattle.directory.specs.declared.directory.Directory.{Directory}
 use Rattle.record.specs.Format.{Got, stopped, got, readAt}
 use Rattle.record.specs.Next.{isEnd, forwardTo, readerAfter, stepped, stepOf}
 use Rattle.record.specs.Record.{Item, inside}
-use Rattle.record.specs.declared.answer.Answer.the-variants.{WrongSum}
+use Rattle.answer.specs.declared.answer.Answer.the-variants.{WrongSum}
 use Rattle.record.specs.declared.action.LogAction.{LogAction}
 use Rattle.record.specs.declared.reader.LogReader.{LogReader}
 use Rattle.record.specs.declared.reader.Step.{Step}

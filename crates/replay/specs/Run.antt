@@ -7,8 +7,8 @@ use lib.ListN.{length}
 use Rattle.words.specs.Choice.{if_then_else_}
 use Rattle.directory.specs.declared.directory.Directory.{Directory}
 use Rattle.record.specs.Format.{Got, stopped, got}
-use Rattle.record.specs.declared.answer.Answer.{Answer}
-use Rattle.record.specs.declared.answer.Answer.the-variants.{EndOfLog, UsedUp, BadState}
+use Rattle.answer.specs.declared.answer.Answer.{Answer}
+use Rattle.answer.specs.declared.answer.Answer.the-variants.{EndOfLog, UsedUp, BadState}
 use Rattle.effect.specs.Effect.{Written, apply}
 use Rattle.replay.specs.Replay.{recordAt, tablesKept}
 use Rattle.replay.specs.declared.many_records.Ran.{Ran}

@@ -4,8 +4,8 @@ ghost use Prim.Native.Nat.{suc};
 ghost use lib.ListN.{length};
 ghost use Rattle.replay.specs.Parts.{endIn, plain, Opened};
 ghost use Rattle.replay.specs.Replay.{restOf};
+use answer::Answer;
 use directory::Directory;
-use record::Answer;
 use record::LogReader;
 use record::Step;
 

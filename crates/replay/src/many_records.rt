@@ -7,8 +7,8 @@ ghost use Rattle.replay.specs.Run.{runFrom, runOf};
 use super::check::EndAnswer;
 use super::one_record::replay_tested;
 use super::one_record::tables_kept;
+use answer::Answer;
 use directory::Directory;
-use record::Answer;
 
 pub struct Ran {
     pub answer: Answer,

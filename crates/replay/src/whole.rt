@@ -8,8 +8,8 @@ ghost use Rattle.replay.specs.Parts.{wholeOf};
 ghost use Rattle.replay.specs.Replay.{restOf};
 use super::check::EndAnswer;
 use super::check::checked_rest;
+use answer::Answer;
 use directory::Directory;
-use record::Answer;
 use record::LogReader;
 use record::Step;
 

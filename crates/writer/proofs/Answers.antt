@@ -5,7 +5,7 @@ use mathlib.Core.List.{List}
 use Prim.Native.Nat.{ℕ, _≤_, _<_}
 use lib.ListN.{length}
 use borrow.Author.Tests.{lt-ltb, le-ltb}
-use Rattle.record.specs.declared.answer.Answer.the-variants.{Done, ShortOutput, BadState}
+use Rattle.answer.specs.declared.answer.Answer.the-variants.{Done, ShortOutput, BadState}
 use Rattle.directory.specs.declared.directory.Directory.{Directory}
 use Rattle.change.specs.Listed.{stateKept}
 use Rattle.change.specs.declared.change.LogChange.{LogChange}

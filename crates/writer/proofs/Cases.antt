@@ -4,7 +4,7 @@ use mathlib.Core.List.{List, [], _∷_, _++_}
 use Prim.Native.Nat.{ℕ, zero, suc, _-_}
 use lib.ListN.{replicate, length}
 use Rattle.checksum.specs.Checksum.{shift, bitsIn, updated, finished, checksumOf}
-use Rattle.record.specs.declared.answer.Answer.the-variants.{Done, BadArgument}
+use Rattle.answer.specs.declared.answer.Answer.the-variants.{Done, BadArgument}
 use Rattle.directory.specs.Table.{isTable, tableKept}
 use Rattle.directory.specs.Directory.{lookup, findTable, stands, allKept, apart, directoryKept}
 use Rattle.directory.specs.declared.table.TableKind.{TableKind}

@@ -4,7 +4,7 @@ use Prim.Native.Nat.{ℕ}
 use lib.Dec.{ltb}
 use lib.ListN.{length}
 use Rattle.words.specs.Choice.{if_then_else_}
-use Rattle.record.specs.declared.answer.Answer.the-variants.{Done, ShortOutput, BadState}
+use Rattle.answer.specs.declared.answer.Answer.the-variants.{Done, ShortOutput, BadState}
 use Rattle.directory.specs.declared.directory.Directory.{Directory}
 use Rattle.change.specs.Listed.{stateKept}
 use Rattle.change.specs.declared.change.LogChange.{LogChange}

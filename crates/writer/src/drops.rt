@@ -5,9 +5,9 @@ ghost use lib.ListN.{length};
 ghost use Rattle.output.specs.Put.{Wrote};
 ghost use Rattle.writer.specs.Bytes.{dropTag, dropEntry, drops};
 ghost use Rattle.writer.specs.Ready.{DropsReady};
+use answer::Tag;
 use change::Drops;
 use directory::TableKind;
-use record::Tag;
 
 // No value table is dropped: there is no tag for it.
 fn drop_tag(kind: TableKind) -> Tag

@@ -8,10 +8,10 @@ ghost use Rattle.output.specs.Put.{Wrote};
 ghost use Rattle.writer.specs.Bytes.{insertTag, payloadOf, entry, entryAt, entries};
 ghost use Rattle.writer.specs.Ready.{Ready, KeysReady};
 use super::slots::put_masked;
+use answer::Tag;
 use change::LogOverlayLocal;
 use change::slot_at;
 use directory::TableKind;
-use record::Tag;
 
 fn insert_tag(kind: TableKind) -> Tag
     ensures { λ r. ⌜ r .0 ≡ insertTag kind ⌝ }

@@ -14,11 +14,11 @@ use super::entry::put_entries;
 use super::size::Sized;
 use super::size::kept;
 use super::size::list_size;
+use answer::Answer;
+use answer::Tag;
 use change::LogChange;
 use directory::Directory;
 use directory::TableKind;
-use record::Answer;
-use record::Tag;
 
 // From the begin tag to the last reference count.
 fn put_inserts(out: &mut [u8], list: LogChange, local: &[u8]) -> usize

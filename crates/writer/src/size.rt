@@ -9,11 +9,11 @@ ghost use Rattle.change.specs.Listed.{stateKept};
 ghost use Rattle.writer.specs.Flush.{sized};
 ghost use Rattle.writer.specs.Ready.{KeysReady, ListReady};
 ghost use Rattle.writer.specs.Size.{entrySize, entriesSize, recordSize};
+use answer::Answer;
 use change::LogChange;
 use change::LogOverlayLocal;
 use directory::Directory;
 use directory::TableKind;
-use record::Answer;
 
 pub struct Sized {
     pub answer: Answer,

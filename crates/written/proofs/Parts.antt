@@ -15,7 +15,7 @@ use Rattle.directory.specs.declared.directory.Directory.{Directory}
 use Rattle.directory.specs.declared.directory.Found.the-variants.{At}
 use Rattle.record.specs.Format.{got, readAt}
 use Rattle.record.specs.Record.{insertOf, key, chunk, masked, value, valued, table, dropped}
-use Rattle.record.specs.declared.answer.Answer.the-variants.{NoIndex}
+use Rattle.answer.specs.declared.answer.Answer.the-variants.{NoIndex}
 use Rattle.record.specs.declared.action.LogAction.{LogAction}
 use Rattle.record.specs.declared.item.Key.{Key}
 use Rattle.record.proofs.Formats.{then-got}

@@ -18,7 +18,7 @@ use Rattle.directory.specs.declared.table.TableKind.{TableKind}
 use Rattle.directory.specs.declared.table.TableKind.the-variants.{Index, Value, RefCount}
 use Rattle.directory.specs.declared.directory.Directory.{Directory}
 use Rattle.record.specs.Format.{got}
-use Rattle.record.specs.declared.answer.Answer.the-variants.{Done}
+use Rattle.answer.specs.declared.answer.Answer.the-variants.{Done}
 use Rattle.effect.specs.Effect.{apply}
 use Rattle.effect.specs.Meaning.{bit, orElse, says, lastSaid}
 use Rattle.effect.proofs.Demand2.{demand-2, touches-nothing-else}

@@ -15,7 +15,7 @@ use Rattle.directory.specs.declared.directory.Directory.{Directory}
 use Rattle.record.specs.Format.{Got, got, readAt}
 use Rattle.record.specs.Record.{sumHolds, insideBy, inside, openingBy, opening}
 use Rattle.record.specs.Next.{isEnd, forwardTo, readerAfter, stepped, opened, readerAt, stepOf}
-use Rattle.record.specs.declared.answer.Answer.the-variants.{WrongSum}
+use Rattle.answer.specs.declared.answer.Answer.the-variants.{WrongSum}
 use Rattle.record.specs.declared.action.LogAction.the-variants.{BeginRecord, EndRecord}
 use Rattle.record.specs.declared.reader.LogReader.{LogReader}
 use Rattle.record.specs.declared.reader.Stepped.{Stepped}

@@ -2,7 +2,7 @@
 use mathlib.Core.Path.{_≡_, refl, sym, _∙_}
 use denote.Ref.{now}
 use lib.ListN.{length}
-use Rattle.record.specs.Answer.{numberOf}
+use Rattle.answer.specs.Answer.{numberOf}
 use Rattle.overlay.specs.Shared.{Shared, sharedOf}
 use Rattle.overlay.specs.declared.overlays.LogOverlays.{LogOverlays}
 use Rattle.ending.proofs.Decided.{state-of, shared-of, Accepted, accepted}

@@ -1,6 +1,6 @@
 -- `ending` meets its contract: the tests, then the files, then the output's length. Assumes nothing.
 use mathlib.Core.Path.{_≡_, sym, ap, _∙_}
-use Rattle.record.specs.Answer.{numberOf}
+use Rattle.answer.specs.Answer.{numberOf}
 use Rattle.writer.specs.Size.{recordSize}
 use Rattle.writer.specs.declared.size.Sized.{Sized}
 use Rattle.ending.proofs.Decided.{size-is, ending-tested, ending-file, ending-10, ending-0}

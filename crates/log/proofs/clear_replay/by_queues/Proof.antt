@@ -9,7 +9,7 @@ use Rattle.log.proofs.clear_replay.by_queues.Tie as tie
 use Rattle.log.proofs.clear_replay.by_queues.Reads as reads
 use Rattle.log.proofs.clear_replay.by_queues.Lts as lts
 use Rattle.overlay.proofs.overlays.LogOverlays.new.Reads as new-reads
-use Rattle.record.proofs.answer.Answer.number.Reads as number-reads
+use Rattle.answer.proofs.answer.Answer.number.Reads as number-reads
 
 number-requires : tie.Need-number-requires
 number-requires c κs = search needs

@@ -4,7 +4,7 @@ use Prim.Native.Nat.{_+_}
 use native.Mathlib.Omega.{arith}
 use Rattle.record.specs.Format.{readAt}
 use Rattle.record.specs.Record.{insideBy}
-use Rattle.record.specs.declared.answer.Answer.the-variants.{OutOfPlace, UnknownTag}
+use Rattle.answer.specs.declared.answer.Answer.the-variants.{OutOfPlace, UnknownTag}
 use Rattle.record.proofs.Formats.{read-refuse}
 use Rattle.record.proofs.Parts.{inside-short, inside-met, no-tag, inside-unknown}
 use borrow.Author.Needs.{needs}

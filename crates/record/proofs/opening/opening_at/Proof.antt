@@ -4,7 +4,7 @@ use Prim.Native.Nat.{_+_}
 use native.Mathlib.Omega.{arith}
 use Rattle.record.specs.Format.{readAt}
 use Rattle.record.specs.Record.{openingBy}
-use Rattle.record.specs.declared.answer.Answer.the-variants.{UnknownTag}
+use Rattle.answer.specs.declared.answer.Answer.the-variants.{UnknownTag}
 use Rattle.record.proofs.Formats.{read-refuse}
 use Rattle.record.proofs.Parts.{opening-short, opening-met, no-tag, opening-unknown}
 use borrow.Author.Needs.{needs}

@@ -2,7 +2,7 @@
 use mathlib.Core.Bool.{false}
 use mathlib.Core.Path.{sym, ap, _∙_}
 use borrow.Author.Tests.{not-true, not-false}
-use Rattle.record.specs.declared.answer.Answer.the-variants.{Done}
+use Rattle.answer.specs.declared.answer.Answer.the-variants.{Done}
 use Rattle.files.specs.Queues.{queuesKept}
 use Rattle.files.specs.Moves.{withDirty, readingCleaned, replayCleaned}
 use Rattle.files.specs.Calls.{clearReplayLogs}

@@ -1,6 +1,6 @@
 -- `Queues::read` meets its contract: what was opened, the end of a log, any other refusal. Assumes nothing.
 use mathlib.Core.Path.{sym, ap, _∙_}
-use Rattle.record.specs.declared.answer.Answer.the-variants.{Done}
+use Rattle.answer.specs.declared.answer.Answer.the-variants.{Done}
 use Rattle.files.specs.Queues.{queuesKept}
 use Rattle.files.specs.Moves.{readingCleaned}
 use Rattle.files.specs.Read.{nowReading, notRead, readBy}
@@ -15,7 +15,7 @@ use Rattle.files.proofs.queues.Queues.read.Lts as lts
 use Rattle.files.proofs.queues.Queues.not_read.Reads as not-read-reads
 use Rattle.files.proofs.queues.Queues.now_reading.Reads as now-reading-reads
 use Rattle.files.proofs.queues.Queues.reading_cleaned.Reads as reading-cleaned-reads
-use Rattle.record.proofs.answer.Answer.number.Reads as number-reads
+use Rattle.answer.proofs.answer.Answer.number.Reads as number-reads
 
 sized : (s : tie.Start) → Sized (s .args .self)
 sized s = record { read = search needs; cleanup = search needs; pool = search needs; replay = search needs; ids = search needs }

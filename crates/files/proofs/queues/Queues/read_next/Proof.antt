@@ -2,7 +2,7 @@
 use mathlib.Core.Path.{sym, ap, _∙_}
 use borrow.Author.Tests.{not-true, not-false}
 use denote.Ref.{now}
-use Rattle.record.specs.declared.answer.Answer.the-variants.{EndOfLog, BadState}
+use Rattle.answer.specs.declared.answer.Answer.the-variants.{EndOfLog, BadState}
 use Rattle.record.specs.declared.reader.LogReader.{LogReader}
 use Rattle.record.specs.Next.{readerAt}
 use Rattle.files.specs.Read.{notRead, readBy}

@@ -4,7 +4,7 @@ use mathlib.Core.Path.{sym, ap, _∙_}
 use native.Mathlib.Omega.{arith}
 use borrow.Author.Tests.{not-true, not-false, eq-eqb, ne-eqb}
 use lib.ListN.{getD}
-use Rattle.record.specs.declared.answer.Answer.the-variants.{Done}
+use Rattle.answer.specs.declared.answer.Answer.the-variants.{Done}
 use Rattle.files.specs.Queues.{queuesKept}
 use Rattle.files.specs.Moves.{readingCleaned, frontReplayed}
 use Rattle.files.specs.Calls.{noReplay, replayNext}

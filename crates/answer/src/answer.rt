@@ -1,6 +1,6 @@
 // The answers of every call.
 ghost use mathlib.Core.Path.{_≡_};
-ghost use Rattle.record.specs.Answer.{numberOf};
+ghost use Rattle.answer.specs.Answer.{numberOf};
 
 pub enum Answer {
     Done,
