@@ -13,7 +13,7 @@ use Rattle.words.specs.Choice.{if_then_else_}
 use Rattle.answer.specs.declared.answer.Answer.{Answer}
 use Rattle.answer.specs.declared.answer.Answer.the-variants.{NoTable, NoIndex, NoRoom, BadState, BadArgument}
 use Rattle.directory.specs.Table.{sameKind, isTable, lengthFits, tableKept, unitOf}
-use Rattle.directory.specs.Directory.{tablesOf, lookup, findTable, allKept, directoryKept}
+use Rattle.directory.specs.Directory.{tablesOf, findFrom, findTable, eachKept, directoryKept}
 use Rattle.directory.specs.declared.table.TableKind.{TableKind}
 use Rattle.directory.specs.declared.table.TableKind.the-variants.{Index, Value, RefCount}
 use Rattle.directory.specs.declared.table.TableDescription.{TableDescription}
@@ -53,13 +53,13 @@ same RefCount Index e = let z : _≡_ {A = ℕ} 0 1 = cc in absurd (omega arith)
 same RefCount Value e = let z : _≡_ {A = ℕ} 0 1 = cc in absurd (omega arith)
 
 found-kept : (row : ℕ) (ts : List TableDescription) (kind : TableKind) (number r : ℕ) (t : TableDescription)
-    → lookup row ts kind number ≡ At r t → allKept ts ≡ true → (isTable t kind number ≡ true) × (tableKept t ≡ true)
-unfolding lookup allKept
+    → findFrom row ts kind number ≡ At r t → eachKept ts ≡ true → (isTable t kind number ≡ true) × (tableKept t ≡ true)
+unfolding findFrom eachKept
 found-kept row [] kind number r t e k = let z : _≡_ {A = ℕ} 0 1 = cc in absurd (omega arith)
 found-kept row (u ∷ ts) kind number r t e k = by (isTable u kind number) refl e (λ q. found-kept (row + 1) ts kind number r t q (right-of (tableKept u) _ k))
   where
-    by : (b : Bool) → isTable u kind number ≡ b → (if b then At row u else lookup (row + 1) ts kind number) ≡ At r t
-        → (lookup (row + 1) ts kind number ≡ At r t → (isTable t kind number ≡ true) × (tableKept t ≡ true)) → (isTable t kind number ≡ true) × (tableKept t ≡ true)
+    by : (b : Bool) → isTable u kind number ≡ b → (if b then At row u else findFrom (row + 1) ts kind number) ≡ At r t
+        → (findFrom (row + 1) ts kind number ≡ At r t → (isTable t kind number ≡ true) × (tableKept t ≡ true)) → (isTable t kind number ≡ true) × (tableKept t ≡ true)
     by true i q f =
         let same-table : u ≡ t = cc in
         (subst (λ (x : TableDescription). isTable x kind number ≡ true) same-table i, subst (λ (x : TableDescription). tableKept x ≡ true) same-table (left-of (tableKept u) _ k))
@@ -68,7 +68,7 @@ found-kept row (u ∷ ts) kind number r t e k = by (isTable u kind number) refl 
 pub length-kept : (d : Directory) (kind : TableKind) (number r : ℕ) (t : TableDescription) → directoryKept d ≡ true → findTable d kind number ≡ At r t → lengthFits kind (t .length) ≡ true
 unfolding directoryKept findTable isTable tableKept
 length-kept d kind number r t k e =
-    let f = found-kept 0 (tablesOf d) kind number r t e (left-of (allKept (tablesOf d)) _ (right-of (leb (d .count) 16) _ k)) in
+    let f = found-kept 0 (tablesOf d) kind number r t e (left-of (eachKept (tablesOf d)) _ (right-of (leb (d .count) 16) _ k)) in
     let s : t .kind ≡ kind = same (t .kind) kind (left-of (sameKind (t .kind) kind) _ (f .0)) in
     subst (λ (x : TableKind). lengthFits x (t .length) ≡ true) s
     (right-of (leb (t .count) 4096) _ (right-of (leb 1 (t .count)) _ (right-of (leb (t .column) 7) _ (f .1))))

@@ -11,7 +11,7 @@ use lib.ListN.{take}
 use borrow.Author.Tests.{eqb-true, lt-ltb, le-ltb}
 use Rattle.words.specs.Choice.{if_then_else_}
 use Rattle.directory.specs.Table.{sameKind, isTable, sizeOf}
-use Rattle.directory.specs.Directory.{tablesOf, lookup, findTable, sizes, startOf, imageLength}
+use Rattle.directory.specs.Directory.{tablesOf, findFrom, findTable, sizesOf, startOf, imageLength}
 use Rattle.directory.specs.declared.table.TableKind.{TableKind}
 use Rattle.directory.specs.declared.table.TableKind.the-variants.{Index, Value, RefCount}
 use Rattle.directory.specs.declared.table.TableDescription.{TableDescription}
@@ -40,17 +40,17 @@ home base (t ∷ ts) p = if ltb p (base + sizeOf t) then some (record { at = bas
 record Nth (kind : TableKind) (number base : ℕ) (ts : List TableDescription) (n : ℕ) (t : TableDescription) : Type 0 where
   of : t .kind ≡ kind
   called : t .number ≡ number
-  room : sizes (take n ts) + sizeOf t ≤ sizes ts
-  homes : (p : ℕ) → base + sizes (take n ts) ≤ p → p < base + sizes (take n ts) + sizeOf t
-      → home base ts p ≡ some (record { at = base + sizes (take n ts); table = t })
+  room : sizesOf (take n ts) + sizeOf t ≤ sizesOf ts
+  homes : (p : ℕ) → base + sizesOf (take n ts) ≤ p → p < base + sizesOf (take n ts) + sizeOf t
+      → home base ts p ≡ some (record { at = base + sizesOf (take n ts); table = t })
 
-nth : (kind : TableKind) (number from base : ℕ) (ts : List TableDescription) (row : ℕ) (u : TableDescription) → lookup from ts kind number ≡ At row u
+nth : (kind : TableKind) (number from base : ℕ) (ts : List TableDescription) (row : ℕ) (u : TableDescription) → findFrom from ts kind number ≡ At row u
     → (n : ℕ) × (row ≡ from + n) × Nth kind number base ts n u
-unfolding lookup home sizes isTable
+unfolding findFrom home sizesOf isTable
 nth kind number from base [] row u e = let z : _≡_ {A = ℕ} 0 1 = cc in absurd (omega arith)
 nth kind number from base (t ∷ ts) row u e = go (nth kind number (from + 1) (base + sizeOf t) ts row u) (isTable t kind number) refl
   where
-    go : (lookup (from + 1) ts kind number ≡ At row u → (n : ℕ) × (row ≡ from + 1 + n) × Nth kind number (base + sizeOf t) ts n u)
+    go : (findFrom (from + 1) ts kind number ≡ At row u → (n : ℕ) × (row ≡ from + 1 + n) × Nth kind number (base + sizeOf t) ts n u)
         → (b : Bool) → isTable t kind number ≡ b → (n : ℕ) × (row ≡ from + n) × Nth kind number base (t ∷ ts) n u
     go ih true q =
         let s : t ≡ u = cc (rw q at e) in

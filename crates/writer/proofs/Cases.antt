@@ -6,7 +6,7 @@ use lib.ListN.{replicate, length}
 use Rattle.checksum.specs.Checksum.{shift, bitsIn, updated, finished, checksumOf}
 use Rattle.answer.specs.declared.answer.Answer.the-variants.{Done, BadArgument}
 use Rattle.directory.specs.Table.{isTable, tableKept}
-use Rattle.directory.specs.Directory.{lookup, findTable, stands, allKept, apart, directoryKept}
+use Rattle.directory.specs.Directory.{findFrom, findTable, stands, eachKept, apart, directoryKept}
 use Rattle.directory.specs.declared.table.TableKind.{TableKind}
 use Rattle.directory.specs.declared.table.TableKind.the-variants.{Index, Value, RefCount}
 use Rattle.directory.specs.declared.directory.Directory.{Directory}
@@ -83,5 +83,5 @@ pub cases : (recordOf (newList 1) memory ≡ empty)
     × (insertedBytes RefCount (newList 1) memory 3 5 1 (chunk 1024) ≡ oneCount)
     × (inserted Index directory (newList 1) memory 1 3 63 (chunk 512) .answer ≡ Done)
     × (inserted Index directory (newList 1) memory 1 3 64 (chunk 512) .answer ≡ BadArgument)
-unfolding stateKept directoryKept allKept tableKept apart stands isTable listKept localKept ruled keysOf dropsKept rowFits tableOf findTable lookup planOf planIn roomFor answerBy listBy memoryBy putIn dropped droppedIn recordOf body entries entryAt entry masked slots drops dropEntry joined le checksumOf finished updated bitsIn shift
+unfolding stateKept directoryKept eachKept tableKept apart stands isTable listKept localKept ruled keysOf dropsKept rowFits tableOf findTable findFrom planOf planIn roomFor answerBy listBy memoryBy putIn dropped droppedIn recordOf body entries entryAt entry masked slots drops dropEntry joined le checksumOf finished updated bitsIn shift
 cases = (refl, refl, refl, refl, refl, refl, refl)

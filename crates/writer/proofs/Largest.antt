@@ -11,7 +11,7 @@ use lib.ListN.{length, take, getD, replicate}
 use lib.Seq.{getD-take, length-take-le}
 use borrow.Author.Tests.{ltb-true, leb-true, eqb-true}
 use Rattle.directory.specs.Table.{isTable, tableKept}
-use Rattle.directory.specs.Directory.{lookup, findTable, stands, allKept, apart, directoryKept}
+use Rattle.directory.specs.Directory.{findFrom, findTable, stands, eachKept, apart, directoryKept}
 use Rattle.directory.specs.declared.table.TableKind.{TableKind}
 use Rattle.directory.specs.declared.table.TableKind.the-variants.{Index, Value, RefCount}
 use Rattle.directory.specs.declared.directory.Directory.{Directory}
@@ -105,7 +105,7 @@ full =
     }
 
 pub full-kept : stateKept directory full 49152 ≡ true
-unfolding stateKept directoryKept allKept tableKept apart stands isTable listKept localKept ruled keysOf dropsKept rowFits tableOf findTable lookup
+unfolding stateKept directoryKept eachKept tableKept apart stands isTable listKept localKept ruled keysOf dropsKept rowFits tableOf findTable findFrom
 full-kept = refl
 
 pub largest : recordSize full ≡ 50526
