@@ -1,9 +1,9 @@
 // The drops of one kind, in call order, repeats kept.
 ghost use mathlib.Core.Path.{_≡_};
-ghost use Prim.Native.Nat.{_<_};
+ghost use Prim.Native.Nat.{_<_, _≤_};
 ghost use Rattle.directory.specs.Directory.{tablesOf, stands};
-ghost use Rattle.change.specs.Listed.{noDrops, dropsKept};
-ghost use Rattle.change.specs.Drop.{dropsWith, dropped};
+ghost use Rattle.change.specs.Change.{noDrops, dropsFit};
+ghost use Rattle.change.specs.Drop.{dropsWith, dropAnswer};
 use answer::Answer;
 use directory::Directory;
 use directory::Found;
@@ -12,11 +12,6 @@ use directory::TableKind;
 pub struct Drops {
     pub tables: [u16; 16],
     pub count: usize,
-}
-
-pub struct Dropped {
-    pub answer: Answer,
-    pub drops: Drops,
 }
 
 fn is_there(directory: Directory, kind: TableKind, number: u16) -> bool
@@ -38,13 +33,12 @@ impl Drops {
         }
     }
 
-    pub fn kept(self, directory: Directory, kind: TableKind) -> bool
-        ensures { λ r. ⌜ r ≡ dropsKept directory kind self ⌝ }
+    // Whether each is of a table of the directory.
+    pub(crate) fn fit(self, directory: Directory, kind: TableKind) -> bool
+        requires { ⌜ self .count ≤ 16 ⌝ }
+        ensures { λ r. ⌜ r ≡ dropsFit directory kind self ⌝ }
     {
         let n = self.count;
-        if 16 < n {
-            return false;
-        }
         let mut i: usize = 0;
         while i < n {
             if !is_there(directory, kind, self.tables[i]) {
@@ -55,7 +49,8 @@ impl Drops {
         true
     }
 
-    fn with(self, number: u16) -> Drops
+    // One more.
+    pub(crate) fn with(self, number: u16) -> Drops
         requires { ⌜ self .count < 16 ⌝ }
         ensures { λ r. ⌜ r ≡ dropsWith self number ⌝ }
     {
@@ -66,24 +61,15 @@ impl Drops {
         s
     }
 
-    pub(crate) fn dropped(self, directory: Directory, kind: TableKind, number: u16) -> Dropped
-        ensures { λ r. ⌜ r ≡ Rattle.change.specs.Drop.dropped directory kind self number ⌝ }
+    pub(crate) fn answer(self, directory: Directory, kind: TableKind, number: u16) -> Answer
+        ensures { λ r. ⌜ r ≡ dropAnswer directory kind self number ⌝ }
     {
         if !is_there(directory, kind, number) {
-            return Dropped {
-                answer: Answer::NoTable,
-                drops: self,
-            };
+            return Answer::NoTable;
         }
         if 16 <= self.count {
-            return Dropped {
-                answer: Answer::NoRoom,
-                drops: self,
-            };
+            return Answer::NoRoom;
         }
-        Dropped {
-            answer: Answer::Done,
-            drops: self.with(number),
-        }
+        Answer::Done
     }
 }
