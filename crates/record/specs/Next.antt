@@ -75,7 +75,14 @@ abbrev pub opened : List ℕ → LogReader → Got ℕ → Step
 opened log r (stopped answer) = refused answer
 opened log r (got id end) = Took (record { action = BeginRecord; start = end; length = 0; reader = forwardTo log (beginning r id) end })
 
--- "then for reading 14, then faults in byte order"
+-- a record's opening, tried at the reader's position: "then for reading 14, then faults in byte order". No directory has a say in it
+-- (log.rs 1049-1063, `read_next`)
+unfoldable pub openingOf : List ℕ → LogReader → Step
+openingOf log r =
+    if ltb (length log) (r .position) then refused BadArgument else
+    opened log r (readAt (opening (r .validate)) (r .position) log)
+
+-- a step: inside a record what stands there, between records an opening
 unfoldable pub stepOf : Directory → List ℕ → LogReader → Step
 stepOf d log r =
     if ltb (length log) (r .position) then refused BadArgument else

@@ -5,7 +5,7 @@ ghost use Prim.Native.Nat.{_+_, _≤_};
 ghost use lib.ListN.{length};
 ghost use Rattle.checksum.specs.Checksum.{allOnes};
 ghost use Rattle.record.specs.Format.{readAt};
-ghost use Rattle.record.specs.Next.{refused, readerAt, forwardTo, readerAfter, stepped, opened, stepOf, nextOf};
+ghost use Rattle.record.specs.Next.{refused, readerAt, forwardTo, readerAfter, stepped, opened, openingOf, stepOf, nextOf};
 ghost use Rattle.record.specs.Record.{inside, opening};
 use super::action::LogAction;
 use super::item::ItemAnswer;
@@ -140,6 +140,16 @@ impl LogReader {
                 })
             }
         }
+    }
+
+    // A record's opening, which needs no directory.
+    pub fn open(self, log: &[u8]) -> Step
+        ensures { λ r. ⌜ r ≡ openingOf (now (log .entry)) self ⌝ }
+    {
+        if log.len() < self.position {
+            return refuse(Answer::BadArgument);
+        }
+        self.step_opening(log)
     }
 
     // A step under a directory that was tested already: a walk over many actions tests it once.
