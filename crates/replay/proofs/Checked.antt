@@ -96,6 +96,14 @@ module _ (d : Directory) (log : List ℕ) (at expected : ℕ) (image : List ℕ)
   unfolding judged
   judged-bad e = if-false (tablesKept d image) _ _ e
 
+  -- what is accepted is a whole record
+  pub judged-walked : (ws : List Written) (end : ℕ) → judged d log at expected image ≡ walked ws end → recordAt d log at expected ≡ walked ws end
+  judged-walked ws end e = go (tablesKept d image) refl
+    where
+      go : (b : Bool) → tablesKept d image ≡ b → recordAt d log at expected ≡ walked ws end
+      go true q = sym (judged-kept q) ∙ e
+      go false q = let z : _≡_ {A = ℕ} 0 1 = cc (sym (judged-bad q) ∙ e) in absurd (omega arith)
+
 -- what 13 tests
 module _ (d : Directory) (image : List ℕ) (e : tablesKept d image ≡ true) where
   pub kept-directory : directoryKept d ≡ true
