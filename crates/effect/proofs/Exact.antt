@@ -19,7 +19,7 @@ use Rattle.directory.specs.declared.directory.Directory.{Directory}
 use Rattle.record.specs.declared.action.LogAction.{LogAction}
 use Rattle.record.specs.declared.action.LogAction.the-variants.{BeginRecord, InsertIndex, InsertValue, InsertRefCount, EndRecord, DropTable, DropRefCountTable}
 use Rattle.effect.specs.Effect.{Written, maskIn, entriesIn, Place, placeOf, Stroke, stroke, slotStrokes, underIndex, zeroed, strokes}
-use Rattle.effect.specs.Meaning.{orElse, bit, liesIn, byMask, byValue, ofIndex, ofDrop, saysOf, lastSaid, Entries, SizedBy, Sized}
+use Rattle.effect.specs.Meaning.{bit, liesIn, byMask, byValue, ofIndex, ofDrop, saysOf, lastSaid, Entries, SizedBy, Sized}
 use Rattle.effect.specs.Order.{Each}
 use Rattle.effect.proofs.Bytes.{orElse-none, byteAt, lastAt, recordAt}
 use Rattle.effect.proofs.Masks.{entries-room}
