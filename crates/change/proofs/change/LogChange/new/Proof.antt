@@ -1,27 +1,26 @@
--- `LogChange::new` meets its contract: five empty parts. Assumes nothing.
 use borrow.Author.Needs.{needs}
 use Rattle.change.proofs.change.LogChange.new.Statement.{statement}
 use Rattle.change.proofs.change.LogChange.new.Tie as tie
+use Rattle.change.proofs.change.LogChange.new.Reads as reads
+use Rattle.change.proofs.change.LogChange.new.Lts as lts
+use Rattle.change.proofs.drops.Drops.new.Reads as drops-Drops-new-reads
+use Rattle.memory.proofs.counts.Counts.new.Reads as counts-Counts-new-reads
 
+-- src/change.rt:35:21
 new-requires : tie.Need-new-requires
 new-requires c κs = search needs
 
+-- src/change.rt:36:29
 new-requires-2 : tie.Need-new-requires-2
 new-requires-2 c κs = search needs
 
+-- src/change.rt:37:39
 new-requires-3 : tie.Need-new-requires-3
 new-requires-3 c κs = search needs
 
-new-requires-4 : tie.Need-new-requires-4
-new-requires-4 c κs = search needs
-
-new-requires-5 : tie.Need-new-requires-5
-new-requires-5 c κs = search needs
-
+-- src/change.rt:30:5
 returns : tie.Need-returns
-returns c = rw (c .before .before .before .before .new .ensures, c .before .before .before .new2 .ensures, c .before .before .new3 .ensures, c .before .new4 .ensures, c .new5 .ensures)
+returns c = ?
 
 pub new-spec : {M : Type 1} → statement M
-new-spec =
-    tie.close
-    (tie.spec new-requires new-requires-2 new-requires-3 new-requires-4 new-requires-5 returns)
+new-spec = tie.close (tie.spec new-requires new-requires-2 new-requires-3 returns)
