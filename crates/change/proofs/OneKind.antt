@@ -7,6 +7,7 @@ use native.Mathlib.Omega.{arith}
 use lib.ListN.{length}
 use borrow.Author.Tests.{le-leb}
 use Rattle.directory.specs.declared.table.TableKind.{TableKind}
+use Rattle.directory.specs.declared.table.TableKind.the-variants.{Index, Value, RefCount}
 use Rattle.keys.specs.Keys.{ruled}
 use Rattle.keys.proofs.Places.{both}
 use Rattle.overlay.specs.Rules.{Overlay, rowsOf, orderOf, listsOf, overlayOf, keysRuled}
@@ -21,7 +22,7 @@ use Rattle.memory.proofs.Lent.{fits, lentOf, lent-kept}
 
 pub record KindLent (kind : TableKind) (s : Span) (words : List ℕ) (n : ℕ) : Type 0 where
   pub room-is : s .room ≡ spanOf holder.List kind .room
-  pub room-most : s .room ≤ 256
+  pub room-most : s .room ≤ 32
   pub rise : s .«words_at» ≤ s .«words_end»
   pub within : s .«words_end» ≤ length words
   pub most : length words ≤ 3840
@@ -29,6 +30,11 @@ pub record KindLent (kind : TableKind) (s : Span) (words : List ℕ) (n : ℕ) :
   pub low : n ≤ s .room
   pub in-order : ruled (rowsOf (s .room) (partFrom (s .«words_at») (s .«words_end») words)) (orderOf (s .room) (partFrom (s .«words_at») (s .«words_end») words)) n ≡ true
   pub keys : keysRuled kind (s .room) (rowsOf (s .room) (partFrom (s .«words_at») (s .«words_end») words)) (orderOf (s .room) (partFrom (s .«words_at») (s .«words_end») words)) n ≡ true
+
+rooms : (kind : TableKind) → spanOf holder.List kind .room ≤ 32
+rooms Index = omega arith
+rooms Value = omega arith
+rooms RefCount = omega arith
 
 keys-of : (kind : TableKind) (room : ℕ) (o : Overlay) → Kept kind room o → keysRuled kind room (o .rows) (o .order) (o .count) ≡ true
 unfolding keysRuled
@@ -42,7 +48,7 @@ module _ (kind : TableKind) (c : Counts) (words bytes : List ℕ) (s : Span) (e 
       let long = words-all holder.List c words bytes ok in
       record {
         room-is = rw e;
-        room-most = f .room-most;
+        room-most = rw e (rooms kind);
         rise = f .words-rise;
         within = omega (arith, f .words-in, long);
         most = omega (arith, long);

@@ -1,6 +1,6 @@
 -- The rules of a list, taken apart and put together. Assumes nothing.
 use mathlib.Core.Path.{_≡_}
-use mathlib.Core.Bool.{Bool, true, _&&_}
+use mathlib.Core.Bool.{Bool, true, false, _&&_}
 use Prim.Native.Nat.{ℕ, _≤_}
 use lib.Dec.{leb}
 use borrow.Author.Tests.{leb-true, le-leb}
@@ -12,6 +12,13 @@ use Rattle.keys.proofs.Places.{both, left-of, right-of}
 use Rattle.memory.specs.Parts.{ofKind, partsKept}
 use Rattle.memory.specs.declared.span.Holder.the-variants as holder
 use Rattle.change.specs.Change.{Change, dropRoom, changeRuled, entriesFit, dropsFit, changeFits, changeKept}
+
+-- a test of several rules, a return at a time
+pub stops : {a : Bool} (b : Bool) → a ≡ false → false ≡ (a && b)
+stops b e = rw e
+
+pub goes-on : {a b r : Bool} → a ≡ true → r ≡ b → r ≡ (a && b)
+goes-on e h = rw e h
 
 -- those that need no directory
 pub record RuledList (l : Change) : Type 0 where

@@ -1,50 +1,43 @@
+-- `plan_for` meets its contract: 6, 7, 14, 9 in turn. Assumes nothing.
+use mathlib.Core.Path.{sym, _∙_}
+use native.Mathlib.Omega.{arith}
+use borrow.Author.Tests.{not-true, not-false}
+use Rattle.change.specs.Insert.{planIn}
+use Rattle.change.proofs.Accepted.{plan-7, plan-14, plan-14-length, plan-rest}
 use borrow.Author.Needs.{needs}
 use Rattle.change.proofs.plans.plan_for.Statement.{statement}
 use Rattle.change.proofs.plans.plan_for.Tie as tie
-use Rattle.change.proofs.plans.plan_for.Reads as reads
-use Rattle.change.proofs.plans.plan_for.Lts as lts
-use Rattle.change.proofs.plans.bytes_fit.Reads as bytes-fit-reads
-use Rattle.change.proofs.plans.room_for.Reads as room-for-reads
 
--- src/plans.rt:63:22
 enum-known-found : tie.Need-enum-known-found
 enum-known-found c = search needs
 
--- src/plans.rt:64:16
 cast-if1 : tie.Need-cast-if1
 cast-if1 c = search needs
 
--- src/plans.rt:65:17
 returns : tie.Need-returns
-returns c = ?
+returns c = plan-7 _ _ _ _ _ (c .before .before .before .found .given .1) _ _ _ _ (c .if1 .taken)
 
--- src/plans.rt:68:17
 returns-2 : tie.Need-returns-2
-returns-2 c = ?
+returns-2 c = plan-14 _ _ _ _ _ (c .before .before .before .before .found .given .1) _ _ _ _ (c .before .if1 .left) (c .if2 .taken)
 
--- src/plans.rt:70:17
 bytes-fit-requires : tie.Need-bytes-fit-requires
 bytes-fit-requires c κs = search needs
 
--- src/plans.rt:71:17
 returns-3 : tie.Need-returns-3
-returns-3 c = ?
+returns-3 c = plan-14-length _ _ _ _ _ (c .before .before .before .before .before .before .found .given .1) _ _ _ _ (c .before .before .before .if1 .left) (omega (arith, c .before .before .if2 .left)) (sym (c .before .bytes-fit .ensures) ∙ not-true _ (c .if3 .taken))
 
--- src/plans.rt:73:13
 room-for-requires : tie.Need-room-for-requires
 room-for-requires c κs = search needs
 
--- src/plans.rt:75:40
 enum-told : tie.Need-enum-told
 enum-told c = search needs
 
--- src/plans.rt:47:1
 returns-4 : tie.Need-returns-4
-returns-4 c = ?
+returns-4 c = c .room-for .ensures ∙ plan-rest _ _ _ _ _ (c .before .before .before .before .before .before .before .found .given .1) _ _ _ _ (c .before .before .before .before .if1 .left) (omega (arith, c .before .before .before .if2 .left)) (sym (c .before .before .bytes-fit .ensures) ∙ not-false _ (c .before .if3 .left)) _ (c .before .before .before .before .before .before .before .before .before .before .before .pre .0)
 
--- src/plans.rt:47:1
 returns-5 : tie.Need-returns-5
-returns-5 c = ?
+unfolding planIn
+returns-5 c = sym (rw (c .enum-told .given .1))
 
 pub plan-for-spec : {M : Type 1} → statement M
 plan-for-spec =

@@ -1,41 +1,46 @@
+-- `spot_of` meets its contract: both parts of the words lent at once. Assumes nothing.
+use mathlib.Core.Path.{sym, ap, _∙_}
+use mathlib.Core.List.{List, []}
+use Prim.Native.Nat.{ℕ, _*_}
+use native.Mathlib.Omega.{arith}
+use denote.Ref.{now}
+use Rattle.keys.specs.Keys.{rank}
+use Rattle.overlay.specs.Rules.{listsOf, rowsOf}
+use Rattle.overlay.specs.Overlay.{spotIn}
+use Rattle.overlay.proofs.Parts.{rest-part, rows-long, order-long}
 use borrow.Author.Needs.{needs}
 use Rattle.change.proofs.values.spot_of.Statement.{statement}
 use Rattle.change.proofs.values.spot_of.Tie as tie
-use Rattle.change.proofs.values.spot_of.Reads as reads
-use Rattle.change.proofs.values.spot_of.Lts as lts
-use Rattle.keys.proofs.place.Reads as place-reads
 
--- src/values.rt:30:15
 mul-cut : tie.Need-mul-cut
 mul-cut c = search needs
 
--- src/values.rt:31:17
 slice-aggregate-place : tie.Need-slice-aggregate-place
-slice-aggregate-place c = ?
+slice-aggregate-place c = sym (rows-long (c .before .before .args .room) (now (c .before .before .args .words)) (c .before .before .pre .0))
 
--- src/values.rt:31:32
 mul-place : tie.Need-mul-place
 mul-place c = search needs
 
--- src/values.rt:31:32
 sub-place : tie.Need-sub-place
 sub-place c = search needs
 
--- src/values.rt:31:32
 part-place-start : tie.Need-part-place-start
 part-place-start c = search needs
 
--- src/values.rt:31:32
 part-place-end : tie.Need-part-place-end
 part-place-end c = search needs
 
--- src/values.rt:31:5
 place-requires : tie.Need-place-requires
-place-requires c κs = ?
+place-requires c κs =
+    let a = c .before .before .before .args in
+    let e = rest-part (4 * a .room) (now (a .words)) in
+    ((omega (arith, rows-long (a .room) (now (a .words)) (c .before .before .before .pre .0), c .before .before .before .pre .1), rw e (omega (arith, order-long (a .room) (now (a .words)) (c .before .before .before .pre .0), c .before .before .before .pre .1))), rw e (c .before .before .before .pre .2))
 
--- src/values.rt:26:1
 returns : tie.Need-returns
-returns c = ?
+unfolding spotIn
+returns c =
+    let a = c .before .before .before .before .args in
+    c .place .ensures ∙ ap (λ (o : List ℕ). spotIn (listsOf (rowsOf (a .room) (now (a .words))) o [] (a .n)) (rank (a .t) (a .index))) (rest-part (4 * a .room) (now (a .words)))
 
 pub spot-of-spec : {M : Type 1} → statement M
 spot-of-spec =
