@@ -14,12 +14,13 @@ use Rattle.directory.specs.declared.table.TableKind.{TableKind}
 use Rattle.directory.specs.declared.directory.Directory.{Directory}
 use Rattle.keys.specs.Keys.{markAt, every}
 use Rattle.keys.proofs.Places.{left-of, right-of, in-use}
-use Rattle.overlay.specs.Rules.{Overlay, slotSize, storedLength, rowRuled, overlayKept}
+use Rattle.overlay.specs.Rules.{Overlay, slotSize, storedLength, markRuled, rowRuled, overlayKept}
 use Rattle.overlay.proofs.Parts.{rest-part}
 use Rattle.overlay.proofs.Ruled.{shows, unit-fits}
 use Rattle.overlay.proofs.Slots.{slot-in}
-use Rattle.memory.specs.Parts.{partsKept}
+use Rattle.memory.specs.Parts.{spanOf, ofKind, partsKept}
 use Rattle.memory.specs.declared.span.Holder.the-variants as holder
+use Rattle.memory.proofs.Spans.{all-shows}
 use Rattle.change.specs.Change.{Change, dropRoom, changeRuled, changeKept}
 use Rattle.writer.specs.Inner.{Writable}
 
@@ -33,31 +34,38 @@ module _ (kind : TableKind) (room : ℕ) (o : Overlay) (small : room ≤ 256) (o
   pub within : o .count ≤ length (o .order)
   within = let k = shows kind room o ok in omega (arith, k .fits, k .order-long)
 
+  pub key-ruled : (i : ℕ) → i < o .count → rowRuled kind (o .rows) (getD (o .order) i 0) ≡ true
+  key-ruled i h =
+      rw (getD-take (o .count) (o .order) i 0 h)
+      at (every-at (rowRuled kind (o .rows)) (take (o .count) (o .order)) i (rw (length-take-le (o .count) (o .order) within) h) (shows kind room o ok .each))
+
+  pub key-marked : (i : ℕ) → i < o .count → markRuled kind (markAt (o .rows) (getD (o .order) i 0)) ≡ true
+  unfolding rowRuled
+  key-marked i h = right-of (ltb (getD (o .rows) (4 * getD (o .order) i 0) 0) 65536) _ (key-ruled i h)
+
   pub key-writable : (i : ℕ) → i < o .count → Writable kind (o .rows) (o .bytes) (getD (o .order) i 0)
   unfolding rowRuled
   key-writable i h =
       let k = shows kind room o ok in
       let used : getD (o .order) i 0 < room = omega (arith, k .fits, in-use (o .rows) (o .order) (o .count) i (k .in-order) within h) in
-      let fits : rowRuled kind (o .rows) (getD (o .order) i 0) ≡ true =
-      rw (getD-take (o .count) (o .order) i 0 h)
-      at (every-at (rowRuled kind (o .rows)) (take (o .count) (o .order)) i (rw (length-take-le (o .count) (o .order) within) h) (k .each)) in
       record {
         place = omega arith;
         row = omega (arith, k .rows-long);
-        table = ltb-true (getD (o .rows) (4 * getD (o .order) i 0) 0) 65536 (left-of (ltb (getD (o .rows) (4 * getD (o .order) i 0) 0) 65536) _ fits);
-        lies = omega (arith, k .bytes-long, slot-in (slotSize kind) (getD (o .order) i 0) room used, unit-fits kind (markAt (o .rows) (getD (o .order) i 0)) (right-of (ltb (getD (o .rows) (4 * getD (o .order) i 0) 0) 65536) _ fits));
+        table = ltb-true (getD (o .rows) (4 * getD (o .order) i 0) 0) 65536 (left-of (ltb (getD (o .rows) (4 * getD (o .order) i 0) 0) 65536) _ (key-ruled i h));
+        lies = omega (arith, k .bytes-long, slot-in (slotSize kind) (getD (o .order) i 0) room used, unit-fits kind (markAt (o .rows) (getD (o .order) i 0)) (key-marked i h));
       }
 
 -- where the chunk or value of a key begins, and that it lies there: `size` is a slot's, as the code has it
-module _ (kind : TableKind) (rows bytes : List ℕ) (p size : ℕ) (w : Writable kind rows bytes p) (e : size ≡ slotSize kind) where
-  pub begins-in : size * p ≤ length bytes
-  begins-in = rw e (omega (arith, w .lies))
-
+module _ (kind : TableKind) (rows bytes : List ℕ) (p : ℕ) (w : Writable kind rows bytes p) where
   pub lies-there : storedLength kind (markAt rows p) ≤ length (drop (slotSize kind * p) bytes)
   lies-there = rw length-drop (omega (arith, w .lies))
 
-  pub part-is : take (length bytes - size * p) (drop (size * p) bytes) ≡ drop (slotSize kind * p) bytes
-  part-is = rw e (rest-part (slotSize kind * p) bytes)
+  module _ (size : ℕ) (e : size ≡ slotSize kind) where
+    pub begins-in : size * p ≤ length bytes
+    begins-in = rw e (omega (arith, w .lies))
+
+    pub part-is : take (length bytes - size * p) (drop (size * p) bytes) ≡ drop (slotSize kind * p) bytes
+    part-is = rw e (rest-part (slotSize kind * p) bytes)
 
 -- a list
 pub kept-ruled : (d : Directory) (l : Change) → changeKept d l ≡ true → changeRuled l ≡ true
@@ -68,6 +76,9 @@ module _ (l : Change) (e : changeRuled l ≡ true) where
   pub ruled-parts : partsKept holder.List (l .parts) ≡ true
   unfolding changeRuled
   ruled-parts = left-of (partsKept holder.List (l .parts)) _ e
+
+  pub kind-kept : (kind : TableKind) → overlayKept kind (spanOf holder.List kind .room) (ofKind kind (l .parts)) ≡ true
+  kind-kept = all-shows holder.List (l .parts) ruled-parts .each
 
   pub drops-room : l .drops .count ≤ dropRoom
   unfolding changeRuled

@@ -11,7 +11,7 @@ use Rattle.writer.proofs.entry.put_key.Statement.{statement}
 use Rattle.writer.proofs.entry.put_key.Tie as tie
 
 begins : (s : tie.Start) (size : ℕ) → size ≡ slotSize (s .args .kind) → size * s .args .p ≤ length (s .args .bytes .now)
-begins s size e = begins-in (s .args .kind) (s .args .rows .now) (s .args .bytes .now) (s .args .p) size (s .pre .0) e
+begins s size e = begins-in (s .args .kind) (s .args .rows .now) (s .args .bytes .now) (s .args .p) (s .pre .0) size e
 
 slot-size-requires : tie.Need-slot-size-requires
 slot-size-requires c κs = search needs
@@ -73,8 +73,8 @@ unfolding entryBytesAt
 put-entry-requires c κs =
     let b = c .before .before .before .before .before in
     let s = b .before .before .before .before in
-    rw (part-is (s .args .kind) (s .args .rows .now) (s .args .bytes .now) (s .args .p) (b .slot-size .result) (s .pre .0) (b .slot-size .ensures .0))
-    (lies-there (s .args .kind) (s .args .rows .now) (s .args .bytes .now) (s .args .p) (b .slot-size .result) (s .pre .0) (b .slot-size .ensures .0), s .pre .1)
+    rw (part-is (s .args .kind) (s .args .rows .now) (s .args .bytes .now) (s .args .p) (s .pre .0) (b .slot-size .result) (b .slot-size .ensures .0))
+    (lies-there (s .args .kind) (s .args .rows .now) (s .args .bytes .now) (s .args .p) (s .pre .0), s .pre .1)
 
 same-length : tie.Need-same-length
 same-length c = search needs
@@ -84,7 +84,7 @@ unfolding entryBytesAt
 returns c =
     let b = c .before .before .before .before .before .before .before .before in
     let s = b .before .before .before .before in
-    rw (part-is (s .args .kind) (s .args .rows .now) (s .args .bytes .now) (s .args .p) (b .slot-size .result) (s .pre .0) (b .slot-size .ensures .0)) at (c .before .before .put-entry .ensures)
+    rw (part-is (s .args .kind) (s .args .rows .now) (s .args .bytes .now) (s .args .p) (s .pre .0) (b .slot-size .result) (b .slot-size .ensures .0)) at (c .before .before .put-entry .ensures)
 
 pub put-key-spec : {M : Type 1} → statement M
 put-key-spec =
