@@ -1,27 +1,26 @@
--- What the rules of a list give: each of its keys can be written, and its drops have room. Assumes nothing.
+-- What the rules of a list give: each of its keys can be written. Assumes nothing.
 use mathlib.Core.Path.{_≡_}
 use mathlib.Core.Bool.{Bool, true}
 use mathlib.Core.List.{List, [], _∷_}
 use Prim.Native.Nat.{ℕ, zero, suc, _+_, _-_, _*_, _≤_, _<_}
 use native.Mathlib.Nat.{not-suc-le-zero, le-of-suc-le-suc}
 use native.Mathlib.Omega.{arith}
-use lib.Dec.{ltb, leb}
+use lib.Dec.{ltb}
 use lib.ListN.{length, take, drop, getD, length-drop}
 use lib.Seq.{getD-take, length-take-le}
-use borrow.Author.Tests.{ltb-true, leb-true}
-use Rattle.directory.specs.Directory.{directoryKept}
+use borrow.Author.Tests.{ltb-true}
 use Rattle.directory.specs.declared.table.TableKind.{TableKind}
-use Rattle.directory.specs.declared.directory.Directory.{Directory}
 use Rattle.keys.specs.Keys.{markAt, every}
 use Rattle.keys.proofs.Places.{left-of, right-of, in-use}
 use Rattle.overlay.specs.Rules.{Overlay, slotSize, storedLength, markRuled, rowRuled, overlayKept}
 use Rattle.overlay.proofs.Parts.{rest-part}
 use Rattle.overlay.proofs.Ruled.{shows, unit-fits}
 use Rattle.overlay.proofs.Slots.{slot-in}
-use Rattle.memory.specs.Parts.{spanOf, ofKind, partsKept}
+use Rattle.memory.specs.Parts.{spanOf, ofKind}
 use Rattle.memory.specs.declared.span.Holder.the-variants as holder
 use Rattle.memory.proofs.Spans.{all-shows}
-use Rattle.change.specs.Change.{Change, dropRoom, changeRuled, changeKept}
+use Rattle.change.specs.Change.{Change, changeRuled}
+use Rattle.change.proofs.Rules.{ruled-parts}
 use Rattle.writer.specs.Inner.{Writable}
 
 every-at : (f : ℕ → Bool) (l : List ℕ) (j : ℕ) → j < length l → every f l ≡ true → f (getD l j 0) ≡ true
@@ -67,23 +66,6 @@ module _ (kind : TableKind) (rows bytes : List ℕ) (p : ℕ) (w : Writable kind
     pub part-is : take (length bytes - size * p) (drop (size * p) bytes) ≡ drop (slotSize kind * p) bytes
     part-is = rw e (rest-part (slotSize kind * p) bytes)
 
--- a list
-pub kept-ruled : (d : Directory) (l : Change) → changeKept d l ≡ true → changeRuled l ≡ true
-unfolding changeKept
-kept-ruled d l e = left-of (changeRuled l) _ (right-of (directoryKept d) _ e)
-
-module _ (l : Change) (e : changeRuled l ≡ true) where
-  pub ruled-parts : partsKept holder.List (l .parts) ≡ true
-  unfolding changeRuled
-  ruled-parts = left-of (partsKept holder.List (l .parts)) _ e
-
-  pub kind-kept : (kind : TableKind) → overlayKept kind (spanOf holder.List kind .room) (ofKind kind (l .parts)) ≡ true
-  kind-kept = all-shows holder.List (l .parts) ruled-parts .each
-
-  pub drops-room : l .drops .count ≤ dropRoom
-  unfolding changeRuled
-  drops-room = leb-true (l .drops .count) dropRoom (left-of (leb (l .drops .count) dropRoom) _ (right-of (partsKept holder.List (l .parts)) _ e))
-
-  pub count-drops-room : l .countDrops .count ≤ dropRoom
-  unfolding changeRuled
-  count-drops-room = leb-true (l .countDrops .count) dropRoom (right-of (leb (l .drops .count) dropRoom) _ (right-of (partsKept holder.List (l .parts)) _ e))
+-- each kind of a list
+pub kind-kept : (l : Change) → changeRuled l ≡ true → (kind : TableKind) → overlayKept kind (spanOf holder.List kind .room) (ofKind kind (l .parts)) ≡ true
+kind-kept l e = all-shows holder.List (l .parts) (ruled-parts l e) .each

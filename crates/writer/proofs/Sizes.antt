@@ -23,6 +23,7 @@ use Rattle.memory.specs.declared.span.Holder.the-variants as holder
 use Rattle.memory.proofs.Spans.{lies}
 use Rattle.change.specs.Change.{Change, dropRoom, changeRuled}
 use Rattle.change.specs.Size.{entrySize, placesSize, entriesSize, recordSize}
+use Rattle.change.proofs.Rules.{ruled-shows}
 use Rattle.change.specs.declared.drops.Drops.{Drops}
 use Rattle.output.specs.Put.{le, joined}
 use Rattle.output.proofs.Laws.{length-le}
@@ -30,7 +31,7 @@ use Rattle.writer.specs.Bytes.{setSlots, maskedBytes, payloadOf, entryBy
 use Rattle.writer.specs.Inner.{Writable}
 use Rattle.writer.specs.Typed.{Typed}
 use Rattle.writer.proofs.Masks.{length-masked, length-entry}
-use Rattle.writer.proofs.Rules.{within, key-writable, lies-there, kind-kept, drops-room, count-drops-room}
+use Rattle.writer.proofs.Rules.{within, key-writable, lies-there, kind-kept}
 
 -- the slots that a mask names: a number of k digits has them among its k lowest
 pub ones-in : (k m : ℕ) → m < 2 ^ k → onesIn k m ≡ ones m
@@ -102,4 +103,4 @@ module _ (l : Change) (ok : changeRuled l ≡ true) (t : Typed l) where
   unfolding recordOf body recordSize
   length-record =
       simp (length-append, length-le)
-      (omega (arith, of-kind Index, of-kind Value, of-kind RefCount, drops-length 5 (l .drops) (drops-room l ok) (t .dropsLong), drops-length 7 (l .countDrops) (count-drops-room l ok) (t .countDropsLong)))
+      (omega (arith, of-kind Index, of-kind Value, of-kind RefCount, drops-length 5 (l .drops) (ruled-shows l ok .drops) (t .dropsLong), drops-length 7 (l .countDrops) (ruled-shows l ok .count-drops) (t .countDropsLong)))

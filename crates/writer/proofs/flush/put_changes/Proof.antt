@@ -5,10 +5,10 @@ use native.Mathlib.Omega.{arith}
 use lib.ListN.{length, length-append}
 use borrow.Author.Needs.{needs}
 use Rattle.change.specs.Change.{Change, changeOf}
+use Rattle.change.proofs.Rules.{ruled-shows}
 use Rattle.output.proofs.Laws.{_⨾_}
 use Rattle.writer.specs.Bytes.{dropsBytes}
 use Rattle.writer.specs.Inner.{insertsOf}
-use Rattle.writer.proofs.Rules.{drops-room, count-drops-room}
 use Rattle.writer.proofs.flush.put_changes.Statement.{statement}
 use Rattle.writer.proofs.flush.put_changes.Tie as tie
 
@@ -29,14 +29,14 @@ put-drops-requires : tie.Need-put-drops-requires
 put-drops-requires c κs =
     let a = c .before .before .before in
     let s = a .before .before .before .before .before .before .before in
-    (drops-room (list s) (s .pre .0), omega (arith, fits s, a .put-inserts .ensures .next, a .put-inserts .kept .0))
+    (ruled-shows (list s) (s .pre .0) .drops, omega (arith, fits s, a .put-inserts .ensures .next, a .put-inserts .kept .0))
 
 put-drops-requires-2 : tie.Need-put-drops-requires-2
 put-drops-requires-2 c κs =
     let b = c .before .before .before in
     let a = b .before .before .before .before in
     let s = a .before .before .before .before .before .before .before in
-    (count-drops-room (list s) (s .pre .0), omega (arith, fits s, b .put-drops .ensures .next, b .put-drops .kept .0, a .put-inserts .ensures .next, a .put-inserts .kept .0))
+    (ruled-shows (list s) (s .pre .0) .count-drops, omega (arith, fits s, b .put-drops .ensures .next, b .put-drops .kept .0, a .put-inserts .ensures .next, a .put-inserts .kept .0))
 
 same-length : tie.Need-same-length
 same-length c = search needs

@@ -11,10 +11,10 @@ use Rattle.directory.specs.declared.table.TableKind.the-variants.{Index, Value,
 use Rattle.memory.specs.Parts.{partOf, partsOf, partsKept}
 use Rattle.memory.specs.declared.span.Holder.the-variants as holder
 use Rattle.change.specs.Change.{changeOf}
+use Rattle.change.proofs.Rules.{ruled-parts}
 use Rattle.output.specs.Put.{le}
 use Rattle.output.proofs.Laws.{_⨾_, length-le}
 use Rattle.writer.specs.Bytes.{entries}
-use Rattle.writer.proofs.Rules.{ruled-parts}
 use Rattle.writer.proofs.flush.put_inserts.Statement.{statement}
 use Rattle.writer.proofs.flush.put_inserts.Tie as tie
 
