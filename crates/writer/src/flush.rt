@@ -54,3 +54,38 @@ fn put_record(out: &mut [u8], list: LogChange, words: &[u64], bytes: &[u8])
     let sum = checksum::checksum(&out[..b]);
     output::put_u32(out, b, sum);
 }
+
+// Behind 13: the length is compared before a byte is written.
+pub fn flush_to_file_kept(list: LogChange, words: &[u64], bytes: &[u8], out: &mut [u8]) -> Sized
+    requires { ⌜ changeRuled (changeOf list (now words) (now bytes)) ≡ true ⌝ }
+    ensures { λ r. ⌜ flushedOf r (now (out .exit)) ≡ flushToFileKept (changeOf list (now (words .entry)) (now (bytes .entry))) (now (out .entry)) ⌝ }
+{
+    let size = list.record_size_kept(words, bytes);
+    if out.len() < size.length {
+        return Sized {
+            answer: Answer::ShortOutput,
+            length: 0,
+        };
+    }
+    put_record(out, list, words, bytes);
+    size
+}
+
+// Writes the list as a record at the output's front.
+pub fn flush_to_file(
+    list: LogChange,
+    directory: Directory,
+    words: &[u64],
+    bytes: &[u8],
+    out: &mut [u8],
+) -> Sized
+    ensures { λ r. ⌜ flushedOf r (now (out .exit)) ≡ flushToFile directory (changeOf list (now (words .entry)) (now (bytes .entry))) (now (out .entry)) ⌝ }
+{
+    if !list.kept(directory, words, bytes) {
+        return Sized {
+            answer: Answer::BadState,
+            length: 0,
+        };
+    }
+    flush_to_file_kept(list, words, bytes, out)
+}

@@ -5,5 +5,5 @@ mod flush;
 mod kinds;
 mod slots;
 
-// pub use flush::flush_to_file;
-// pub use flush::flush_to_file_kept;
+pub use flush::flush_to_file;
+pub use flush::flush_to_file_kept;
