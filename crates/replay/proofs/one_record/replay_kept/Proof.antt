@@ -1,4 +1,4 @@
--- `replay_tested` meets its contract. Assumes nothing.
+-- `replay_kept` meets its contract. Assumes nothing.
 use mathlib.Core.Path.{_≡_, refl, sym, ap, _∙_}
 use mathlib.Core.Bool.{true}
 use Prim.Native.Nat.{suc}
@@ -8,29 +8,31 @@ use borrow.Author.Tests.{eq-eqb, ne-eqb}
 use Rattle.record.specs.Next.{readerAt, stepOf}
 use Rattle.record.specs.declared.reader.LogReader.{LogReader}
 use Rattle.record.specs.declared.reader.Step.{Step}
-use Rattle.replay.specs.Parts.{endIn}
-use Rattle.replay.specs.Replay.{imageAfter}
+use Rattle.replay.specs.declared.check.EndAnswer.the-variants.{NotEnded}
+use Rattle.replay.specs.Replay.{imageAfter, endIn}
+use Rattle.replay.proofs.Checked.{kept-directory}
 use Rattle.replay.proofs.Opening.{opening, record-refused, record-wrong, record-opened}
 use borrow.Author.Needs.{needs}
-use Rattle.replay.proofs.one_record.replay_tested.Statement.{statement}
-use Rattle.replay.proofs.one_record.replay_tested.Tie as tie
-use Rattle.replay.proofs.one_record.replay_tested.Reads as reads
-use Rattle.replay.proofs.one_record.replay_tested.Lts as lts
+use Rattle.replay.proofs.one_record.replay_kept.Statement.{statement}
+use Rattle.replay.proofs.one_record.replay_kept.Tie as tie
+use Rattle.replay.proofs.one_record.replay_kept.Reads as reads
+use Rattle.replay.proofs.one_record.replay_kept.Lts as lts
+use Rattle.answer.proofs.answer.Refusal.new.Reads as refusal-new-reads
 use Rattle.record.proofs.reader.LogReader.new.Reads as new-reads
-use Rattle.record.proofs.reader.LogReader.step.Reads as step-reads
+use Rattle.record.proofs.reader.LogReader.next_kept.Reads as next-kept-reads
 use Rattle.replay.proofs.one_record.replay_opened.Reads as replay-opened-reads
 
 new-requires : tie.Need-new-requires
 new-requires c κs = search needs
 
-step-requires : tie.Need-step-requires
-step-requires c κs = tt
+next-kept-requires : tie.Need-next-kept-requires
+next-kept-requires c κs = kept-directory _ _ (c .before .before .before .pre)
 
 -- what the opening's step gave, of the reader that `new` made
-stepped : (u : tie.After-step) → u .step .result ≡ stepOf (u .before .before .before .before .args .d) (now (u .before .before .before .before .args .log)) (readerAt (u .before .before .before .before .args .at) true)
+stepped : (u : tie.After-next-kept) → u .next-kept .result ≡ stepOf (u .before .before .before .before .args .d) (now (u .before .before .before .before .args .log)) (readerAt (u .before .before .before .before .args .at) true)
 stepped u =
     let a = u .before .before .before .before .args in
-    u .step .ensures ∙ ap (λ (r : LogReader). stepOf (a .d) (now (a .log)) r) (u .before .new .ensures)
+    u .next-kept .ensures ∙ ap (λ (r : LogReader). stepOf (a .d) (now (a .log)) r) (u .before .new .ensures)
 
 enum-known-x : tie.Need-enum-known-x
 enum-known-x c = search needs
@@ -42,6 +44,9 @@ replay-opened-requires : tie.Need-replay-opened-requires
 replay-opened-requires c κs =
     let u = c .before .before .before .before .before .before .before in
     (c .before .before .before .before .before .before .before .before .before .before .before .pre, opening _ _ _ _ (sym (stepped u) ∙ c .before .before .before .before .before .s .given .1))
+
+new-requires-2 : tie.Need-new-requires-2
+new-requires-2 c κs = search needs
 
 returns : tie.Need-returns
 returns c =
@@ -62,20 +67,21 @@ returns-2 c =
 
 returns-3 : tie.Need-returns-3
 returns-3 c =
-    let u = c .before .before .before .before .before .before in
-    let a = c .before .before .before .before .before .before .before .before .before .before .args in
-    let e = record-wrong (a .d) (now (a .log)) (a .at) (a .expected) _ (sym (stepped u) ∙ c .before .before .before .before .s .given .1) (ne-eqb _ _ (c .if1 .left)) in
-    (sym (ap endIn e), sym (ap (imageAfter (a .d) (now (a .image))) e))
+    let u = c .before .before .before .before .before .before .before in
+    let a = u .before .before .before .before .args in
+    let e = record-wrong (a .d) (now (a .log)) (a .at) (a .expected) _ (sym (stepped u) ∙ c .before .before .before .before .before .s .given .1) (ne-eqb _ _ (c .before .if1 .left)) in
+    (ap NotEnded (c .new2 .ensures) ∙ sym (ap endIn e), sym (ap (imageAfter (a .d) (now (a .image))) e))
 
-pub replay-tested-spec : {M : Type 1} → statement M
-replay-tested-spec =
+pub replay-kept-spec : {M : Type 1} → statement M
+replay-kept-spec =
     tie.close
     (tie.spec
     new-requires
-    step-requires
+    next-kept-requires
     enum-known-x
     enum-known-s
     replay-opened-requires
+    new-requires-2
     returns
     same-length
     returns-2

@@ -1,11 +1,11 @@
--- `LogReader::step` meets its contract. Assumes nothing.
+-- `LogReader::next_kept` meets its contract. Assumes nothing.
 use borrow.Author.Tests.{lt-ltb, le-ltb}
 use Rattle.record.specs.Next.{stepOf}
 use borrow.Author.Needs.{needs}
-use Rattle.record.proofs.reader.LogReader.step.Statement.{statement}
-use Rattle.record.proofs.reader.LogReader.step.Tie as tie
-use Rattle.record.proofs.reader.LogReader.step.Reads as reads
-use Rattle.record.proofs.reader.LogReader.step.Lts as lts
+use Rattle.record.proofs.reader.LogReader.next_kept.Statement.{statement}
+use Rattle.record.proofs.reader.LogReader.next_kept.Tie as tie
+use Rattle.record.proofs.reader.LogReader.next_kept.Reads as reads
+use Rattle.record.proofs.reader.LogReader.next_kept.Lts as lts
 use Rattle.record.proofs.reader.LogReader.step_inside.Reads as step-inside-reads
 use Rattle.record.proofs.reader.LogReader.step_opening.Reads as step-opening-reads
 use Rattle.record.proofs.reader.refuse.Reads as refuse-reads
@@ -31,8 +31,8 @@ returns-3 : tie.Need-returns-3
 unfolding stepOf
 returns-3 c = rw (le-ltb _ _ (c .before .before .if1 .left), ← c .step-opening .ensures, c .before .if2 .left)
 
-pub step-spec : {M : Type 1} → statement M
-step-spec =
+pub next-kept-spec : {M : Type 1} → statement M
+next-kept-spec =
     tie.close
     (tie.spec
     refuse-requires
