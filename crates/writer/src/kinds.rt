@@ -73,5 +73,13 @@ pub(crate) fn put_kind(
     let e = s.words_end;
     let b = s.bytes_at;
     let f = s.bytes_end;
-    put_entries(out, at, kind, s.room, &words[a..e], &bytes[b..f], counts.of(kind))
+    put_entries(
+        out,
+        at,
+        kind,
+        s.room,
+        &words[a..e],
+        &bytes[b..f],
+        counts.of(kind),
+    )
 }
