@@ -8,8 +8,7 @@ use lib.ListN.{take, drop, length}
 use Rattle.directory.specs.declared.table.TableKind.{TableKind}
 use Rattle.directory.specs.declared.table.TableKind.the-variants.{Index, Value, RefCount}
 use Rattle.overlay.specs.Rules.{Overlay, overlayOf, overlayKept}
-use Rattle.overlay.specs.Overlay.{standsIn, putOver}
-use Rattle.keys.specs.Keys.{rank}
+use Rattle.overlay.specs.Overlay.{standsIn, putOver, removedFrom}
 use Rattle.memory.specs.declared.counts.Counts.{Counts}
 use Rattle.memory.specs.declared.span.Holder.{Holder}
 use Rattle.memory.specs.declared.span.Span.{Span}
@@ -100,3 +99,7 @@ Takes h kind p key = standsIn (ofKind kind p) key ≡ false → ofKind kind p .c
 -- an entry put into the part of its kind
 unfoldable pub putInto : TableKind → Parts → ℕ → ℕ → ℕ → ℕ → List ℕ → Parts
 putInto kind p table index id mark src = withKind kind p (putOver kind (ofKind kind p) table index id mark src)
+
+-- the entry of a key taken out of the part of its kind, if its id is the one given
+unfoldable pub removeFrom : TableKind → Parts → ℕ → ℕ → Parts
+removeFrom kind p key id = withKind kind p (removedFrom kind (ofKind kind p) key id)
