@@ -1,11 +1,10 @@
 -- Cases (f), (g), (h) and (i) of document 01, under every directory that keeps its rules, validating or not. Assumes nothing.
-use mathlib.Core.Path.{_≡_, refl, ap, _∙_}
+use mathlib.Core.Path.{_≡_}
 use mathlib.Core.Bool.{Bool, true}
 use mathlib.Core.List.{List, [], _∷_}
 use Prim.Native.Nat.{ℕ}
 use Rattle.directory.specs.Directory.{directoryKept}
 use Rattle.directory.specs.declared.directory.Directory.{Directory}
-use Rattle.words.specs.Choice.{if_then_else_}
 use Rattle.record.specs.Format.{readAt}
 use Rattle.record.specs.Next.{answerOf, readerAt, stepOf, nextOf}
 use Rattle.record.specs.Record.{opening, openingBy, begunId, early}

@@ -17,7 +17,6 @@ use Rattle.answer.specs.declared.answer.Answer.the-variants.{Done, BadState, Ba
 use Rattle.record.specs.declared.action.LogAction.{LogAction}
 use Rattle.record.specs.declared.action.LogAction.the-variants.{BeginRecord, InsertIndex, InsertValue, InsertRefCount, EndRecord, DropTable, DropRefCountTable}
 use Rattle.record.specs.declared.reader.LogReader.{LogReader}
-use Rattle.record.specs.declared.reader.Stepped.{Stepped}
 use Rattle.record.specs.declared.reader.Step.{Step}
 use Rattle.record.specs.declared.reader.Step.the-variants.{Took, Refused}
 

@@ -1,8 +1,8 @@
 -- The first pass: the end of the record read plainly, and then the checksum over all its bytes. Assumes nothing.
 use mathlib.Core.Path.{_≡_, refl, sym, ap, _∙_}
 use mathlib.Core.Bool.{Bool, true, false, and-eq-true-iff}
-use mathlib.Core.List.{List, [], _∷_}
-use Prim.Native.Nat.{ℕ, suc, _+_, _-_, _≤_, _<_}
+use mathlib.Core.List.{List, []}
+use Prim.Native.Nat.{ℕ, suc, _-_}
 use native.Mathlib.Omega.{arith}
 use lib.Dec.{eqb}
 use lib.ListN.{length, take, drop}
@@ -20,7 +20,6 @@ use Rattle.answer.specs.declared.answer.Refusal.{Refusal}
 use Rattle.answer.specs.Answer.{refusal}
 use Rattle.replay.specs.Inner.{isWalked, Opened}
 use Rattle.replay.specs.Replay.{Walked, fault, walked, recordAt, tablesKept, judged, replayedAs, imageAfter, endIn}
-use Rattle.replay.specs.declared.check.EndAnswer.{EndAnswer}
 use Rattle.replay.specs.declared.check.EndAnswer.the-variants.{Ended, NotEnded}
 use Rattle.replay.proofs.Places.{EndsIn, ends-in}
 use Rattle.replay.proofs.Rest.{whole}

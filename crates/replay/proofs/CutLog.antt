@@ -2,22 +2,21 @@
 -- "the number of records replayed, which are exactly the whole acceptable ones before it" (the same). Assumes nothing.
 use mathlib.Core.Path.{_≡_, refl, sym, ap, _∙_}
 use mathlib.Core.Bool.{Bool, true, false}
-use mathlib.Core.List.{List, [], _∷_, _++_, append-nil}
-use Prim.Native.Nat.{ℕ, zero, suc, _+_, _-_, _≤_, _<_}
+use mathlib.Core.List.{List, [], _++_, append-nil}
+use Prim.Native.Nat.{ℕ, zero, suc, _+_, _≤_}
 use native.Mathlib.Omega.{arith}
 use lib.Dec.{eqb, leb}
 use lib.ListN.{length, take, drop, take-append-drop}
 use lib.Seq.{length-take-le, take-take, take-length}
-use borrow.Author.Tests.{leb-true, leb-false, le-leb}
+use borrow.Author.Tests.{leb-true, leb-false}
 use Rattle.words.specs.Choice.{if_then_else_}
-use Rattle.words.proofs.Choices.{if-true, if-false}
+use Rattle.words.proofs.Choices.{if-true}
 use Rattle.directory.specs.declared.directory.Directory.{Directory}
-use Rattle.answer.specs.declared.answer.Answer.{Answer}
 use Rattle.answer.specs.declared.answer.Answer.the-variants.{EndOfLog}
 use Rattle.effect.specs.Effect.{Written, apply}
 use Rattle.answer.specs.Answer.{lastRecordId}
 use Rattle.replay.specs.Replay.{Walked, fault, walked, recordAt, tablesKept}
-use Rattle.replay.specs.Run.{Outcome, stops, byRecord, runFrom, runOf, byWhole, wholeWithin, wholeRecords, Chain, chain-end, chain-more, applyAll, Leaves}
+use Rattle.replay.specs.Run.{Outcome, byRecord, runFrom, runOf, byWhole, wholeWithin, wholeRecords, Chain, chain-end, chain-more, applyAll, Leaves}
 use Rattle.replay.proofs.Cut.{record-cut}
 use Rattle.replay.proofs.Opening.{record-on}
 use Rattle.replay.proofs.Records.{run-enough}

@@ -2,7 +2,7 @@
 use mathlib.Core.Path.{_≡_, refl, sym, ap, _∙_, subst}
 use mathlib.Core.Bool.{Bool, true, false}
 use mathlib.Core.List.{List, [], _∷_, Perm}
-use mathlib.Core.Option.{Option, none, some, Option·getD}
+use mathlib.Core.Option.{Option·getD}
 use Prim.Native.Nat.{ℕ, zero, suc, _<_}
 use native.Mathlib.Omega.{arith}
 use lib.ListN.{length, getD}
@@ -15,10 +15,10 @@ use Rattle.record.specs.declared.reader.Stepped.{Stepped}
 use Rattle.record.specs.declared.reader.Step.{Step}
 use Rattle.record.specs.declared.reader.Step.the-variants.{Took, Refused}
 use Rattle.effect.specs.Effect.{Written, apply}
-use Rattle.effect.specs.Meaning.{orElse, Sized, lastSaid}
+use Rattle.effect.specs.Meaning.{Sized, lastSaid}
 use Rattle.effect.specs.Order.{Each, Pairs, Other, Spared}
 use Rattle.effect.proofs.Sized.{payload-sized}
-use Rattle.effect.proofs.Bytes.{length-apply}
+use Rattle.effect.proofs.Bytes.{orElse-getD, length-apply}
 use Rattle.effect.proofs.Demand2 as effect-2
 use Rattle.effect.proofs.Demand3 as effect-3
 use Rattle.replay.specs.Replay.{Walked, fault, walked, writtenIn, addFirst, byStep, restOf, recordAt, tablesKept, judged, imageAfter}
@@ -93,10 +93,6 @@ demand-3 d id image log₁ at₁ ws₁ end₁ log₂ at₂ ws₂ end₂ e₁ e�
 
 -- ---- demand 2 for each record of a run
 
-later : (a b : Option ℕ) (x : ℕ) → Option·getD a (Option·getD b x) ≡ Option·getD (orElse a b) x
-later none b x = refl
-later (some c) b x = refl
-
 chain-bytes : {d : Directory} {log : List ℕ} {at expected : ℕ} {rs : List (List Written)} {end : ℕ} → Chain d log at expected rs end → (image : List ℕ) (p : ℕ) → p < length image
     → getD (applyAll d rs image) p 0 ≡ Option·getD (lastOfAll d rs p) (getD image p 0)
 unfolding applyAll lastOfAll
@@ -104,7 +100,7 @@ chain-bytes chain-end image p h = refl
 chain-bytes {d} {log} {at} {expected} (chain-more {ws = ws} {mid = mid} {rs = rs} e c) image p h =
     chain-bytes c (apply d ws image) p (rw length-apply h)
     ∙ ap (Option·getD (lastOfAll d rs p)) (effect-2.demand-2 d ws image p (accepted-sized d log at expected ws mid e) h)
-    ∙ later (lastOfAll d rs p) (lastSaid d ws p) (getD image p 0)
+    ∙ sym (orElse-getD (lastOfAll d rs p) (lastSaid d ws p) (getD image p 0))
 
 length-all : (d : Directory) (rs : List (List Written)) (image : List ℕ) → length (applyAll d rs image) ≡ length image
 unfolding applyAll

@@ -1,20 +1,18 @@
 -- A run "stops at the first answer other than 0, and reports that answer, the position where the record not replayed begins, and the number
 -- of records replayed"; "After id 2^64-1 it stops with 12." (document 01, "Replay"). Assumes nothing.
-use mathlib.Core.Path.{_≡_, refl, sym, ap, _∙_}
+use mathlib.Core.Path.{_≡_, refl}
 use mathlib.Core.Bool.{Bool, true, false}
-use mathlib.Core.List.{List, [], _∷_}
-use Prim.Native.Nat.{ℕ, zero, suc, _+_, _-_, _≤_, _<_}
+use mathlib.Core.List.{List}
+use Prim.Native.Nat.{ℕ, zero, suc, _+_, _-_, _<_}
 use native.Mathlib.Omega.{arith}
 use lib.Dec.{eqb}
 use lib.ListN.{length}
 use borrow.Author.Tests.{eqb-true}
-use Rattle.words.specs.Choice.{if_then_else_}
-use Rattle.words.proofs.Choices.{if-true}
 use Rattle.directory.specs.declared.directory.Directory.{Directory}
 use Rattle.effect.specs.Effect.{Written, apply}
 use Rattle.answer.specs.Answer.{lastRecordId}
 use Rattle.replay.specs.Replay.{Walked, fault, walked, recordAt, tablesKept}
-use Rattle.replay.specs.Run.{Outcome, byRecord, runFrom, runOf, Stops, refuses, used-up}
+use Rattle.replay.specs.Run.{byRecord, runFrom, runOf, Stops, refuses, used-up}
 use Rattle.replay.proofs.Opening.{record-on}
 
 module _ (d : Directory) (log : List ℕ) (first : ℕ) where

@@ -2,7 +2,7 @@
 -- reports that answer, the position where the record not replayed begins, and the number of records replayed").
 use mathlib.Core.Path.{_≡_}
 use mathlib.Core.List.{List, [], _∷_}
-use mathlib.Core.Option.{Option, none, Option·getD}
+use mathlib.Core.Option.{Option, none, Option·getD, orElse}
 use Prim.Native.Nat.{ℕ, zero, suc, _+_, _<_}
 use lib.Dec.{eqb, leb}
 use lib.ListN.{length, getD}
@@ -13,7 +13,7 @@ use Rattle.answer.specs.declared.answer.Answer.{Answer}
 use Rattle.answer.specs.declared.answer.Answer.the-variants.{EndOfLog, UsedUp, BadState}
 use Rattle.answer.specs.declared.answer.Refusal.{Refusal}
 use Rattle.effect.specs.Effect.{Written, apply}
-use Rattle.effect.specs.Meaning.{orElse, lastSaid}
+use Rattle.effect.specs.Meaning.{lastSaid}
 use Rattle.replay.specs.Replay.{Walked, fault, walked, recordAt, tablesKept}
 use Rattle.replay.specs.declared.many_records.Ran.{Ran}
 
