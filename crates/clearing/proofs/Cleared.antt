@@ -3,7 +3,6 @@ use mathlib.Core.Path.{_≡_}
 use mathlib.Core.Bool.{true}
 use mathlib.Core.List.{List, [], _∷_}
 use Prim.Native.Nat.{ℕ}
-use Rattle.directory.specs.declared.table.TableKind.{TableKind}
 use Rattle.effect.specs.Effect.{Written}
 use Rattle.keys.specs.Keys.{rank}
 use Rattle.replay.specs.Replay.{Walked, fault, walked}

@@ -1,5 +1,5 @@
 -- What is left in the overlays: of a key that the record names the entry of another id, of any other key what stood there. Assumes nothing.
-use mathlib.Core.Path.{_≡_, refl, sym, ap, _∙_}
+use mathlib.Core.Path.{_≡_, refl, ap, _∙_}
 use mathlib.Core.Bool.{Bool, true, false, _&&_, _||_}
 use mathlib.Core.List.{List, [], _∷_}
 use mathlib.Core.Option.{Option, none, some}
@@ -10,7 +10,6 @@ use borrow.Author.Tests.{eqb-true, eq-eqb, ne-eqb, ltb-true, ltb-false}
 use Rattle.words.specs.Choice.{if_then_else_}
 use Rattle.directory.specs.Table.{sameKind}
 use Rattle.directory.specs.declared.table.TableKind.{TableKind}
-use Rattle.directory.specs.declared.table.TableKind.the-variants.{Index, Value, RefCount}
 use Rattle.effect.specs.Effect.{Written}
 use Rattle.keys.specs.Keys.{rank}
 use Rattle.overlay.specs.Rules.{Overlay}
@@ -19,7 +18,7 @@ use Rattle.overlay.specs.Entries.{Entry, entriesOf, findEntry}
 use Rattle.overlay.proofs.Entries.{unless}
 use Rattle.overlay.proofs.Removals.{findEntry-after-remove}
 use Rattle.memory.specs.declared.span.Holder.the-variants as holder
-use Rattle.memory.specs.Parts.{Parts, spanOf, ofKind, partsKept, removeFrom}
+use Rattle.memory.specs.Parts.{Parts, spanOf, ofKind, partsKept}
 use Rattle.memory.proofs.Spans.{all-shows, remove-of}
 use Rattle.clearing.specs.Clear.{namedBy, clearedKey, clearedBy}
 use Rattle.clearing.specs.EndRead.{nextAfter}

@@ -57,7 +57,10 @@ pub fn end_read_kept(
         ≡ endedBy position (overlaysOf overlays (now (words .entry)) (now (bytes .entry))) next (clearable (recordAgain directory (now (log .entry)) position)) ⌝ }
 {
     match replay::check_record_kept(directory, log, position) {
-        WholeAnswer::NotWhole(x) => nothing_read(x.answer, position, overlays, next),
+        WholeAnswer::NotWhole(x) => {
+            let a = x.answer;
+            nothing_read(a, position, overlays, next)
+        }
         WholeAnswer::Whole(w) => {
             let opened = w.opened;
             let id = opened.record_id;
@@ -65,14 +68,7 @@ pub fn end_read_kept(
                 return nothing_read(Answer::UsedUp, position, overlays, next);
             }
             let before = overlays.counts;
-            let counts = clear_rest(
-                directory,
-                log,
-                opened.unvalidated(),
-                before,
-                words,
-                bytes,
-            );
+            let counts = clear_rest(directory, log, opened.unvalidated(), before, words, bytes);
             let last_record_ids = overlays.last_record_ids;
             let overlays = LogOverlays {
                 counts,
