@@ -22,14 +22,14 @@ use Rattle.memory.specs.declared.span.Holder.the-variants as holder
 use Rattle.memory.specs.Parts.{Parts, partsOf, partsKept}
 use Rattle.memory.specs.Overlays.{Overlays, overlaysOf}
 use Rattle.clearing.specs.Clear.{clearedBy}
-use Rattle.clearing.specs.EndRead.{Again, recordAgain, clearable, toClear, nextAfter, Ending, endedBy, endRead, endReadOf}
+use Rattle.clearing.specs.EndRead.{Again, recordAgain, clearable, toClear, nextAfter, Ending, endReadBy, endRead, endReadOf}
 use Rattle.clearing.specs.Inner.{clearedWalk, nothingRead}
 use Rattle.clearing.specs.declared.ending.EndRead.{EndRead}
 
 -- nothing was cleared
 pub refused-ends : (at next : ℕ) (o : LogOverlays) (words bytes : List ℕ) (r : EndRead) (x : Refusal) → r ≡ nothingRead (x .answer) at o next → (g : Walked Again) → g ≡ fault x
-    → endReadOf r words bytes ≡ endedBy at (overlaysOf o words bytes) next g
-refused-ends at next o words bytes r x e g f = ap (λ (y : EndRead). endReadOf y words bytes) e ∙ sym (ap (endedBy at (overlaysOf o words bytes) next) f)
+    → endReadOf r words bytes ≡ endReadBy at (overlaysOf o words bytes) next g
+refused-ends at next o words bytes r x e g f = ap (λ (y : EndRead). endReadOf y words bytes) e ∙ sym (ap (endReadBy at (overlaysOf o words bytes) next) f)
 
 -- a record was cleared: its actions by the walk of a reader that doesn't validate
 module _ (d : Directory) (log : List ℕ) (u : LogReader) (r : LogReader) (e : u ≡ plain r) (actions : List Written) (end : ℕ) (plainly : restIn d log (plain r) ≡ walked actions end) where
@@ -50,9 +50,9 @@ module _ (d : Directory) (log : List ℕ) (u : LogReader) (r : LogReader) (e : u
       → partsOf holder.Shared c words′ bytes′ ≡ clearedWalk (u .record_id) (restIn d log u) (partsOf holder.Shared (o .counts) words bytes)
       → (g : Walked Again) → g ≡ walked (record { id = r .record_id; actions = actions }) end
       → endReadOf (record { answer = Done; position = end; «record_id» = r .record_id; «next_record_id» = n; overlays = record { counts = c; «last_record_ids» = o .«last_record_ids» } }) words′ bytes′
-      ≡ endedBy at (overlaysOf o words bytes) next g
+      ≡ endReadBy at (overlaysOf o words bytes) next g
   cleared-ends at next o words bytes words′ bytes′ c n q p g f =
-      made (r .record_id) (o .«last_record_ids») (p ∙ plain-clears (partsOf holder.Shared (o .counts) words bytes)) q ∙ sym (ap (endedBy at (overlaysOf o words bytes) next) f)
+      made (r .record_id) (o .«last_record_ids») (p ∙ plain-clears (partsOf holder.Shared (o .counts) words bytes)) q ∙ sym (ap (endReadBy at (overlaysOf o words bytes) next) f)
 
 -- 13, or what was tested
 module _ (d : Directory) (log : List ℕ) (at : ℕ) (s : Overlays) (next : ℕ) where
@@ -76,5 +76,5 @@ module _ (d : Directory) (log : List ℕ) (at : ℕ) (s : Overlays) (next : ℕ)
       pub no-next : next ≡ 0 → toClear d log at s next ≡ fault (refusal BadState)
       no-next e = rules true (eq-eqb next 0 e)
 
-      pub tested-ends : (next ≡ 0 → ⊥) → (x : Ending) → x ≡ endedBy at s next (clearable (recordAgain d log at)) → x ≡ endRead d log at s next
-      tested-ends n x e = e ∙ sym (ap (endedBy at s next) (rules false (ne-eqb next 0 n)))
+      pub tested-ends : (next ≡ 0 → ⊥) → (x : Ending) → x ≡ endReadBy at s next (clearable (recordAgain d log at)) → x ≡ endRead d log at s next
+      tested-ends n x e = e ∙ sym (ap (endReadBy at s next) (rules false (ne-eqb next 0 n)))

@@ -8,7 +8,7 @@ use Rattle.answer.specs.declared.answer.Answer.the-variants.{BadState}
 use Rattle.memory.specs.declared.span.Holder.the-variants.{Shared}
 use Rattle.memory.specs.Parts.{partsKept}
 use Rattle.memory.specs.Overlays.{Overlays, overlaysOf}
-use Rattle.clearing.specs.EndRead.{recordAgain, clearable, Ending, endedBy, endReadOf}
+use Rattle.clearing.specs.EndRead.{recordAgain, clearable, Ending, endReadBy, endReadOf}
 use Rattle.clearing.proofs.Ended.{refused-ends, no-directory, no-overlays, no-next, tested-ends}
 use borrow.Author.Needs.{needs}
 use Rattle.clearing.proofs.ending.end_read.Statement.{statement}
@@ -82,7 +82,7 @@ returns-4 c =
     let a = c .before .before .before .before .before .before .before .before .before .before .before .before .before .before .before .before .before .before .args in
     let k = c .before .before .before .before .end-read-kept in
     let x : Ending = endReadOf (k .result) (k .last .1 .1 .1 .1 .0) (k .last .1 .1 .1 .1 .1 .0) in
-    let e : x ≡ endedBy (a .position) (shared (c .before .before .before .before .before .before .before .before .before .before .before .before .before .before .before .before .before .before)) (a .next) (clearable (recordAgain (a .directory) (now (a .log)) (a .position))) = k .ensures in
+    let e : x ≡ endReadBy (a .position) (shared (c .before .before .before .before .before .before .before .before .before .before .before .before .before .before .before .before .before .before)) (a .next) (clearable (recordAgain (a .directory) (now (a .log)) (a .position))) = k .ensures in
     tested-ends (a .directory) (now (a .log)) (a .position) (shared (c .before .before .before .before .before .before .before .before .before .before .before .before .before .before .before .before .before .before)) (a .next) (sym (c .before .before .before .before .before .before .before .before .before .before .before .before .before .before .kept .ensures) ∙ not-false _ (c .before .before .before .before .before .before .before .before .before .before .before .before .before .if1 .left)) (overlays-kept (c .before .before .before .before .before .before .before .before)) (c .before .before .before .before .before .before .before .if3 .left) x e
 
 pub end-read-spec : {M : Type 1} → statement M
