@@ -3,7 +3,7 @@ use mathlib.Core.Path.{_≡_, refl, ap, _∙_}
 use mathlib.Core.Logic.{_≢_}
 use mathlib.Core.Bool.{Bool, true, false, _&&_, and-eq-true-iff}
 use mathlib.Core.List.{List, [], _∷_}
-use mathlib.Core.Option.{Option, none, some}
+use mathlib.Core.Option.{Option, none, some, orElse}
 use Prim.Native.Nat.{ℕ, zero, suc, _+_, _-_, _*_, _/_, _%_, _<_, _≤_}
 use native.Mathlib.Nat.{div-add-mod', mod-lt, div-lt-iff-lt-mul}
 use native.Mathlib.Omega.{arith}
@@ -19,7 +19,7 @@ use Rattle.directory.specs.declared.directory.Directory.{Directory}
 use Rattle.record.specs.declared.action.LogAction.{LogAction}
 use Rattle.record.specs.declared.action.LogAction.the-variants.{BeginRecord, InsertIndex, InsertValue, InsertRefCount, EndRecord, DropTable, DropRefCountTable}
 use Rattle.effect.specs.Effect.{Written, maskIn, entriesIn, Place, placeOf, Stroke, stroke, slotStrokes, underIndex, zeroed, strokes}
-use Rattle.effect.specs.Meaning.{orElse, bit, liesIn, byMask, byValue, ofIndex, ofDrop, saysOf, lastSaid, Entries, SizedBy, Sized}
+use Rattle.effect.specs.Meaning.{bit, liesIn, byMask, byValue, ofIndex, ofDrop, saysOf, lastSaid, Entries, SizedBy, Sized}
 use Rattle.effect.specs.Order.{Each}
 use Rattle.effect.proofs.Bytes.{orElse-none, byteAt, lastAt, recordAt}
 use Rattle.effect.proofs.Masks.{entries-room}
@@ -42,7 +42,7 @@ byteAt-hit (b ∷ bs) at (suc j) h =
 -- byte j of slot s
 slot-byte : (n w at m : ℕ) (bs : List ℕ) (s j : ℕ) → s < n → j < w → onesIn n m * w ≤ length bs
     → lastAt (slotStrokes n w at m bs) (at + s * w + j) ≡ (if bit m s then some (getD bs (onesIn s m * w + j) 0) else none)
-unfolding slotStrokes lastAt bit onesIn
+unfolding slotStrokes lastAt bit onesIn orElse
 slot-byte zero w at m bs s j h k l = absurd (omega arith)
 slot-byte (suc n) w at m bs zero j h k l = go (eqb (m % 2) 1) refl
   where
@@ -165,7 +165,7 @@ under-said (some P) i f g p h = go (ltb i (P .table .count)) refl
     go false q = rw q
 
 zeroed-said : (o : Option Place) (p : ℕ) → lastAt (zeroed o) p ≡ ofDrop o p
-unfolding zeroed ofDrop lastAt
+unfolding zeroed ofDrop lastAt orElse
 zeroed-said none p = refl
 zeroed-said (some P) p = zeros-within (sizeOf (P .table)) (P .at) p
 
@@ -178,7 +178,7 @@ chunk-said o i w payload p w₀ h =
     slots-masked w at (maskIn payload) (entriesIn payload) p w₀ (simp length-drop (omega arith)))
 
 exactly : (d : Directory) (a : LogAction) (payload : List ℕ) (p : ℕ) → SizedBy d a payload → lastAt (strokes d a payload) p ≡ saysOf d a payload p
-unfolding strokes saysOf SizedBy lastAt
+unfolding strokes saysOf SizedBy lastAt orElse
 exactly d (InsertIndex a) payload p h = chunk-said (placeOf d Index (a .table .0)) (a .index) 8 payload p (omega arith) h
 exactly d (InsertValue a) payload p h =
     under-said (placeOf d Value (a .table .0)) (a .index) (λ at u. stroke at (take u payload) ∷ []) (λ at u. byValue at u payload p) p

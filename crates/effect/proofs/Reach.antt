@@ -4,7 +4,7 @@ use mathlib.Core.Path.{_≡_, refl, sym, ap, _∙_}
 use mathlib.Core.Logic.{_⊎_, inl, inr, ⊎-elim}
 use mathlib.Core.Bool.{Bool, true, false}
 use mathlib.Core.List.{List, [], _∷_}
-use mathlib.Core.Option.{Option, none, some}
+use mathlib.Core.Option.{Option, none, some, orElse}
 use Prim.Native.Nat.{ℕ, zero, suc, _+_, _-_, _*_, _/_, _%_, _<_, _≤_}
 use native.Mathlib.Nat.{mul-le-mul-right, div-eq-of-lt-le}
 use native.Mathlib.Omega.{arith}
@@ -20,7 +20,6 @@ use Rattle.directory.specs.declared.directory.Directory.{Directory}
 use Rattle.record.specs.declared.action.LogAction.{LogAction}
 use Rattle.record.specs.declared.action.LogAction.the-variants.{BeginRecord, InsertIndex, InsertValue, InsertRefCount, EndRecord, DropTable, DropRefCountTable}
 use Rattle.effect.specs.Effect.{maskIn, entriesIn, Place, placeOf, Stroke, stroke, slotStrokes, underIndex, zeroed, strokes}
-use Rattle.effect.specs.Meaning.{orElse}
 use Rattle.effect.specs.Order.{NamedTable, Target, target, ifMasked, writtenBy, droppedBy}
 use Rattle.effect.proofs.Bytes.{byteAt, lastAt}
 use Rattle.effect.proofs.Places.{home, stands}
@@ -50,6 +49,7 @@ no-mask payload s e = go (eqb (maskIn payload) 0) e
     go false q = absurd (no-target (sym q))
 
 orElse-some : (a b : Option ℕ) (x : ℕ) → orElse a b ≡ some x → (a ≡ some x) ⊎ (b ≡ some x)
+unfolding orElse
 orElse-some none b x e = inr e
 orElse-some (some a) b x e = inl e
 
@@ -87,7 +87,7 @@ zeros-byte (suc n) at p b e = go (zeros-byte n (suc at) p b) (eqb p at) refl
     go ih false q = ih (rw q at e)
 
 zeroed-all : (o : Option Place) (p b : ℕ) → lastAt (zeroed o) p ≡ some b → b ≡ 0
-unfolding zeroed lastAt
+unfolding zeroed lastAt orElse
 zeroed-all none p b e = absurd (never e)
 zeroed-all (some P) p b e = zeros-byte (sizeOf (P .table)) (P .at) p b e
 
@@ -137,7 +137,7 @@ module _ (d : Directory) where
       go (some P) q = low P q (ltb i (P .table .count)) refl
 
   zeroed-in : (kind : TableKind) (number p b : ℕ) → lastAt (zeroed (placeOf d kind number)) p ≡ some b → In kind number p
-  unfolding zeroed lastAt
+  unfolding zeroed lastAt orElse
   zeroed-in kind number p b e = go (placeOf d kind number) refl
     where
       go : (o : Option Place) → placeOf d kind number ≡ o → In kind number p
@@ -149,7 +149,7 @@ module _ (d : Directory) where
   -- a write reaches only what lies under its index
   pub write-in : (a : LogAction) (payload : List ℕ) (p b : ℕ) (t : Target) → writtenBy a payload ≡ some t → lastAt (strokes d a payload) p ≡ some b
       → Under (t .table .kind) (t .table .number) (t .index) p
-  unfolding strokes lastAt
+  unfolding strokes lastAt orElse
   write-in (InsertIndex a) payload p b t w e =
       rw (← masked-to payload (target Index (a .table .0) (a .index)) t w)
       (under-in Index (a .table .0) (a .index) (λ at u. slotStrokes 64 8 at (maskIn payload) (entriesIn payload)) p b

@@ -3,7 +3,7 @@
 use mathlib.Core.Path.{_≡_, refl, sym, ap, ap₂, _∙_}
 use mathlib.Core.Bool.{Bool, true, false, _||_}
 use mathlib.Core.List.{List, [], _∷_, List·Permᴰ, List·Permᴰ·nil, List·Permᴰ·cons, List·Permᴰ·swap, List·Permᴰ·trans}
-use mathlib.Core.Option.{Option, none, some}
+use mathlib.Core.Option.{Option, none, some, orElse}
 use Prim.Native.Nat.{ℕ, _+_, _≤_}
 use native.Mathlib.Omega.{arith}
 use Rattle.words.specs.Choice.{if_then_else_}
@@ -12,7 +12,6 @@ use Rattle.directory.specs.declared.directory.Directory.{Directory}
 use Rattle.record.specs.declared.action.LogAction.{LogAction}
 use Rattle.record.specs.declared.action.LogAction.the-variants.{BeginRecord, InsertIndex, InsertValue, InsertRefCount, EndRecord, DropTable, DropRefCountTable}
 use Rattle.effect.specs.Effect.{Written, strokes}
-use Rattle.effect.specs.Meaning.{orElse}
 use Rattle.effect.specs.Order.{NamedTable, Target, writtenBy, droppedBy, writesTo, dropsTable, Each, Pairs, Other, Spared}
 use Rattle.effect.proofs.Bytes.{lastAt, recordAt}
 use Rattle.effect.proofs.Reach.{In, Under, one-table, write-in, drop-in, idle}
@@ -33,6 +32,7 @@ or-swap false false true = refl
 or-swap false false false = refl
 
 orElse-swap : (o a b : Option ℕ) → hit a + hit b ≤ 1 → orElse (orElse o b) a ≡ orElse (orElse o a) b
+unfolding orElse
 orElse-swap (some c) a b h = refl
 orElse-swap none none none h = refl
 orElse-swap none none (some b) h = refl
@@ -55,11 +55,13 @@ given none o = none
 given (some a) o = o
 
 if-write : (d : Bool) (w x : Option ℕ) → orElse (if d then some 0 else w) x ≡ (if d || false then some 0 else orElse w x)
+unfolding orElse
 if-write true w x = refl
 if-write false w x = refl
 
 if-drop : (d : Bool) (w x : Option ℕ) → ((b : ℕ) → x ≡ some b → (w ≡ none) × (b ≡ 0))
     → orElse (if d then some 0 else w) x ≡ (if d || isSome x then some 0 else orElse w none)
+unfolding orElse
 if-drop true w x h = refl
 if-drop false w none h = refl
 if-drop false w (some b) h = let r = h b refl in rw (r .0, r .1)
@@ -160,6 +162,7 @@ module _ (d : Directory) (p : ℕ) where
   -- ---- no table is written after its own drop: where a drop reaches p, p is 0
 
   spared : (v : Written) (n : NamedTable) (x : ℕ) (s : List Written) → dropsTable v ≡ some n → reached v ≡ some x → Each (Spared v) s → wrote s ≡ none
+  unfolding orElse
   spared v n x [] q e h = refl
   spared v n x (w ∷ s) q e h = go (ofWrite w) refl (spared v n x s q e (h .1))
     where

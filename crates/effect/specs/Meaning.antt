@@ -3,7 +3,7 @@
 use mathlib.Core.Path.{_≡_}
 use mathlib.Core.Bool.{Bool, _&&_}
 use mathlib.Core.List.{List, [], _∷_}
-use mathlib.Core.Option.{Option, none, some}
+use mathlib.Core.Option.{Option, none, some, orElse}
 use Prim.Native.Nat.{ℕ, zero, suc, _+_, _-_, _*_, _/_, _%_}
 use lib.Count.{onesIn, ones}
 use lib.Dec.{eqb, leb, ltb}
@@ -16,11 +16,6 @@ use Rattle.record.specs.Record.{valueLength}
 use Rattle.record.specs.declared.action.LogAction.{LogAction}
 use Rattle.record.specs.declared.action.LogAction.the-variants.{BeginRecord, InsertIndex, InsertValue, InsertRefCount, EndRecord, DropTable, DropRefCountTable}
 use Rattle.effect.specs.Effect.{Written, maskIn, entriesIn, Place, placeOf}
-
--- the first of two answers that is one
-abbrev pub orElse : Option ℕ → Option ℕ → Option ℕ
-orElse (some a) o = some a
-orElse none o = o
 
 -- bit s of a mask
 unfoldable pub bit : ℕ → ℕ → Bool
@@ -65,7 +60,7 @@ saysOf d EndRecord payload p = none
 abbrev pub says : Directory → Written → ℕ → Option ℕ
 says d w p = saysOf d (w .action) (w .payload) p
 
--- what a record says of p: the last of its actions that says anything of it
+-- what a record says of p: the last of its actions that says anything of it (`orElse`: the first of two that is one)
 unfoldable pub lastSaid : Directory → List Written → ℕ → Option ℕ
 lastSaid d [] p = none
 lastSaid d (w ∷ ws) p = orElse (lastSaid d ws p) (says d w p)

@@ -1,22 +1,13 @@
 -- Cases (f), (g), (h) and (i) of document 01, under every directory that keeps its rules, validating or not. Assumes nothing.
-use mathlib.Core.Path.{_≡_, refl, ap, _∙_}
+use mathlib.Core.Path.{_≡_}
 use mathlib.Core.Bool.{Bool, true}
 use mathlib.Core.List.{List, [], _∷_}
 use Prim.Native.Nat.{ℕ}
 use Rattle.directory.specs.Directory.{directoryKept}
 use Rattle.directory.specs.declared.directory.Directory.{Directory}
-use Rattle.words.specs.Choice.{if_then_else_}
-use Rattle.answer.specs.Answer.{numberOf}
 use Rattle.record.specs.Format.{readAt}
-use Rattle.record.specs.Next.{readerAt, stepOf, nextOf}
+use Rattle.record.specs.Next.{answerOf, readerAt, stepOf, nextOf}
 use Rattle.record.specs.Record.{opening, openingBy, begunId, early}
-use Rattle.record.specs.declared.reader.Step.{Step}
-use Rattle.record.specs.declared.reader.Step.the-variants.{Took, Refused}
-
--- the number that a step answers
-abbrev pub answerOf : Step → ℕ
-answerOf (Took s) = 0
-answerOf (Refused r) = numberOf (r .answer)
 
 module _ (d : Directory) (kept : directoryKept d ≡ true) (validate : Bool) where
   abbrev answered : List ℕ → ℕ

@@ -10,19 +10,17 @@ use lib.Dec.{eqb, ltb}
 use lib.ListN.{length, take, drop, getD}
 use lib.Seq.{getD-take, getD-drop}
 use borrow.Author.Tests.{ne-eqb}
-use Rattle.words.specs.Choice.{if_then_else_}
-use Rattle.words.specs.Words.{little, littleAt}
+use Rattle.words.specs.Words.{littleAt}
 use Rattle.words.proofs.Cut.{little-take, little-drop}
 use Rattle.checksum.specs.Checksum.{checksumOf}
 use Rattle.directory.specs.Directory.{findTable}
 use Rattle.directory.specs.declared.table.TableKind.{TableKind}
-use Rattle.directory.specs.declared.table.TableKind.the-variants.{Index, Value, RefCount}
-use Rattle.directory.specs.declared.table.TableDescription.{TableDescription}
+use Rattle.directory.specs.declared.table.TableKind.the-variants.{Value}
 use Rattle.directory.specs.declared.directory.Directory.{Directory}
 use Rattle.directory.specs.declared.directory.Found.{Found}
 use Rattle.directory.specs.declared.directory.Found.the-variants.{At, Nothing}
-use Rattle.record.specs.Format.{Format, need, refuse, give, Got, stopped, got, readAt, _>>=_, _>>_, test}
-use Rattle.record.specs.Record.{Item, insertOf, dropIndex, dropRefCount, known, key, chunk, maskedItem, valueLength, value, valuedItem, table, droppedItem, sumHolds, endedItem, insideBy, inside, early, begunId, earlyEnd, openingBy, opening}
+use Rattle.record.specs.Format.{refuse, give, Got, stopped, got, readAt, _>>_, test}
+use Rattle.record.specs.Record.{Item, insertOf, key, chunk, valueLength, value, table, droppedItem, sumHolds, endedItem, insideBy, inside, early, begunId, earlyEnd, openingBy, opening}
 use Rattle.answer.specs.declared.answer.Answer.{Answer}
 use Rattle.answer.specs.declared.answer.Answer.the-variants.{EndOfLog, Cut, UnknownTag, OutOfPlace, NoTable, NoIndex, WrongSum}
 use Rattle.record.specs.declared.action.LogAction.{LogAction}

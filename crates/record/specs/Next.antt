@@ -11,19 +11,23 @@ use Rattle.directory.specs.Directory.{directoryKept}
 use Rattle.directory.specs.declared.directory.Directory.{Directory}
 use Rattle.record.specs.Format.{Got, stopped, got, readAt}
 use Rattle.record.specs.Record.{Item, inside, opening}
-use Rattle.answer.specs.Answer.{refusal}
+use Rattle.answer.specs.Answer.{numberOf, refusal}
 use Rattle.answer.specs.declared.answer.Answer.{Answer}
-use Rattle.answer.specs.declared.answer.Answer.the-variants.{BadState, BadArgument}
+use Rattle.answer.specs.declared.answer.Answer.the-variants.{Done, BadState, BadArgument}
 use Rattle.record.specs.declared.action.LogAction.{LogAction}
 use Rattle.record.specs.declared.action.LogAction.the-variants.{BeginRecord, InsertIndex, InsertValue, InsertRefCount, EndRecord, DropTable, DropRefCountTable}
 use Rattle.record.specs.declared.reader.LogReader.{LogReader}
-use Rattle.record.specs.declared.reader.Stepped.{Stepped}
 use Rattle.record.specs.declared.reader.Step.{Step}
 use Rattle.record.specs.declared.reader.Step.the-variants.{Took, Refused}
 
 -- a step that refuses
 abbrev pub refused : Answer → Step
 refused answer = Refused (refusal answer)
+
+-- the number that a step answers: 0, or that of the refusal
+abbrev pub answerOf : Step → ℕ
+answerOf (Took s) = numberOf Done
+answerOf (Refused x) = numberOf (x .answer)
 
 -- whether an action ends its record
 abbrev pub isEnd : LogAction → Bool

@@ -1,7 +1,7 @@
 -- A record's bytes and how they are read (document 01, "Record bytes", "Numbered answers", "The opening of a record").
 -- The order of the lines is the order of the checks, and each line that may refuse has its number. Beside it: `LogReader::next`, log.rs 251-330.
 use mathlib.Core.Bool.{Bool, not, _||_}
-use mathlib.Core.List.{List, [], _∷_}
+use mathlib.Core.List.{[], _∷_}
 use Prim.Native.Nat.{ℕ, _+_, _*_}
 use lib.Count.{ones}
 use lib.Dec.{eqb, ltb}
@@ -16,8 +16,7 @@ use Rattle.directory.specs.declared.table.TableDescription.{TableDescription}
 use Rattle.directory.specs.declared.directory.Directory.{Directory}
 use Rattle.directory.specs.declared.directory.Found.{Found}
 use Rattle.directory.specs.declared.directory.Found.the-variants.{At, Nothing}
-use Rattle.record.specs.Format.{Format, need, refuse, give, _>>=_, _>>_, bytes, byte, test}
-use Rattle.answer.specs.declared.answer.Answer.{Answer}
+use Rattle.record.specs.Format.{Format, refuse, give, _>>=_, _>>_, bytes, byte, test}
 use Rattle.answer.specs.declared.answer.Answer.the-variants.{EndOfLog, Cut, UnknownTag, OutOfPlace, NoTable, NoIndex, WrongSum}
 use Rattle.record.specs.declared.action.LogAction.{LogAction}
 use Rattle.record.specs.declared.action.LogAction.the-variants.{BeginRecord, InsertIndex, InsertValue, InsertRefCount, EndRecord, DropTable, DropRefCountTable}

@@ -3,7 +3,6 @@ ghost use mathlib.Core.Path.{_≡_};
 ghost use mathlib.Core.Bool.{true, false};
 ghost use Prim.Native.Nat.{_+_, _≤_};
 ghost use lib.ListN.{length};
-ghost use Rattle.checksum.specs.Checksum.{allOnes};
 ghost use Rattle.directory.specs.Directory.{directoryKept};
 ghost use Rattle.record.specs.Format.{readAt};
 ghost use Rattle.record.specs.Next.{refused, readerAt, plain, forwardTo, readerAfter, stepped, opened, openingOf, stepOf, nextOf};

@@ -1,19 +1,13 @@
 -- A record checked whatever its id: it is the record that replay would take if that id were the expected one. Assumes nothing.
-use mathlib.Core.Path.{_≡_, refl, sym, ap, _∙_}
-use mathlib.Core.Bool.{true, false, true≢false}
+use mathlib.Core.Path.{_≡_, sym, ap, _∙_}
 use mathlib.Core.List.{List}
-use Prim.Native.Nat.{ℕ, suc, _+_}
+use Prim.Native.Nat.{ℕ}
 use native.Mathlib.Omega.{arith}
-use lib.Dec.{eqb}
-use lib.ListN.{length}
-use borrow.Author.Tests.{eq-eqb}
-use Rattle.directory.specs.declared.directory.Directory.{Directory}
-use Rattle.record.specs.Next.{readerAt, stepOf}
 use Rattle.answer.specs.declared.answer.Refusal.{Refusal}
 use Rattle.record.specs.declared.reader.LogReader.{LogReader}
 use Rattle.record.specs.declared.reader.Stepped.{Stepped}
 use Rattle.record.specs.declared.reader.Step.{Step}
-use Rattle.record.specs.declared.reader.Step.the-variants.{Took, Refused}
+use Rattle.record.specs.declared.reader.Step.the-variants.{Took}
 use Rattle.effect.specs.Effect.{Written}
 use Rattle.replay.specs.Replay.{Walked, fault, walked, endIn, wholeBy, wholeOf}
 use Rattle.replay.specs.declared.check.EndAnswer.the-variants.{Ended, NotEnded}

@@ -1,8 +1,8 @@
 -- The first pass: the end of the record read plainly, and then the checksum over all its bytes. Assumes nothing.
 use mathlib.Core.Path.{_≡_, refl, sym, ap, _∙_}
 use mathlib.Core.Bool.{Bool, true, false, and-eq-true-iff}
-use mathlib.Core.List.{List, [], _∷_}
-use Prim.Native.Nat.{ℕ, suc, _+_, _-_, _≤_, _<_}
+use mathlib.Core.List.{List, []}
+use Prim.Native.Nat.{ℕ, suc, _-_}
 use native.Mathlib.Omega.{arith}
 use lib.Dec.{eqb}
 use lib.ListN.{length, take, drop}
@@ -20,7 +20,6 @@ use Rattle.answer.specs.declared.answer.Refusal.{Refusal}
 use Rattle.answer.specs.Answer.{refusal}
 use Rattle.replay.specs.Inner.{isWalked, Opened}
 use Rattle.replay.specs.Replay.{Walked, fault, walked, recordAt, tablesKept, judged, replayedAs, imageAfter, endIn}
-use Rattle.replay.specs.declared.check.EndAnswer.{EndAnswer}
 use Rattle.replay.specs.declared.check.EndAnswer.the-variants.{Ended, NotEnded}
 use Rattle.replay.proofs.Places.{EndsIn, ends-in}
 use Rattle.replay.proofs.Rest.{whole}
@@ -95,6 +94,14 @@ module _ (d : Directory) (log : List ℕ) (at expected : ℕ) (image : List ℕ)
   pub judged-bad : tablesKept d image ≡ false → judged d log at expected image ≡ fault (refusal BadState)
   unfolding judged
   judged-bad e = if-false (tablesKept d image) _ _ e
+
+  -- what is accepted is a whole record
+  pub judged-walked : (ws : List Written) (end : ℕ) → judged d log at expected image ≡ walked ws end → recordAt d log at expected ≡ walked ws end
+  judged-walked ws end e = go (tablesKept d image) refl
+    where
+      go : (b : Bool) → tablesKept d image ≡ b → recordAt d log at expected ≡ walked ws end
+      go true q = sym (judged-kept q) ∙ e
+      go false q = let z : _≡_ {A = ℕ} 0 1 = cc (sym (judged-bad q) ∙ e) in absurd (omega arith)
 
 -- what 13 tests
 module _ (d : Directory) (image : List ℕ) (e : tablesKept d image ≡ true) where

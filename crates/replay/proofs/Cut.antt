@@ -2,9 +2,8 @@
 use mathlib.Core.Path.{_≡_, refl, sym, ap, _∙_}
 use mathlib.Core.Bool.{Bool, true, false}
 use mathlib.Core.List.{List, [], _∷_, _++_, append-assoc}
-use Prim.Native.Nat.{ℕ, zero, suc, _+_, _-_, _≤_, _<_}
+use Prim.Native.Nat.{ℕ, zero, suc, _+_, _-_, _≤_}
 use native.Mathlib.Omega.{arith}
-use lib.Dec.{eqb}
 use lib.ListN.{length, take, drop, length-append}
 use lib.Seq.{take-add, length-take-le}
 use Rattle.words.specs.Choice.{if_then_else_}
@@ -21,7 +20,7 @@ use Rattle.effect.specs.Effect.{Written}
 use Rattle.effect.proofs.Sized.{payload-sized}
 use Rattle.replay.specs.Replay.{Walked, fault, walked, writtenIn, addFirst, byStep, restOf, recordAt}
 use Rattle.replay.proofs.Opening.{opening, Whole, whole-record, record-whole}
-use Rattle.replay.proofs.Places.{Going, going, EndsIn, ends-in}
+use Rattle.replay.proofs.Places.{going, EndsIn, ends-in}
 use Rattle.replay.proofs.Rest.{enough}
 
 -- more steps than a walk needs change nothing of it

@@ -1,29 +1,25 @@
 -- The end tag, and no other, is read as the end of a record; validating it is testing its checksum. Assumes nothing.
 use mathlib.Core.Path.{_≡_, refl, sym, ap, _∙_}
 use mathlib.Core.Logic.{_≢_}
-use mathlib.Core.Bool.{Bool, true, false, _||_, not, true≢false}
+use mathlib.Core.Bool.{Bool, true, false, true≢false}
 use mathlib.Core.List.{List, [], _∷_}
-use Prim.Native.Nat.{ℕ, _+_, _-_, _*_, _≤_, _<_}
+use Prim.Native.Nat.{ℕ, _+_, _-_, _≤_, _<_}
 use native.Mathlib.Omega.{arith}
 use lib.Dec.{eqb, ltb}
-use lib.Count.{ones}
 use lib.ListN.{length, getD, take, drop}
-use borrow.Author.Tests.{ltb-true, ltb-false, eqb-true, eqb-false}
+use borrow.Author.Tests.{ltb-true, ltb-false, eqb-true}
 use Rattle.words.specs.Choice.{if_then_else_}
-use Rattle.words.specs.Words.{little, littleAt}
+use Rattle.words.specs.Words.{littleAt}
 use Rattle.checksum.specs.Checksum.{updated, finished}
-use Rattle.directory.specs.Directory.{findTable}
 use Rattle.directory.specs.declared.table.TableKind.{TableKind}
 use Rattle.directory.specs.declared.table.TableKind.the-variants.{Index, Value, RefCount}
 use Rattle.directory.specs.declared.directory.Directory.{Directory}
 use Rattle.record.specs.Format.{Format, need, refuse, give, Got, stopped, got, readAt, _>>=_}
 use Rattle.record.specs.Next.{isEnd}
 use Rattle.record.specs.Record.{Item, insertOf, dropIndex, dropRefCount, key, chunk, maskedItem, value, valuedItem, table, droppedItem, sumHolds, endedItem, insideBy, inside}
-use Rattle.answer.specs.declared.answer.Answer.{Answer}
-use Rattle.answer.specs.declared.answer.Answer.the-variants.{Cut, WrongSum}
+use Rattle.answer.specs.declared.answer.Answer.the-variants.{WrongSum}
 use Rattle.record.specs.declared.action.LogAction.{LogAction}
 use Rattle.record.specs.declared.action.LogAction.the-variants.{EndRecord}
-use Rattle.record.specs.declared.item.Key.{Key}
 use Rattle.record.proofs.Parts.{tested, ended-short, ended-met, inside-short, inside-met}
 
 -- ---- a format that gives no end

@@ -1,8 +1,8 @@
 -- A record's opening, and the record behind it. Assumes nothing.
 use mathlib.Core.Path.{_≡_, refl, sym, ap, _∙_}
 use mathlib.Core.Bool.{Bool, true, false, true≢false}
-use mathlib.Core.List.{List, [], _∷_}
-use Prim.Native.Nat.{ℕ, zero, suc, _+_, _-_, _≤_, _<_}
+use mathlib.Core.List.{List}
+use Prim.Native.Nat.{ℕ, suc, _-_, _≤_, _<_}
 use native.Mathlib.Omega.{arith}
 use lib.Dec.{eqb}
 use lib.ListN.{length, take, drop}
@@ -10,8 +10,7 @@ use Rattle.words.specs.Choice.{if_then_else_}
 use Rattle.words.proofs.Choices.{if-true, if-false}
 use Rattle.checksum.specs.Checksum.{allOnes, updated}
 use Rattle.directory.specs.declared.directory.Directory.{Directory}
-use Rattle.record.specs.Format.{readAt}
-use Rattle.record.specs.Next.{forwardTo, beginning, opened, readerAt, stepOf}
+use Rattle.record.specs.Next.{forwardTo, beginning, readerAt, stepOf}
 use Rattle.answer.specs.Answer.{refusal}
 use Rattle.answer.specs.declared.answer.Answer.the-variants.{WrongId}
 use Rattle.answer.specs.declared.answer.Refusal.{Refusal}

@@ -1,17 +1,15 @@
 -- Where a record's walk goes: each step inside it stays inside it up to the end tag, and the record ends within the log. Assumes nothing.
 use mathlib.Core.Path.{_≡_, refl, sym, ap, _∙_}
 use mathlib.Core.Bool.{Bool, true, false, true≢false}
-use mathlib.Core.List.{List, [], _∷_}
-use Prim.Native.Nat.{ℕ, zero, suc, _+_, _-_, _≤_, _<_}
+use mathlib.Core.List.{List}
+use Prim.Native.Nat.{ℕ, zero, suc, _+_, _-_, _≤_}
 use native.Mathlib.Omega.{arith}
 use lib.ListN.{length}
 use Rattle.words.specs.Choice.{if_then_else_}
 use Rattle.words.proofs.Choices.{if-true, if-false}
 use Rattle.directory.specs.declared.directory.Directory.{Directory}
-use Rattle.record.specs.Format.{readAt}
-use Rattle.record.specs.Next.{isEnd, forwardTo, readerAfter, stepped, stepOf}
-use Rattle.record.specs.Record.{Item, inside}
-use Rattle.record.specs.declared.action.LogAction.{LogAction}
+use Rattle.record.specs.Next.{isEnd, forwardTo, readerAfter, stepOf}
+use Rattle.record.specs.Record.{inside}
 use Rattle.record.specs.declared.reader.LogReader.{LogReader}
 use Rattle.record.specs.declared.reader.Stepped.{Stepped}
 use Rattle.record.specs.declared.reader.Step.{Step}

@@ -5,7 +5,7 @@ use mathlib.Core.List.{List, [], _∷_, _++_}
 use Prim.Native.Nat.{ℕ, zero, suc, _+_, _-_, _≤_, _<_}
 use native.Mathlib.Omega.{arith}
 use lib.Dec.{eqb, ltb}
-use lib.ListN.{length, getD, take, drop, length-drop}
+use lib.ListN.{length, getD, take, drop}
 use lib.Seq.{take-add, drop-drop, drop-cons}
 use borrow.Author.Tests.{le-ltb}
 use Rattle.words.specs.Choice.{if_then_else_}
@@ -18,7 +18,6 @@ use Rattle.record.specs.Format.{Got, stopped, got, readAt}
 use Rattle.record.specs.Next.{plain, isEnd, forwardTo, readerAfter, stepped, stepOf}
 use Rattle.record.specs.Record.{Item, inside}
 use Rattle.answer.specs.declared.answer.Answer.the-variants.{WrongSum}
-use Rattle.record.specs.declared.action.LogAction.{LogAction}
 use Rattle.record.specs.declared.reader.LogReader.{LogReader}
 use Rattle.record.specs.declared.reader.Step.{Step}
 use Rattle.record.proofs.Formats.{within}

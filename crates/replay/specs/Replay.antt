@@ -1,6 +1,6 @@
 -- A record replayed (document 01, "Replay": "A record is checked to its end before any table byte is written. Then actions apply as they
 -- stand in the bytes"). Added: in parity-db the caller of log.rs does this.
-use mathlib.Core.Bool.{Bool, true, false, _&&_}
+use mathlib.Core.Bool.{Bool, true, _&&_}
 use mathlib.Core.List.{List, [], _∷_}
 use Prim.Native.Nat.{ℕ, zero, suc}
 use lib.Dec.{eqb}

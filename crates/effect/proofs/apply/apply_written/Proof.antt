@@ -1,5 +1,4 @@
 -- `apply_written` meets its contract: each action by the function for its kind. Assumes nothing.
-use mathlib.Core.Path.{refl}
 use Rattle.effect.specs.Effect.{strokes, puts, done}
 use Rattle.effect.specs.Meaning.{SizedBy}
 use borrow.Author.Needs.{needs}

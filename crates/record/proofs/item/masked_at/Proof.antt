@@ -1,7 +1,6 @@
 -- `masked_at` meets its contract. Assumes nothing.
 use Prim.Native.Nat.{_+_}
-use mathlib.Core.Path.{_≡_, refl, sym, ap, _∙_}
-use native.Mathlib.Omega.{arith}
+use mathlib.Core.Path.{sym, ap, _∙_}
 use Rattle.record.specs.Inner.{gotKey}
 use Rattle.record.specs.Record.{key, chunk, maskedItem}
 use Rattle.record.specs.declared.item.KeyAnswer.{KeyAnswer}

@@ -1,8 +1,5 @@
 -- `value_at` meets its contract. Assumes nothing.
-use mathlib.Core.Path.{_≡_, refl, sym, ap, _∙_}
-use Prim.Native.Nat.{ℕ, _<_, _≤_, _-_}
-use lib.ListN.{length}
-use denote.Ref.{now}
+use mathlib.Core.Path.{sym}
 use Rattle.record.proofs.Parts.{value-short, value-met}
 use borrow.Author.Needs.{needs}
 use Rattle.record.proofs.item.value_at.Statement.{statement}

@@ -1,11 +1,10 @@
 -- `apply_rest` meets its contract. The invariant: what is left of the record, applied to the image as it stands, is the record applied to the
 -- image as it was. Assumes nothing.
 use borrow.Author.Needs.{needs}
-use mathlib.Core.Path.{_≡_, refl, sym, ap, _∙_}
+use mathlib.Core.Path.{_≡_, refl, sym, _∙_}
 use mathlib.Core.Bool.{true}
 use Prim.Native.Nat.{suc, _-_}
 use native.Mathlib.Omega.{arith}
-use denote.Ref.{now}
 use lib.ListN.{length}
 use Rattle.record.proofs.Steps.{step-on}
 use Rattle.effect.proofs.Sized.{payload-sized}

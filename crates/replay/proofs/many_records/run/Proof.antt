@@ -1,7 +1,7 @@
 -- `run` meets its contract: 13 first. Assumes nothing.
-use mathlib.Core.Path.{_≡_, refl, sym, ap, _∙_}
+use mathlib.Core.Path.{refl, sym, ap, _∙_}
 use denote.Ref.{now}
-use Rattle.replay.specs.Run.{Outcome, runOf}
+use Rattle.replay.specs.Run.{Outcome}
 use Rattle.replay.proofs.Records.{run-kept, run-bad}
 use borrow.Author.Needs.{needs}
 use Rattle.replay.proofs.many_records.run.Statement.{statement}

@@ -2,11 +2,12 @@
 -- and no more records are counted than bytes are behind. Assumes nothing.
 use borrow.Author.Needs.{needs}
 use mathlib.Core.Path.{_≡_, refl, sym, ap, _∙_}
-use Prim.Native.Nat.{ℕ, suc, _+_, _-_, _≤_}
+use Prim.Native.Nat.{suc, _-_, _≤_}
 use native.Mathlib.Omega.{arith}
 use denote.Ref.{now}
 use borrow.Author.Tests.{eq-eqb, ne-eqb}
 use lib.ListN.{length}
+use Rattle.answer.specs.Answer.{lastRecordId}
 use Rattle.replay.specs.Run.{Outcome, runFrom}
 use Rattle.replay.proofs.Checked.{kept-still}
 use Rattle.replay.proofs.Records.{turn-stop, turn-last, turn-more, turn-on}
@@ -18,7 +19,7 @@ use Rattle.replay.proofs.one_record.replay_kept.Reads as replay-kept-re
 
 abbrev Inv-loop : tie.InvT-loop
 Inv-loop d log at expected image₀ position₀ id₀ count₀ image position id count =
-    (length image ≡ length image₀) × (count ≤ position) × (id ≤ 18446744073709551615)
+    (length image ≡ length image₀) × (count ≤ position) × (id ≤ lastRecordId)
     × (runFrom (suc (length log)) d log position id count image ≡ runFrom (suc (length log)) d log position₀ id₀ count₀ image₀)
 
 abbrev μ-loop : tie.MeasureT-loop

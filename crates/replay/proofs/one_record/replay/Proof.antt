@@ -1,11 +1,7 @@
 -- `replay` meets its contract. Assumes nothing.
-use mathlib.Core.Path.{_≡_, refl, sym, ap, _∙_}
-use mathlib.Core.Bool.{true}
+use mathlib.Core.Path.{refl, sym, ap, _∙_}
 use denote.Ref.{now}
-use lib.ListN.{length}
 use borrow.Author.Tests.{not-true, not-false}
-use Rattle.effect.specs.Effect.{Written}
-use mathlib.Core.List.{List}
 use Rattle.replay.specs.Replay.{recordAt, replayedAs, imageAfter}
 use Rattle.replay.proofs.Checked.{ended-as, not-ended-as, judged-kept, judged-bad}
 use borrow.Author.Needs.{needs}

@@ -1,13 +1,10 @@
 -- `replay_kept` meets its contract. Assumes nothing.
-use mathlib.Core.Path.{_≡_, refl, sym, ap, _∙_}
+use mathlib.Core.Path.{_≡_, sym, ap, _∙_}
 use mathlib.Core.Bool.{true}
-use Prim.Native.Nat.{suc}
 use denote.Ref.{now}
-use lib.ListN.{length}
 use borrow.Author.Tests.{eq-eqb, ne-eqb}
 use Rattle.record.specs.Next.{readerAt, stepOf}
 use Rattle.record.specs.declared.reader.LogReader.{LogReader}
-use Rattle.record.specs.declared.reader.Step.{Step}
 use Rattle.replay.specs.declared.check.EndAnswer.the-variants.{NotEnded}
 use Rattle.replay.specs.Replay.{imageAfter, endIn}
 use Rattle.replay.proofs.Checked.{kept-directory}

@@ -5,7 +5,7 @@ use lib.ListN.{length}
 use Rattle.record.specs.declared.reader.LogReader.{LogReader}
 use Rattle.replay.specs.Inner.{isWalked}
 use Rattle.replay.specs.Replay.{restOf, restIn, imageAfter}
-use mathlib.Core.Path.{_≡_, refl, sym, ap, _∙_}
+use mathlib.Core.Path.{sym, ap, _∙_}
 use Rattle.replay.proofs.Checked.{second-walks, second-leaves, untouched, kept-directory}
 use borrow.Author.Needs.{needs}
 use Rattle.replay.proofs.one_record.replay_opened.Statement.{statement}
