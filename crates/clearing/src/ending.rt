@@ -5,7 +5,7 @@ ghost use Rattle.directory.specs.Directory.{directoryKept};
 ghost use Rattle.memory.specs.declared.span.Holder.the-variants.{Shared};
 ghost use Rattle.memory.specs.Parts.{partsOf, partsKept};
 ghost use Rattle.memory.specs.Overlays.{overlaysOf};
-ghost use Rattle.clearing.specs.EndRead.{recordAgain, clearable, nextAfter, endedBy, endRead, endReadOf};
+ghost use Rattle.clearing.specs.EndRead.{recordAgain, clearable, nextAfter, endReadBy, endRead, endReadOf};
 ghost use Rattle.clearing.specs.Inner.{nothingRead};
 use super::clear::clear_rest;
 use answer::Answer;
@@ -54,10 +54,13 @@ pub fn end_read_kept(
 ) -> EndRead
     requires { ⌜ (directoryKept directory ≡ true) × (partsKept Shared (partsOf Shared (overlays .counts) (now words) (now bytes)) ≡ true) × (next ≡ 0 → ⊥) ⌝ }
     ensures { λ r. ⌜ endReadOf r (now (words .exit)) (now (bytes .exit))
-        ≡ endedBy position (overlaysOf overlays (now (words .entry)) (now (bytes .entry))) next (clearable (recordAgain directory (now (log .entry)) position)) ⌝ }
+        ≡ endReadBy position (overlaysOf overlays (now (words .entry)) (now (bytes .entry))) next (clearable (recordAgain directory (now (log .entry)) position)) ⌝ }
 {
     match replay::check_record_kept(directory, log, position) {
-        WholeAnswer::NotWhole(x) => nothing_read(x.answer, position, overlays, next),
+        WholeAnswer::NotWhole(x) => {
+            let a = x.answer;
+            nothing_read(a, position, overlays, next)
+        }
         WholeAnswer::Whole(w) => {
             let opened = w.opened;
             let id = opened.record_id;
@@ -65,14 +68,7 @@ pub fn end_read_kept(
                 return nothing_read(Answer::UsedUp, position, overlays, next);
             }
             let before = overlays.counts;
-            let counts = clear_rest(
-                directory,
-                log,
-                opened.unvalidated(),
-                before,
-                words,
-                bytes,
-            );
+            let counts = clear_rest(directory, log, opened.unvalidated(), before, words, bytes);
             let last_record_ids = overlays.last_record_ids;
             let overlays = LogOverlays {
                 counts,
