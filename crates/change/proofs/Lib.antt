@@ -5,3 +5,7 @@ pub mod OneKind
 pub mod Fitting
 pub mod Accepted
 pub mod Sizes
+pub mod Meaning
+mod EachPut
+pub mod Kept
+pub mod Listed
