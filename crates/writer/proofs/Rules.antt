@@ -8,7 +8,7 @@ use lib.ListN.{length, take, drop, getD, length-drop}
 use Rattle.directory.specs.declared.table.TableKind.{TableKind}
 use Rattle.keys.specs.Keys.{markAt}
 use Rattle.keys.proofs.Places.{in-use}
-use Rattle.overlay.specs.Rules.{Overlay, slotSize, storedLength, markRuled, rowRuled, overlayKept}
+use Rattle.overlay.specs.Rules.{Overlay, slotSize, storedLength, rowRuled, overlayKept}
 use Rattle.overlay.proofs.Parts.{rest-part}
 use Rattle.overlay.proofs.Ruled.{shows, unit-fits}
 use Rattle.overlay.proofs.Slots.{slot-in}
@@ -38,9 +38,6 @@ module _ (kind : TableKind) (room : ℕ) (o : Overlay) (small : room ≤ 256) (o
 
   row-ruled : (i : ℕ) → i < o .count → rowRuled kind (o .rows) (getD (o .order) i 0) ≡ true
   row-ruled i h = used-at (rowRuled kind (o .rows)) (o .order) (o .count) i within h (shows kind room o ok .each)
-
-  pub key-marked : (i : ℕ) → i < o .count → markRuled kind (markAt (o .rows) (getD (o .order) i 0)) ≡ true
-  key-marked i h = row-mark kind (o .rows) (getD (o .order) i 0) (row-ruled i h)
 
   pub key-writable : (i : ℕ) → i < o .count → Writable kind (o .rows) (o .bytes) (getD (o .order) i 0)
   key-writable i h =
