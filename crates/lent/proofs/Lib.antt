@@ -1,0 +1,3 @@
+-- Laws of the gathered directory.
+pub mod Gathered
+pub mod More
