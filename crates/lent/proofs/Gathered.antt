@@ -48,6 +48,7 @@ gathered-more ts t = go (ltb (length ts) 16) refl
   where
     grown : length (ts ++ t ∷ []) ≡ length ts + 1
     grown = length-append ts (t ∷ [])
+
     go : (b : Bool) → ltb (length ts) 16 ≡ b → pushed (gathered ts) t ≡ gathered (ts ++ t ∷ [])
     go true e =
         let h : length ts < 16 = ltb-true _ _ e in

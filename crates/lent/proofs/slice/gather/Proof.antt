@@ -252,18 +252,20 @@ module _ {M : Type 1} (𝓤 : URA M) (H : Heap 𝓤) (A : Atoms 𝓤) (W : Given
         subst (λ (j : ℕ). ent 𝓤 (⋆ 𝓤 H A (At j v)) (Wp 𝓤 H C Λ En mir′.turn-1 (afterTurn 𝓤 H (Below zero) Left))) (sym at-end)
         (ends d v (Below zero) (f .2) (f .1 ∙ ap (λ (j : ℕ). gathered (take j ys)) at-end ∙ gathered-all ys))
       where
-      at-end : i ≡ n
-      at-end = sym (add-zero i) ∙ f .0
+        at-end : i ≡ n
+        at-end = sym (add-zero i) ∙ f .0
     turn-at (suc t) i d v f =
         more i d v (Below (suc t)) small (f .2) (λ r u is e. via 𝓤 (Inv t) (has t (i + 1) r u (one-on, e ∙ ap (λ (z : Directory). pushed z (elem i)) (f .1) ∙ gathered-next ys i noTable small, is))
         (via 𝓤 (guard 𝓤 (t < suc t) (Inv t)) (guardI 𝓤 (t < suc t) (Inv t) (lt-suc-self t)) (exI 𝓤 (λ (u′ : ℕ). guard 𝓤 (u′ < suc t) (Inv u′)) t)))
       where
-      total : i + suc t ≡ n
-      total = f .0
-      small : i < n
-      small = omega arith
-      one-on : (i + 1) + t ≡ n
-      one-on = omega arith
+        total : i + suc t ≡ n
+        total = f .0
+
+        small : i < n
+        small = omega arith
+
+        one-on : (i + 1) + t ≡ n
+        one-on = omega arith
 
     turns : (t : ℕ) → ent 𝓤 (Inv t) (Wp 𝓤 H C Λ En mir′.turn-1 (afterTurn 𝓤 H (Below t) Left))
     turns t = exE 𝓤 (λ (i : ℕ). ex 𝓤 (λ (d : Directory). ex 𝓤 (λ (v : Val). guard 𝓤 (Facts t i d v) (⋆ 𝓤 H A (At i v))))) (λ i.
