@@ -10,7 +10,8 @@ use lib.ListN.{length, take, drop, set, getD, length-append}
 use lib.Seq.{take-all, take-suc, take-append-seam, take-length}
 use borrow.Author.Tests.{ltb-true, ltb-false, lt-ltb, le-ltb, le-leb, lt-leb}
 use Rattle.words.specs.Choice.{if_then_else_}
-use Rattle.directory.specs.Directory.{noTables, tablesOf, directoryKept}
+use Rattle.directory.specs.Directory.{noTables, tablesOf, findFrom, findTable, eachKept, apart, directoryKept, sizesOf, startOf, imageLength}
+use Rattle.directory.specs.declared.table.TableKind.{TableKind}
 use Rattle.directory.specs.declared.table.TableDescription.{TableDescription}
 use Rattle.directory.specs.declared.directory.Directory.{Directory}
 use Rattle.lent.specs.Lent.{gathered}
@@ -27,6 +28,23 @@ module _ (ts : List TableDescription) where
     pub gathered-tables : tablesOf (gathered ts) ≡ ts
     unfolding gathered
     gathered-tables = rw (le-leb (length ts) 16 few, take-all 16 ts few, take-append-seam)
+
+    -- so what is said of a directory's tables is said of these
+    pub gathered-kept : directoryKept (gathered ts) ≡ eachKept ts && apart ts
+    unfolding directoryKept
+    gathered-kept = rw (gathered-tables, gathered-count, le-leb (length ts) 16 few)
+
+    pub gathered-find : (kind : TableKind) (number : ℕ) → findTable (gathered ts) kind number ≡ findFrom 0 ts kind number
+    unfolding findTable
+    gathered-find kind number = rw gathered-tables
+
+    pub gathered-start : (row : ℕ) → startOf (gathered ts) row ≡ sizesOf (take row ts)
+    unfolding startOf
+    gathered-start row = rw gathered-tables
+
+    pub gathered-image : imageLength (gathered ts) ≡ sizesOf ts
+    unfolding imageLength
+    gathered-image = rw gathered-tables
 
   -- more: the directory keeps no rule
   pub gathered-many : 16 < length ts → directoryKept (gathered ts) ≡ false

@@ -1,4 +1,5 @@
 -- `lent::slice::push` meets its contract. Assumes nothing.
+use native.Mathlib.Omega.{arith}
 use borrow.Author.Needs.{needs}
 use borrow.Author.Tests.{lt-ltb, le-ltb}
 use Rattle.lent.specs.Inner.{pushed}
@@ -16,11 +17,11 @@ add-e c = search needs
 
 returns : tie.Need-returns
 unfolding pushed
-returns c = simp (lt-ltb _ _ (c .if1 .taken))
+returns c = simp (lt-ltb (c .before .args .d .count) 16 (omega arith))
 
 returns-2 : tie.Need-returns-2
 unfolding pushed
-returns-2 c = simp (le-ltb _ _ (c .if1 .left))
+returns-2 c = simp (le-ltb (c .before .args .d .count) 16 (omega arith))
 
 pub push-spec : {M : Type 1} → statement M
 push-spec = tie.close (tie.spec mul-t element-set-from-t add-e returns returns-2)
