@@ -6,8 +6,8 @@ use Prim.Native.Nat.{ℕ, suc, _+_, _≤_, _<_}
 use native.Mathlib.Omega.{arith}
 use native.Mathlib.Numerals.{add-one}
 use lib.Dec.{leb, ltb}
-use lib.ListN.{length, take, drop, set, getD, length-append}
-use lib.Seq.{take-all, take-suc, take-append-seam, take-length}
+use lib.ListN.{length, take, drop, set, getD, length-append, take-append-drop}
+use lib.Seq.{length-take-le, take-all, take-suc, take-append-seam, take-length}
 use borrow.Author.Tests.{ltb-true, ltb-false, lt-ltb, le-ltb, le-leb, lt-leb}
 use Rattle.words.specs.Choice.{if_then_else_}
 use Rattle.directory.specs.Directory.{noTables, tablesOf, findFrom, findTable, eachKept, apart, directoryKept, sizesOf, startOf, imageLength}
@@ -50,6 +50,15 @@ module _ (ts : List TableDescription) where
   pub gathered-many : 16 < length ts → directoryKept (gathered ts) ≡ false
   unfolding gathered directoryKept
   gathered-many h = rw (lt-leb (length ts) 16 h)
+
+-- a directory by value whose rows behind the count are those of no table is what its tables are gathered into: every call answers alike
+pub gathered-again : (d : Directory) → length (d .tables) ≡ 16 → d .count ≤ 16 → drop (d .count) (d .tables) ≡ drop (d .count) (noTables .tables)
+    → gathered (tablesOf d) ≡ d
+unfolding gathered
+gathered-again d rows few behind =
+    let n : length (tablesOf d) ≡ d .count = length-take-le (d .count) (d .tables) (omega arith) in
+    let short : length (tablesOf d) ≤ 16 = omega arith in
+    rw (le-leb (length (tablesOf d)) 16 short, take-all 16 (tablesOf d) short, n, ← behind, take-append-drop)
 
 -- a count that has passed 15 leaves no room
 full : (n : ℕ) → 16 ≤ n → ltb (if leb n 16 then n else 17) 16 ≡ false

@@ -1,5 +1,6 @@
--- Laws of the gathered directory.
-pub mod Gathered
-pub mod More
+-- Laws of the gathered directory, and what the walks share.
 pub mod Entry
+pub mod Gathered
 pub mod Held
+pub mod Many
+pub mod More

@@ -1,0 +1,29 @@
+-- A slice of more than 16 descriptions: every call answers 13, and changes nothing. Assumes nothing.
+use mathlib.Core.Path.{_≡_, refl}
+use mathlib.Core.List.{List}
+use Prim.Native.Nat.{ℕ, _<_}
+use lib.ListN.{length}
+use Rattle.answer.specs.declared.answer.Answer.the-variants.{BadState}
+use Rattle.directory.specs.declared.table.TableDescription.{TableDescription}
+use Rattle.record.specs.Format.{stopped}
+use Rattle.record.specs.Next.{refused, nextOf}
+use Rattle.record.specs.declared.reader.LogReader.{LogReader}
+use Rattle.replay.specs.Replay.{tablesKept, judged}
+use Rattle.replay.specs.Run.{stops, runOf}
+use Rattle.lent.specs.Lent.{gathered}
+use Rattle.lent.proofs.Gathered.{gathered-many}
+
+module _ (ts : List TableDescription) (many : 16 < length ts) (log : List ℕ) where
+  pub many-next : (r : LogReader) → nextOf (gathered ts) log r ≡ refused BadState
+  unfolding nextOf
+  many-next r = rw (gathered-many ts many)
+
+  module _ (at expected : ℕ) (image : List ℕ) where
+    -- what `replay` answers and leaves goes by this alone
+    pub many-replay : judged (gathered ts) log at expected image ≡ stopped BadState
+    unfolding judged tablesKept
+    many-replay = rw (gathered-many ts many)
+
+    pub many-run : runOf (gathered ts) log at expected image ≡ stops BadState at 0 image
+    unfolding runOf tablesKept
+    many-run = rw (gathered-many ts many)
