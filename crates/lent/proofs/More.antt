@@ -1,10 +1,10 @@
 -- Rows filled from the front: one element more, or none that has room. Assumes nothing.
-use mathlib.Core.Path.{_≡_, refl, sym, ap, _∙_}
+use mathlib.Core.Path.{_≡_, _∙_}
 use mathlib.Core.List.{List, [], _∷_, _++_, append-assoc}
-use Prim.Native.Nat.{ℕ, suc, _+_, _≤_, _<_}
+use Prim.Native.Nat.{ℕ, suc, _≤_, _<_}
 use native.Mathlib.Omega.{arith}
 use native.Mathlib.Numerals.{add-one}
-use lib.ListN.{length, take, drop, set, length-append, drop-of-length-le, getD}
+use lib.ListN.{length, take, drop, set, length-append, drop-of-length-le}
 use lib.Seq.{take-all, take-append-le, drop-cons, set-append-seam}
 
 module _ {A : Type 0} (n : ℕ) (rows : List A) (are : length rows ≡ n) (ts : List A) (t : A) where

@@ -36,8 +36,8 @@ use denote.Exit.{yes}
 use Rattle.directory.specs.declared.table.TableDescription.{TableDescription}
 use Rattle.directory.specs.declared.directory.Directory.{Directory}
 use Rattle.lent.specs.Lent.{gathered}
-use Rattle.lent.proofs.Held.{Held, heldStruct, heldEnum}
-use Rattle.lent.proofs.Entry.{Row, Dir, lentVal, Gather, gathers}
+use Rattle.lent.proofs.Held.{Held, heldStruct, heldEnum, Tab, Dir, lentVal}
+use Rattle.lent.proofs.Entry.{Gather, gathers}
 use Rattle.lent.proofs.slice.gather.Symbol as gather-def
 use Rattle.lent.proofs.slice.gather.Symbol.{name as #gather}
 use Rattle.lent.proofs.slice.gather.Met as gather-thm
@@ -62,7 +62,7 @@ abbrev Stepᴴ : Held
 Stepᴴ = heldEnum Step.the-type Step′.the-laws Step′.the-plain tt
 
 abbrev stayed : Stays (entry.ended .signature .params) (entry.ended .kept)
-stayed = (stay-dropped (plain (λ _. LogReaderᴴ .row)) yes, (stay-dropped (shrSliceOf (0 ∷ []) tt (plain (λ _. Row))) yes, (stay-dropped (shrSliceOf (1 ∷ []) tt (plain (λ _. u8))) yes, tt)))
+stayed = (stay-dropped (plain (λ _. LogReaderᴴ .row)) yes, (stay-dropped (shrSliceOf (0 ∷ []) tt (plain (λ _. (Tab .row)))) yes, (stay-dropped (shrSliceOf (1 ∷ []) tt (plain (λ _. u8))) yes, tt)))
 
 module _ {M : Type 1} (𝓤 : URA M) (H : Heap 𝓤) (A : Atoms 𝓤) (mem : Memory → SProp 𝓤) (run : Routine → Fun 𝓤) where
   abbrev Callee : Contract 𝓤
@@ -93,9 +93,9 @@ module _ {M : Type 1} (𝓤 : URA M) (H : Heap 𝓤) (A : Atoms 𝓤) (W : Given
   to-callee d v = (((κ₁, tt), (q₁, tt), tt, callee-args d, (LogReaderᴴ .val reader ∷ [], (v ∷ [], (lentVal log ∷ [], tt)))), tt)
 
   module _ (C : Calls 𝓤 H) (Λ : Loops 𝓤 H) (fm : FmC 𝓤 H (W .laws) C) (known-gather : Triple 𝓤 (C #gather) (Gather 𝓤 H A mem run)) (known-callee : Triple 𝓤 (C #callee) (Callee 𝓤 H A mem run)) where
-    walk : Room Row (length (now tables)) → Room u8 (length (now log)) → ent 𝓤 (walkOf 𝓤 H A entry.ended stayed (entry.clauses 𝓤 H A mem run) .pre here) (WpFn 𝓤 H C Λ code.function (LogReaderᴴ .val reader ∷ lentVal tables ∷ lentVal log ∷ []) Post)
+    walk : Room (Tab .row) (length (now tables)) → Room u8 (length (now log)) → ent 𝓤 (walkOf 𝓤 H A entry.ended stayed (entry.clauses 𝓤 H A mem run) .pre here) (WpFn 𝓤 H C Λ code.function (LogReaderᴴ .val reader ∷ lentVal tables ∷ lentVal log ∷ []) Post)
     walk tables-room log-room =
-        via 𝓤 _ (fst∗ 𝓤 _ (emp 𝓤)) ∵ qed W ((‵ (flft κ₀ q₀) ⊛ (‵ (flft κ₁ q₁) ⊛ (‵ ftrue))) ∷ ‵ (owns (LogReaderᴴ .row ∷ ShrSlice (named 0) κ₀ Row ∷ ShrSlice (named 1) κ₁ u8 ∷ []) (reader, (tables, (log, tt))) (LogReaderᴴ .val reader ∷ [], (lentVal tables ∷ [], (lentVal log ∷ [], tt)))) ∷ []) ∵ enter ! C Λ code.function (LogReaderᴴ .val reader ∷ lentVal tables ∷ lentVal log ∷ []) _ $
+        via 𝓤 _ (fst∗ 𝓤 _ (emp 𝓤)) ∵ qed W ((‵ (flft κ₀ q₀) ⊛ (‵ (flft κ₁ q₁) ⊛ (‵ ftrue))) ∷ ‵ (owns (LogReaderᴴ .row ∷ ShrSlice (named 0) κ₀ (Tab .row) ∷ ShrSlice (named 1) κ₁ u8 ∷ []) (reader, (tables, (log, tt))) (LogReaderᴴ .val reader ∷ [], (lentVal tables ∷ [], (lentVal log ∷ [], tt)))) ∷ []) ∵ enter ! C Λ code.function (LogReaderᴴ .val reader ∷ lentVal tables ∷ lentVal log ∷ []) _ $
         alloc1 ! (λ l₀. alloc1 ! (λ l₁. alloc1 ! (λ l₂. alloc1 ! (λ l₃. alloc1 ! (λ l₄. alloc0 ! $ params1 ! $ pass1 ! (init ! 6 refl (LogReaderᴴ .lawful 𝓤 H A W .typed reader _ reader-is .0)) $
         pass1 ! (init ! 4 refl (tt, (tt, (record { fits = tables-room .0 }, tt)))) $ pass1 ! (init ! 2 refl (tt, (tt, (record { fits = log-room .0 }, tt)))) $ pass0 ! $
         -- each token and what each reference owns by itself
@@ -120,10 +120,10 @@ module _ {M : Type 1} (𝓤 : URA M) (H : Heap 𝓤) (A : Atoms 𝓤) (W : Given
 meets : {M : Type 1} (𝓤 : URA M) (H : Heap 𝓤) (A : Atoms 𝓤) → Given 𝓤 H A → (mem : Memory → SProp 𝓤) (run : Routine → Fun 𝓤) (𝓣 : Tables 𝓤 H) → Triple 𝓤 (𝓣 .C #gather) (Gather 𝓤 H A mem run) → Triple 𝓤 (𝓣 .C #callee) (Callee 𝓤 H A mem run)
     → Meets 𝓤 H A entry.signature (WpFn 𝓤 H (𝓣 .C) (𝓣 .Λ) code.function) (entry.spec 𝓤 H A mem run)
 meets 𝓤 H A W mem run 𝓣 known-gather known-callee =
-    walk-meets 𝓤 H A entry.ended stayed W (goes-dropped 𝓤 H A W 2 (plain (λ _. LogReaderᴴ .row)) yes (λ κs x f. refl), (goes-dropped 𝓤 H A W 2 (shrSliceOf (0 ∷ []) tt (plain (λ _. Row))) yes (λ κs x f. refl), (goes-dropped 𝓤 H A W 2 (shrSliceOf (1 ∷ []) tt (plain (λ _. u8))) yes (λ κs x f. refl), tt)))
+    walk-meets 𝓤 H A entry.ended stayed W (goes-dropped 𝓤 H A W 2 (plain (λ _. LogReaderᴴ .row)) yes (λ κs x f. refl), (goes-dropped 𝓤 H A W 2 (shrSliceOf (0 ∷ []) tt (plain (λ _. (Tab .row)))) yes (λ κs x f. refl), (goes-dropped 𝓤 H A W 2 (shrSliceOf (1 ∷ []) tt (plain (λ _. u8))) yes (λ κs x f. refl), tt)))
     (entry.clauses 𝓤 H A mem run) (WpFn 𝓤 H (𝓣 .C) (𝓣 .Λ) code.function) (WpFn-mono 𝓤 H (W .laws) 𝓣 code.function)
     (walked 𝓤 H A entry.ended stayed (entry.clauses 𝓤 H A mem run) (WpFn 𝓤 H (𝓣 .C) (𝓣 .Λ) code.function) (λ κs. ((λ x. LogReaderᴴ .val x ∷ []), (slice-vals, (slice-vals, tt))))
-    (λ κs. (LogReaderᴴ .tells, (shr-slice-tells (named 0) (κs .0) Row, (shr-slice-tells (named 1) (κs .1 .0) u8, tt))))
+    (λ κs. (LogReaderᴴ .tells, (shr-slice-tells (named 0) (κs .0) (Tab .row), (shr-slice-tells (named 1) (κs .1 .0) u8, tt))))
     (λ κs qs bounds a g are. walk 𝓤 H A W mem run (κs .0) (κs .1 .0) (qs .0) (qs .1 .0) (a .0) (a .1 .0) (a .1 .1 .0) (are .0)
     (𝓣 .C) (𝓣 .Λ) (fmOf 𝓤 H (W .laws) 𝓣) known-gather known-callee (are .1 .0 .0 .1) (are .1 .1 .0 .0 .1)))
 

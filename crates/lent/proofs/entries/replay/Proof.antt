@@ -37,8 +37,8 @@ use denote.Exit.{yes}
 use Rattle.directory.specs.declared.table.TableDescription.{TableDescription}
 use Rattle.directory.specs.declared.directory.Directory.{Directory}
 use Rattle.lent.specs.Lent.{gathered}
-use Rattle.lent.proofs.Held.{Held, heldNumber, heldStruct}
-use Rattle.lent.proofs.Entry.{Row, Dir, lentVal, Gather, gathers}
+use Rattle.lent.proofs.Held.{Held, heldNumber, heldStruct, Tab, Dir, lentVal}
+use Rattle.lent.proofs.Entry.{Gather, gathers}
 use Rattle.lent.proofs.slice.gather.Symbol as gather-def
 use Rattle.lent.proofs.slice.gather.Symbol.{name as #gather}
 use Rattle.lent.proofs.slice.gather.Met as gather-thm
@@ -58,7 +58,7 @@ abbrev Replayedᴴ : Held
 Replayedᴴ = heldStruct Replayed.the-type Replayed′.the-laws Replayed′.the-plain
 
 abbrev stayed : Stays (entry.ended .signature .params) (entry.ended .kept)
-stayed = (stay-dropped (shrSliceOf (0 ∷ []) tt (plain (λ _. Row))) yes, (stay-dropped (shrSliceOf (1 ∷ []) tt (plain (λ _. u8))) yes, (stay-dropped (plain (λ _. (heldNumber w64) .row)) yes, (stay-dropped (plain (λ _. (heldNumber w64) .row)) yes, (gave-slice (2 ∷ []) tt (plain (λ _. u8)), tt)))))
+stayed = (stay-dropped (shrSliceOf (0 ∷ []) tt (plain (λ _. (Tab .row)))) yes, (stay-dropped (shrSliceOf (1 ∷ []) tt (plain (λ _. u8))) yes, (stay-dropped (plain (λ _. (heldNumber w64) .row)) yes, (stay-dropped (plain (λ _. (heldNumber w64) .row)) yes, (gave-slice (2 ∷ []) tt (plain (λ _. u8)), tt)))))
 
 module _ {M : Type 1} (𝓤 : URA M) (H : Heap 𝓤) (A : Atoms 𝓤) (mem : Memory → SProp 𝓤) (run : Routine → Fun 𝓤) where
   abbrev Callee : Contract 𝓤
@@ -90,9 +90,9 @@ module _ {M : Type 1} (𝓤 : URA M) (H : Heap 𝓤) (A : Atoms 𝓤) (W : Given
   to-callee d v = (((κ₁, (κ₂, tt)), (q₁, (q₂, tt)), tt, callee-args d, (v ∷ [], (lentVal log ∷ [], ((heldNumber w64) .val at ∷ [], ((heldNumber w64) .val expected ∷ [], (lentVal image ∷ [], tt)))))), tt)
 
   module _ (C : Calls 𝓤 H) (Λ : Loops 𝓤 H) (fm : FmC 𝓤 H (W .laws) C) (known-gather : Triple 𝓤 (C #gather) (Gather 𝓤 H A mem run)) (known-callee : Triple 𝓤 (C #callee) (Callee 𝓤 H A mem run)) where
-    walk : Room Row (length (now tables)) → Room u8 (length (now log)) → Room u8 (length (now image)) → ent 𝓤 (walkOf 𝓤 H A entry.ended stayed (entry.clauses 𝓤 H A mem run) .pre here) (WpFn 𝓤 H C Λ code.function (lentVal tables ∷ lentVal log ∷ (heldNumber w64) .val at ∷ (heldNumber w64) .val expected ∷ lentVal image ∷ []) Post)
+    walk : Room (Tab .row) (length (now tables)) → Room u8 (length (now log)) → Room u8 (length (now image)) → ent 𝓤 (walkOf 𝓤 H A entry.ended stayed (entry.clauses 𝓤 H A mem run) .pre here) (WpFn 𝓤 H C Λ code.function (lentVal tables ∷ lentVal log ∷ (heldNumber w64) .val at ∷ (heldNumber w64) .val expected ∷ lentVal image ∷ []) Post)
     walk tables-room log-room image-room =
-        via 𝓤 _ (fst∗ 𝓤 _ (emp 𝓤)) ∵ qed W ((‵ (flft κ₀ q₀) ⊛ (‵ (flft κ₁ q₁) ⊛ (‵ (flft κ₂ q₂) ⊛ (‵ ftrue)))) ∷ ‵ (owns (ShrSlice (named 0) κ₀ Row ∷ ShrSlice (named 1) κ₁ u8 ∷ (heldNumber w64) .row ∷ (heldNumber w64) .row ∷ MutSlice (named 2) κ₂ u8 ∷ []) (tables, (log, (at, (expected, (image, tt))))) (lentVal tables ∷ [], (lentVal log ∷ [], ((heldNumber w64) .val at ∷ [], ((heldNumber w64) .val expected ∷ [], (lentVal image ∷ [], tt)))))) ∷ []) ∵ enter ! C Λ code.function (lentVal tables ∷ lentVal log ∷ (heldNumber w64) .val at ∷ (heldNumber w64) .val expected ∷ lentVal image ∷ []) _ $
+        via 𝓤 _ (fst∗ 𝓤 _ (emp 𝓤)) ∵ qed W ((‵ (flft κ₀ q₀) ⊛ (‵ (flft κ₁ q₁) ⊛ (‵ (flft κ₂ q₂) ⊛ (‵ ftrue)))) ∷ ‵ (owns (ShrSlice (named 0) κ₀ (Tab .row) ∷ ShrSlice (named 1) κ₁ u8 ∷ (heldNumber w64) .row ∷ (heldNumber w64) .row ∷ MutSlice (named 2) κ₂ u8 ∷ []) (tables, (log, (at, (expected, (image, tt))))) (lentVal tables ∷ [], (lentVal log ∷ [], ((heldNumber w64) .val at ∷ [], ((heldNumber w64) .val expected ∷ [], (lentVal image ∷ [], tt)))))) ∷ []) ∵ enter ! C Λ code.function (lentVal tables ∷ lentVal log ∷ (heldNumber w64) .val at ∷ (heldNumber w64) .val expected ∷ lentVal image ∷ []) _ $
         alloc1 ! (λ l₀. alloc1 ! (λ l₁. alloc1 ! (λ l₂. alloc1 ! (λ l₃. alloc1 ! (λ l₄. alloc1 ! (λ l₅. alloc1 ! (λ l₆. alloc1 ! (λ l₇. alloc1 ! (λ l₈. alloc0 ! $ params1 ! $
         pass1 ! (init ! 14 refl (tt, (tt, (record { fits = tables-room .0 }, tt)))) $ pass1 ! (init ! 12 refl (tt, (tt, (record { fits = log-room .0 }, tt)))) $
         pass1 ! (init ! 10 refl ((heldNumber w64) .lawful 𝓤 H A W .typed at _ at-is .0)) $ pass1 ! (init ! 8 refl ((heldNumber w64) .lawful 𝓤 H A W .typed expected _ expected-is .0)) $
@@ -125,10 +125,10 @@ module _ {M : Type 1} (𝓤 : URA M) (H : Heap 𝓤) (A : Atoms 𝓤) (W : Given
 meets : {M : Type 1} (𝓤 : URA M) (H : Heap 𝓤) (A : Atoms 𝓤) → Given 𝓤 H A → (mem : Memory → SProp 𝓤) (run : Routine → Fun 𝓤) (𝓣 : Tables 𝓤 H) → Triple 𝓤 (𝓣 .C #gather) (Gather 𝓤 H A mem run) → Triple 𝓤 (𝓣 .C #callee) (Callee 𝓤 H A mem run)
     → Meets 𝓤 H A entry.signature (WpFn 𝓤 H (𝓣 .C) (𝓣 .Λ) code.function) (entry.spec 𝓤 H A mem run)
 meets 𝓤 H A W mem run 𝓣 known-gather known-callee =
-    walk-meets 𝓤 H A entry.ended stayed W (goes-dropped 𝓤 H A W 3 (shrSliceOf (0 ∷ []) tt (plain (λ _. Row))) yes (λ κs x f. refl), (goes-dropped 𝓤 H A W 3 (shrSliceOf (1 ∷ []) tt (plain (λ _. u8))) yes (λ κs x f. refl), (goes-dropped 𝓤 H A W 3 (plain (λ _. (heldNumber w64) .row)) yes (λ κs x f. refl), (goes-dropped 𝓤 H A W 3 (plain (λ _. (heldNumber w64) .row)) yes (λ κs x f. refl), (goes-gave-slice 𝓤 H A W 3 2 tt (plain (λ _. u8)), tt)))))
+    walk-meets 𝓤 H A entry.ended stayed W (goes-dropped 𝓤 H A W 3 (shrSliceOf (0 ∷ []) tt (plain (λ _. (Tab .row)))) yes (λ κs x f. refl), (goes-dropped 𝓤 H A W 3 (shrSliceOf (1 ∷ []) tt (plain (λ _. u8))) yes (λ κs x f. refl), (goes-dropped 𝓤 H A W 3 (plain (λ _. (heldNumber w64) .row)) yes (λ κs x f. refl), (goes-dropped 𝓤 H A W 3 (plain (λ _. (heldNumber w64) .row)) yes (λ κs x f. refl), (goes-gave-slice 𝓤 H A W 3 2 tt (plain (λ _. u8)), tt)))))
     (entry.clauses 𝓤 H A mem run) (WpFn 𝓤 H (𝓣 .C) (𝓣 .Λ) code.function) (WpFn-mono 𝓤 H (W .laws) 𝓣 code.function)
     (walked 𝓤 H A entry.ended stayed (entry.clauses 𝓤 H A mem run) (WpFn 𝓤 H (𝓣 .C) (𝓣 .Λ) code.function) (λ κs. (slice-vals, (slice-vals, ((λ x. (heldNumber w64) .val x ∷ []), ((λ x. (heldNumber w64) .val x ∷ []), (slice-vals, tt))))))
-    (λ κs. (shr-slice-tells (named 0) (κs .0) Row, (shr-slice-tells (named 1) (κs .1 .0) u8, ((heldNumber w64) .tells, ((heldNumber w64) .tells, (mut-slice-tells (named 2) (κs .1 .1 .0) u8, tt))))))
+    (λ κs. (shr-slice-tells (named 0) (κs .0) (Tab .row), (shr-slice-tells (named 1) (κs .1 .0) u8, ((heldNumber w64) .tells, ((heldNumber w64) .tells, (mut-slice-tells (named 2) (κs .1 .1 .0) u8, tt))))))
     (λ κs qs bounds a g are. walk 𝓤 H A W mem run (κs .0) (κs .1 .0) (κs .1 .1 .0) (qs .0) (qs .1 .0) (qs .1 .1 .0) (a .0) (a .1 .0) (a .1 .1 .0) (a .1 .1 .1 .0) (a .1 .1 .1 .1 .0) (are .1 .1 .0) (are .1 .1 .1 .0)
     (𝓣 .C) (𝓣 .Λ) (fmOf 𝓤 H (W .laws) 𝓣) known-gather known-callee (are .0 .0 .1) (are .1 .0 .0 .1) (are .1 .1 .1 .1 .0 .0 .1)))
 

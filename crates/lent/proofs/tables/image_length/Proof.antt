@@ -34,8 +34,8 @@ use denote.Exit.{yes}
 use Rattle.directory.specs.declared.table.TableDescription.{TableDescription}
 use Rattle.directory.specs.declared.directory.Directory.{Directory}
 use Rattle.lent.specs.Lent.{gathered}
-use Rattle.lent.proofs.Held.{heldNumber}
-use Rattle.lent.proofs.Entry.{Row, Dir, lentVal, Gather, gathers}
+use Rattle.lent.proofs.Held.{heldNumber, Tab, Dir, lentVal}
+use Rattle.lent.proofs.Entry.{Gather, gathers}
 use Rattle.lent.proofs.slice.gather.Symbol as gather-def
 use Rattle.lent.proofs.slice.gather.Symbol.{name as #gather}
 use Rattle.lent.proofs.slice.gather.Met as gather-thm
@@ -50,7 +50,7 @@ use Rattle.lent.proofs.tables.image_length.Statement as stated
 use Rattle.lent.proofs.tables.image_length.Code as code
 
 abbrev stayed : Stays (entry.ended .signature .params) (entry.ended .kept)
-stayed = (stay-dropped (shrSliceOf (0 ∷ []) tt (plain (λ _. Row))) yes, tt)
+stayed = (stay-dropped (shrSliceOf (0 ∷ []) tt (plain (λ _. (Tab .row)))) yes, tt)
 
 module _ {M : Type 1} (𝓤 : URA M) (H : Heap 𝓤) (A : Atoms 𝓤) (mem : Memory → SProp 𝓤) (run : Routine → Fun 𝓤) where
   abbrev Callee : Contract 𝓤
@@ -81,9 +81,9 @@ module _ {M : Type 1} (𝓤 : URA M) (H : Heap 𝓤) (A : Atoms 𝓤) (W : Given
   to-callee d v = ((tt, tt, tt, callee-args d, (v ∷ [], tt)), tt)
 
   module _ (C : Calls 𝓤 H) (Λ : Loops 𝓤 H) (fm : FmC 𝓤 H (W .laws) C) (known-gather : Triple 𝓤 (C #gather) (Gather 𝓤 H A mem run)) (known-callee : Triple 𝓤 (C #callee) (Callee 𝓤 H A mem run)) where
-    walk : Room Row (length (now tables)) → ent 𝓤 (walkOf 𝓤 H A entry.ended stayed (entry.clauses 𝓤 H A mem run) .pre here) (WpFn 𝓤 H C Λ code.function (lentVal tables ∷ []) Post)
+    walk : Room (Tab .row) (length (now tables)) → ent 𝓤 (walkOf 𝓤 H A entry.ended stayed (entry.clauses 𝓤 H A mem run) .pre here) (WpFn 𝓤 H C Λ code.function (lentVal tables ∷ []) Post)
     walk tables-room =
-        via 𝓤 _ (fst∗ 𝓤 _ (emp 𝓤)) ∵ qed W ((‵ (flft κ₀ q₀) ⊛ (‵ ftrue)) ∷ ‵ (owns (ShrSlice (named 0) κ₀ Row ∷ []) (tables, tt) (lentVal tables ∷ [], tt)) ∷ []) ∵ enter ! C Λ code.function (lentVal tables ∷ []) _ $
+        via 𝓤 _ (fst∗ 𝓤 _ (emp 𝓤)) ∵ qed W ((‵ (flft κ₀ q₀) ⊛ (‵ ftrue)) ∷ ‵ (owns (ShrSlice (named 0) κ₀ (Tab .row) ∷ []) (tables, tt) (lentVal tables ∷ [], tt)) ∷ []) ∵ enter ! C Λ code.function (lentVal tables ∷ []) _ $
         alloc1 ! (λ l₀. alloc1 ! (λ l₁. alloc1 ! (λ l₂. alloc0 ! $ params1 ! $ pass1 ! (init ! 2 refl (tt, (tt, (record { fits = tables-room .0 }, tt)))) $ pass0 ! $
         -- each token and what each reference owns by itself
         move ! (6 ∷ []) $ split ! $ move ! (1 ∷ []) $ drop ! $ move ! (7 ∷ []) $ fsplit ! $ move ! (1 ∷ []) $ drop ! $
@@ -105,10 +105,10 @@ module _ {M : Type 1} (𝓤 : URA M) (H : Heap 𝓤) (A : Atoms 𝓤) (W : Given
 meets : {M : Type 1} (𝓤 : URA M) (H : Heap 𝓤) (A : Atoms 𝓤) → Given 𝓤 H A → (mem : Memory → SProp 𝓤) (run : Routine → Fun 𝓤) (𝓣 : Tables 𝓤 H) → Triple 𝓤 (𝓣 .C #gather) (Gather 𝓤 H A mem run) → Triple 𝓤 (𝓣 .C #callee) (Callee 𝓤 H A mem run)
     → Meets 𝓤 H A entry.signature (WpFn 𝓤 H (𝓣 .C) (𝓣 .Λ) code.function) (entry.spec 𝓤 H A mem run)
 meets 𝓤 H A W mem run 𝓣 known-gather known-callee =
-    walk-meets 𝓤 H A entry.ended stayed W (goes-dropped 𝓤 H A W 1 (shrSliceOf (0 ∷ []) tt (plain (λ _. Row))) yes (λ κs x f. refl), tt)
+    walk-meets 𝓤 H A entry.ended stayed W (goes-dropped 𝓤 H A W 1 (shrSliceOf (0 ∷ []) tt (plain (λ _. (Tab .row)))) yes (λ κs x f. refl), tt)
     (entry.clauses 𝓤 H A mem run) (WpFn 𝓤 H (𝓣 .C) (𝓣 .Λ) code.function) (WpFn-mono 𝓤 H (W .laws) 𝓣 code.function)
     (walked 𝓤 H A entry.ended stayed (entry.clauses 𝓤 H A mem run) (WpFn 𝓤 H (𝓣 .C) (𝓣 .Λ) code.function) (λ κs. (slice-vals, tt))
-    (λ κs. (shr-slice-tells (named 0) (κs .0) Row, tt))
+    (λ κs. (shr-slice-tells (named 0) (κs .0) (Tab .row), tt))
     (λ κs qs bounds a g are. walk 𝓤 H A W mem run (κs .0) (qs .0) (a .0)
     (𝓣 .C) (𝓣 .Λ) (fmOf 𝓤 H (W .laws) 𝓣) known-gather known-callee (are .0 .0 .1)))
 
