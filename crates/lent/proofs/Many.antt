@@ -5,10 +5,9 @@ use Prim.Native.Nat.{ℕ, _<_}
 use lib.ListN.{length}
 use Rattle.answer.specs.declared.answer.Answer.the-variants.{BadState}
 use Rattle.directory.specs.declared.table.TableDescription.{TableDescription}
-use Rattle.record.specs.Format.{stopped}
 use Rattle.record.specs.Next.{refused, nextOf}
 use Rattle.record.specs.declared.reader.LogReader.{LogReader}
-use Rattle.replay.specs.Replay.{tablesKept, judged}
+use Rattle.replay.specs.Replay.{tablesKept, judged, replayedAs, imageAfter}
 use Rattle.replay.specs.Run.{stops, runOf}
 use Rattle.lent.specs.Lent.{gathered}
 use Rattle.lent.proofs.Gathered.{gathered-many}
@@ -19,10 +18,13 @@ module _ (ts : List TableDescription) (many : 16 < length ts) (log : List ℕ) w
   many-next r = rw (gathered-many ts many)
 
   module _ (at expected : ℕ) (image : List ℕ) where
-    -- what `replay` answers and leaves goes by this alone
-    pub many-replay : judged (gathered ts) log at expected image ≡ stopped BadState
+    pub many-replay : replayedAs at (judged (gathered ts) log at expected image) ≡ record { answer = BadState; position = at }
     unfolding judged tablesKept
     many-replay = rw (gathered-many ts many)
+
+    pub many-image : imageAfter (gathered ts) image (judged (gathered ts) log at expected image) ≡ image
+    unfolding judged tablesKept
+    many-image = rw (gathered-many ts many)
 
     pub many-run : runOf (gathered ts) log at expected image ≡ stops BadState at 0 image
     unfolding runOf tablesKept

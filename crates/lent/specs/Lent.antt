@@ -1,5 +1,5 @@
--- The directory as a lent slice. Document 01, "What the public interface is": "The directory is held by value first; afterwards the same
--- entries also take the directory as a lent slice of descriptions." log.rs has no directory: this part is added.
+-- The directory as a lent slice (document 01, "The directory and the tables": "The directory is held by value first; afterwards the same
+-- entries also take the directory as a lent slice of descriptions"). log.rs has no directory: this part is added.
 use mathlib.Core.List.{List, _++_}
 use lib.Dec.{leb}
 use lib.ListN.{length, take, drop}
