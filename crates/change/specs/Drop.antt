@@ -8,39 +8,32 @@ use Rattle.directory.specs.Directory.{tablesOf, stands}
 use Rattle.directory.specs.declared.table.TableKind.{TableKind}
 use Rattle.directory.specs.declared.table.TableKind.the-variants.{Index, RefCount}
 use Rattle.directory.specs.declared.directory.Directory.{Directory}
-use Rattle.change.specs.Room.{dropRoom}
-use Rattle.change.specs.Listed.{stateKept}
+use Rattle.change.specs.Change.{Change, withDrops, withCountDrops, dropRoom, changeKept}
+use Rattle.change.specs.Insert.{Made, notMade}
 use Rattle.change.specs.declared.drops.Drops.{Drops}
 use Rattle.change.specs.declared.drops.Dropped.{Dropped}
-use Rattle.change.specs.declared.change.LogChange.{LogChange}
-use Rattle.change.specs.declared.change.Changed.{Changed}
 
 -- one more, at the end
 abbrev pub dropsWith : Drops → ℕ → Drops
 dropsWith s number = record { tables = set (s .tables) (s .count) number; count = s .count + 1 }
 
--- for a list that keeps its rules: 6, 9. A drop has no key, so a repeat takes room too
-unfoldable pub dropped : Directory → TableKind → Drops → ℕ → Dropped
-dropped d kind s number =
+-- at a list that keeps its rules: 6, 9. A drop has no key, so a repeat takes room too
+unfoldable pub droppedIn : Directory → TableKind → Drops → ℕ → Dropped
+droppedIn d kind s number =
     if stands (tablesOf d) kind number
-    then if leb dropRoom (s .count) then record { answer = NoRoom; drops = s } else record { answer = Done; drops = dropsWith s number }
-    else record { answer = NoTable; drops = s }
+    then if leb dropRoom (s .count) then record { answer = NoRoom; drops = s } else record { answer = Done; drops = dropsWith s number }  -- 9
+    else record { answer = NoTable; drops = s }  -- 6
 
--- "Order in every call: 13", then 6, 9
-unfoldable pub droppedIn : Directory → LogChange → ℕ → TableKind → Drops → ℕ → Dropped
-droppedIn d l room kind s number = if stateKept d l room then dropped d kind s number else record { answer = BadState; drops = s }
+-- `drop_table`, behind 13 and without it
+unfoldable pub tableDroppedKept : Directory → Change → ℕ → Made
+tableDroppedKept d l number = record { answer = droppedIn d Index (l .drops) number .answer; change = withDrops l (droppedIn d Index (l .drops) number .drops) }
 
--- `drop_table` and `drop_ref_count_table`: the answer, and the list with the drops as they then are
-abbrev pub withDrops : LogChange → Dropped → Changed
-withDrops l s =
-    record { answer = s .answer; list = record { «local_index» = l .«local_index»; «local_values» = l .«local_values»; «local_ref_count» = l .«local_ref_count»; «record_id» = l .«record_id»; «dropped_tables» = s .drops; «dropped_ref_count_tables» = l .«dropped_ref_count_tables» } }
+unfoldable pub tableDropped : Directory → Change → ℕ → Made
+tableDropped d l number = if changeKept d l then tableDroppedKept d l number else notMade BadState l  -- 13
 
-abbrev pub withCountDrops : LogChange → Dropped → Changed
-withCountDrops l s =
-    record { answer = s .answer; list = record { «local_index» = l .«local_index»; «local_values» = l .«local_values»; «local_ref_count» = l .«local_ref_count»; «record_id» = l .«record_id»; «dropped_tables» = l .«dropped_tables»; «dropped_ref_count_tables» = s .drops } }
+-- `drop_ref_count_table`
+unfoldable pub countTableDroppedKept : Directory → Change → ℕ → Made
+countTableDroppedKept d l number = record { answer = droppedIn d RefCount (l .countDrops) number .answer; change = withCountDrops l (droppedIn d RefCount (l .countDrops) number .drops) }
 
-abbrev pub tableDropped : Directory → LogChange → ℕ → ℕ → Changed
-tableDropped d l room number = withDrops l (droppedIn d l room Index (l .«dropped_tables») number)
-
-abbrev pub countTableDropped : Directory → LogChange → ℕ → ℕ → Changed
-countTableDropped d l room number = withCountDrops l (droppedIn d l room RefCount (l .«dropped_ref_count_tables») number)
+unfoldable pub countTableDropped : Directory → Change → ℕ → Made
+countTableDropped d l number = if changeKept d l then countTableDroppedKept d l number else notMade BadState l  -- 13

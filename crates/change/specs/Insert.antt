@@ -1,9 +1,10 @@
--- What an insert does (document 01, "Change lists and overlays", "Inserting: 6, 7, 14, 9"). log.rs lines 480 to 515.
+-- What an insert does (document 01, "Change lists and overlays", "Inserting: 6, 7, 14, 9."). log.rs lines 480 to 515.
+use mathlib.Core.Bool.{Bool}
 use mathlib.Core.List.{List}
-use Prim.Native.Nat.{ℕ, _+_}
+use Prim.Native.Nat.{ℕ, _^_}
+use lib.Bits.{bitOr}
 use lib.Dec.{ltb, leb, eqb}
-use lib.ListN.{getD, length}
-use lib.Seq.{paste}
+use lib.ListN.{length}
 use Rattle.words.specs.Choice.{if_then_else_}
 use Rattle.answer.specs.declared.answer.Answer.{Answer}
 use Rattle.answer.specs.declared.answer.Answer.the-variants.{Done, NoTable, NoIndex, NoRoom, BadState, BadArgument}
@@ -11,83 +12,71 @@ use Rattle.directory.specs.Table.{unitOf}
 use Rattle.directory.specs.Directory.{findTable}
 use Rattle.directory.specs.declared.table.TableKind.{TableKind}
 use Rattle.directory.specs.declared.table.TableKind.the-variants.{Index, Value, RefCount}
+use Rattle.directory.specs.declared.table.TableDescription.{TableDescription}
 use Rattle.directory.specs.declared.directory.Directory.{Directory}
 use Rattle.directory.specs.declared.directory.Found.{Found}
 use Rattle.directory.specs.declared.directory.Found.the-variants.{At, Nothing}
-use Rattle.keys.specs.Keys.{rank, markAt, rowPut, spot, holds, putIn}
-use Rattle.change.specs.Room.{roomOf, slotAt, markOf}
-use Rattle.change.specs.Listed.{localOf, keysIn, stateKept}
-use Rattle.change.specs.declared.overlay.LogOverlayLocal.{LogOverlayLocal}
-use Rattle.change.specs.declared.overlay.Plan.{Plan}
-use Rattle.change.specs.declared.overlay.Plan.the-variants.{Refuse, Replace, Append}
-use Rattle.change.specs.declared.change.LogChange.{LogChange}
+use Rattle.keys.specs.Keys.{rank, markAt}
+use Rattle.overlay.specs.Rules.{Overlay}
+use Rattle.overlay.specs.Overlay.{standsIn, placeIn}
+use Rattle.memory.specs.Parts.{spanOf, ofKind, putInto}
+use Rattle.memory.specs.declared.span.Holder.the-variants as holder
+use Rattle.change.specs.Change.{Change, changeOf, withParts, changeKept}
+use Rattle.change.specs.declared.plans.Plan.{Plan}
+use Rattle.change.specs.declared.plans.Plan.the-variants.{Refuse, Go}
 use Rattle.change.specs.declared.change.Changed.{Changed}
 
+-- what a call on a list comes to: its answer, and the list afterwards
+pub record Made : Type 0 where
+  pub answer : Answer
+  pub change : Change
+
+-- as a call hands it back: answer and list by value, and the two memories
+abbrev pub madeOf : Changed → List ℕ → List ℕ → Made
+madeOf r words bytes = record { answer = r .answer; change = changeOf (r .list) words bytes }
+
+-- a refusal leaves the list as it was
+abbrev pub notMade : Answer → Change → Made
+notMade answer l = record { answer = answer; change = l }
+
+-- a key's mark is its mask, "add the slot's bit to the mask"; a value's is its length (log.rs 483 and 509: `entry.get().1 | (1 << sub)`)
+abbrev pub markOf : TableKind → ℕ → ℕ → List ℕ → ℕ
+markOf Index old sub bytes = bitOr old (2 ^ sub)
+markOf Value old sub bytes = length bytes
+markOf RefCount old sub bytes = bitOr old (2 ^ sub)
+
+-- 14: a "chunk or value of the wrong length"
+unfoldable pub bytesFit : TableKind → TableDescription → List ℕ → Bool
+bytesFit kind t bytes = eqb (length bytes) (unitOf kind (t .length))
+
 -- a key that is listed is replaced, so a full list takes it; any other goes into the next place, where there is room
-unfoldable pub roomFor : TableKind → LogOverlayLocal → ℕ → Plan
-roomFor kind k key =
-    if holds key (spot key (keysIn k)) (keysIn k) then Replace (getD (k .order) (spot key (keysIn k)) 0)
-    else if leb (roomOf kind) (k .count) then Refuse NoRoom
-    else Append (spot key (keysIn k))
+unfoldable pub roomFor : ℕ → Overlay → ℕ → Plan
+roomFor room o key =
+    if standsIn o key then Go (markAt (o .rows) (placeIn o key)) else
+    if leb room (o .count) then Refuse NoRoom else  -- 9
+    Go 0
 
--- for a list that keeps its rules: 6, 7, 14, 9
-unfoldable pub planIn : TableKind → LogOverlayLocal → Found → ℕ → ℕ → ℕ → ℕ → Plan
-planIn kind k Nothing number index sub len = Refuse NoTable
-planIn kind k (At row t) number index sub len =
-    if leb (t .count) index then Refuse NoIndex
-    else if ltb 63 sub then Refuse BadArgument
-    else if eqb len (unitOf kind (t .length)) then roomFor kind k (rank number index)
-    else Refuse BadArgument
+-- at a list that keeps its rules: 6, 7, 14, 9
+unfoldable pub planIn : TableKind → Overlay → Found → ℕ → ℕ → ℕ → List ℕ → Plan
+planIn kind o Nothing number index sub bytes = Refuse NoTable  -- 6
+planIn kind o (At row t) number index sub bytes =
+    if leb (t .count) index then Refuse NoIndex else  -- 7
+    if ltb 63 sub then Refuse BadArgument else  -- 14: "slot above 63"
+    if bytesFit kind t bytes then roomFor (spanOf holder.List kind .room) o (rank number index) else
+    Refuse BadArgument  -- 14
 
--- what an insert is to do: "Order in every call: 13", then "6, 7, 14, 9". `room` is the local memory's length, `len` that of the chunk or value
-unfoldable pub planOf : TableKind → Directory → LogChange → ℕ → ℕ → ℕ → ℕ → ℕ → Plan
-planOf kind d l room number index sub len =
-    if stateKept d l room then planIn kind (localOf kind l) (findTable d kind number) number index sub len
-    else Refuse BadState
+-- "take the whole new chunk and add the slot's bit to the mask. `insert_value` replaces."
+abbrev pub madeBy : Plan → TableKind → Change → ℕ → ℕ → ℕ → List ℕ → Made
+madeBy (Refuse answer) kind l number index sub bytes = notMade answer l
+madeBy (Go old) kind l number index sub bytes =
+    record { answer = Done; change = withParts l (putInto kind (l .parts) number index (l .id) (markOf kind old sub bytes) bytes) }
 
-unfoldable pub answerBy : Plan → Answer
-answerBy (Refuse a) = a
-answerBy (Replace p) = Done
-answerBy (Append j) = Done
+-- an insert of bytes under a table's number and an index, at a slot
+unfoldable pub insertedKept : TableKind → Directory → Change → ℕ → ℕ → ℕ → List ℕ → Made
+insertedKept kind d l number index sub bytes =
+    madeBy (planIn kind (ofKind kind (l .parts)) (findTable d kind number) number index sub bytes) kind l number index sub bytes
 
-abbrev pub rowWith : LogOverlayLocal → ℕ → ℕ → ℕ → ℕ → ℕ → LogOverlayLocal
-rowWith k p number index id mark = record { rows = rowPut (k .rows) p number index id mark; order = k .order; count = k .count }
-
--- the keys with place p's row written anew: the slot's bit is added to the mask that is there, the id is the list's
-abbrev pub keyOver : TableKind → LogOverlayLocal → ℕ → ℕ → ℕ → ℕ → ℕ → ℕ → LogOverlayLocal
-keyOver kind k p number index id sub len =
-    rowWith k p number index id (markOf kind (markAt (k .rows) p) sub len)
-
--- the keys with one more in the next place, the j-th in order
-abbrev pub keyNext : TableKind → LogOverlayLocal → ℕ → ℕ → ℕ → ℕ → ℕ → ℕ → LogOverlayLocal
-keyNext kind k j number index id sub len =
-    record { rows = rowPut (k .rows) (k .count) number index id (markOf kind 0 sub len); order = putIn j (k .count) (k .count) (k .order); count = k .count + 1 }
-
-abbrev pub withLocal : TableKind → LogChange → LogOverlayLocal → LogChange
-withLocal Index l k =
-    record { «local_index» = k; «local_values» = l .«local_values»; «local_ref_count» = l .«local_ref_count»; «record_id» = l .«record_id»; «dropped_tables» = l .«dropped_tables»; «dropped_ref_count_tables» = l .«dropped_ref_count_tables» }
-withLocal Value l k =
-    record { «local_index» = l .«local_index»; «local_values» = k; «local_ref_count» = l .«local_ref_count»; «record_id» = l .«record_id»; «dropped_tables» = l .«dropped_tables»; «dropped_ref_count_tables» = l .«dropped_ref_count_tables» }
-withLocal RefCount l k =
-    record { «local_index» = l .«local_index»; «local_values» = l .«local_values»; «local_ref_count» = k; «record_id» = l .«record_id»; «dropped_tables» = l .«dropped_tables»; «dropped_ref_count_tables» = l .«dropped_ref_count_tables» }
-
--- the list afterwards
-unfoldable pub listBy : Plan → TableKind → LogChange → ℕ → ℕ → ℕ → ℕ → LogChange
-listBy (Refuse a) kind l number index sub len = l
-listBy (Replace p) kind l number index sub len = withLocal kind l (keyOver kind (localOf kind l) p number index (l .«record_id») sub len)
-listBy (Append j) kind l number index sub len = withLocal kind l (keyNext kind (localOf kind l) j number index (l .«record_id») sub len)
-
--- the local memory afterwards: "take the whole new chunk"
-unfoldable pub memoryBy : Plan → TableKind → LogOverlayLocal → List ℕ → List ℕ → List ℕ
-memoryBy (Refuse a) kind k local bytes = local
-memoryBy (Replace p) kind k local bytes = paste local (slotAt kind p) bytes (length bytes)
-memoryBy (Append j) kind k local bytes = paste local (slotAt kind (k .count)) bytes (length bytes)
-
--- an insert of bytes under a table's number and an index, at a slot: the answer with the list, and the local memory
-abbrev pub inserted : TableKind → Directory → LogChange → List ℕ → ℕ → ℕ → ℕ → List ℕ → Changed
-inserted kind d l local number index sub bytes =
-    record { answer = answerBy (planOf kind d l (length local) number index sub (length bytes)); list = listBy (planOf kind d l (length local) number index sub (length bytes)) kind l number index sub (length bytes) }
-
-abbrev pub localAfter : TableKind → Directory → LogChange → List ℕ → ℕ → ℕ → ℕ → List ℕ → List ℕ
-localAfter kind d l local number index sub bytes =
-    memoryBy (planOf kind d l (length local) number index sub (length bytes)) kind (localOf kind l) local bytes
+-- "Order in every call: 13", then as above
+unfoldable pub inserted : TableKind → Directory → Change → ℕ → ℕ → ℕ → List ℕ → Made
+inserted kind d l number index sub bytes =
+    if changeKept d l then insertedKept kind d l number index sub bytes else notMade BadState l  -- 13

@@ -1,9 +1,9 @@
 // The drops of one kind, in call order, repeats kept.
 ghost use mathlib.Core.Path.{_≡_};
-ghost use Prim.Native.Nat.{_<_};
+ghost use Prim.Native.Nat.{_<_, _≤_};
 ghost use Rattle.directory.specs.Directory.{tablesOf, stands};
-ghost use Rattle.change.specs.Listed.{noDrops, dropsKept};
-ghost use Rattle.change.specs.Drop.{dropsWith, dropped};
+ghost use Rattle.change.specs.Change.{noDrops, dropsFit};
+ghost use Rattle.change.specs.Drop.{dropsWith, droppedIn};
 use answer::Answer;
 use directory::Directory;
 use directory::Found;
@@ -14,6 +14,7 @@ pub struct Drops {
     pub count: usize,
 }
 
+// An answer, with the drops as they then are.
 pub struct Dropped {
     pub answer: Answer,
     pub drops: Drops,
@@ -38,13 +39,12 @@ impl Drops {
         }
     }
 
-    pub fn kept(self, directory: Directory, kind: TableKind) -> bool
-        ensures { λ r. ⌜ r ≡ dropsKept directory kind self ⌝ }
+    // Whether each is of a table of the directory.
+    pub(crate) fn fit(self, directory: Directory, kind: TableKind) -> bool
+        requires { ⌜ self .count ≤ 16 ⌝ }
+        ensures { λ r. ⌜ r ≡ dropsFit directory kind self ⌝ }
     {
         let n = self.count;
-        if 16 < n {
-            return false;
-        }
         let mut i: usize = 0;
         while i < n {
             if !is_there(directory, kind, self.tables[i]) {
@@ -55,6 +55,7 @@ impl Drops {
         true
     }
 
+    // One more.
     fn with(self, number: u16) -> Drops
         requires { ⌜ self .count < 16 ⌝ }
         ensures { λ r. ⌜ r ≡ dropsWith self number ⌝ }
@@ -66,8 +67,9 @@ impl Drops {
         s
     }
 
+    // 6, 9.
     pub(crate) fn dropped(self, directory: Directory, kind: TableKind, number: u16) -> Dropped
-        ensures { λ r. ⌜ r ≡ Rattle.change.specs.Drop.dropped directory kind self number ⌝ }
+        ensures { λ r. ⌜ r ≡ droppedIn directory kind self number ⌝ }
     {
         if !is_there(directory, kind, number) {
             return Dropped {

@@ -1,12 +1,16 @@
-// The change list: what one record is to say, keys by value and bytes in lent local memory.
+// The change list: what one record is to say. By value its id, how many keys it has and its drops; its keys and bytes in two lent memories.
 mod change;
+mod dropping;
 mod drops;
-mod overlay;
-mod room;
+mod fits;
+mod inserts;
+mod marks;
+mod plans;
+mod size;
+mod values;
 
 pub use change::Changed;
 pub use change::LogChange;
 pub use drops::Drops;
-pub use overlay::LocalValues;
-pub use overlay::LogOverlayLocal;
-pub use room::slot_at;
+pub use size::Sized;
+pub use values::LocalValues;

@@ -2,4 +2,5 @@
 pub mod Again
 pub mod Cleared
 pub mod Meaning
+pub mod Opened
 pub mod Walk

@@ -8,12 +8,11 @@ use lib.Dec.{ltb}
 use lib.ListN.{getD, take, drop, length}
 use lib.Seq.{paste}
 use borrow.Author.Tests.{ltb-true, ltb-false, lt-ltb}
-use Rattle.directory.specs.Table.{unitOf}
 use Rattle.directory.specs.declared.table.TableKind.{TableKind}
 use Rattle.keys.specs.Keys.{rank, keyAt, idAt, markAt, rowPut, keysOf, every, ascends}
 use Rattle.keys.proofs.Places.{both, left-of, right-of, rule-under, rule-rises}
 use Rattle.keys.proofs.Kept.{table-here, index-here, id-here, mark-here, word-other}
-use Rattle.overlay.specs.Rules.{Overlay, slotSize, markRuled, rowRuled, overlayOf}
+use Rattle.overlay.specs.Rules.{storedLength, Overlay, slotSize, markRuled, rowRuled, listsOf}
 use Rattle.overlay.specs.Entries.{entryAt, entriesOf}
 use Rattle.overlay.proofs.Slots.{slot-in, paste-here, paste-before, paste-behind}
 use Rattle.overlay.proofs.Ruled.{Kept, unit-fits}
@@ -28,14 +27,14 @@ keys-are kind o = map-map keyOf (entryAt kind o) (take (o .count) (o .order))
 abbrev pub inUse : TableKind → Overlay → ℕ → Bool
 inUse kind o q = ltb q (o .count) && rowRuled kind (o .rows) q
 
-pub use-fits : (kind : TableKind) (o : Overlay) (q : ℕ) → inUse kind o q ≡ true → (q < o .count) × (unitOf kind (markAt (o .rows) q) ≤ slotSize kind)
+pub use-fits : (kind : TableKind) (o : Overlay) (q : ℕ) → inUse kind o q ≡ true → (q < o .count) × (storedLength kind (markAt (o .rows) q) ≤ slotSize kind)
 unfolding rowRuled
 use-fits kind o q e = (
   ltb-true q (o .count) (left-of (ltb q (o .count)) _ e),
   unit-fits kind (markAt (o .rows) q) (right-of (ltb (getD (o .rows) (4 * q) 0) 65536) _ (right-of (ltb q (o .count)) _ e)),
 )
 
-module _ (kind : TableKind) (o : Overlay) (k : Kept kind o) where
+module _ (kind : TableKind) (room : ℕ) (o : Overlay) (k : Kept kind room o) where
   pub used : every (inUse kind o) (take (o .count) (o .order)) ≡ true
   used = every-both (λ (q : ℕ). ltb q (o .count)) (rowRuled kind (o .rows)) (take (o .count) (o .order)) (rule-under (o .rows) (o .order) (o .count) (k .in-order)) (k .each)
 
@@ -54,18 +53,18 @@ module _ (kind : TableKind) (rows : List ℕ) (p t x id mark : ℕ) (fits : 4 * 
   rule-other q ne =
       rw (word-other rows p t x id mark fits q (4 * q) ne (omega arith) (omega arith), word-other rows p t x id mark fits q (4 * q + 3) ne (omega arith) (omega arith))
 
-module _ (kind : TableKind) (o : Overlay) (k : Kept kind o) (p t x id mark : ℕ) (v : List ℕ) (c : ℕ) (hp : p < 256) (cs : c ≤ slotSize kind) (cv : c ≤ length v)
+module _ (kind : TableKind) (room : ℕ) (o : Overlay) (k : Kept kind room o) (p t x id mark : ℕ) (v : List ℕ) (c : ℕ) (hp : p < room) (cs : c ≤ slotSize kind) (cv : c ≤ length v)
     (order : List ℕ) (n : ℕ) where
   abbrev after : Overlay
-  after = overlayOf (rowPut (o .rows) p t x id mark) order (paste (o .bytes) (slotSize kind * p) v c) n
+  after = listsOf (rowPut (o .rows) p t x id mark) order (paste (o .bytes) (slotSize kind * p) v c) n
 
   fits : 4 * p + 4 ≤ length (o .rows)
   fits = omega (arith, k .rows-long)
 
   pub slot-fits : slotSize kind * p + c ≤ length (o .bytes)
-  slot-fits = omega (arith, k .bytes-long, slot-in (slotSize kind) p 256 hp)
+  slot-fits = omega (arith, k .bytes-long, slot-in (slotSize kind) p room hp)
 
-  pub entry-here : unitOf kind mark ≤ c → entryAt kind after p ≡ record { key = rank t x; id = id; mark = mark; bytes = take (unitOf kind mark) v }
+  pub entry-here : storedLength kind mark ≤ c → entryAt kind after p ≡ record { key = rank t x; id = id; mark = mark; bytes = take (storedLength kind mark) v }
   unfolding entryAt
   entry-here h =
       rw (
@@ -73,10 +72,10 @@ module _ (kind : TableKind) (o : Overlay) (k : Kept kind o) (p t x id mark : ℕ
         index-here (o .rows) p t x id mark fits,
         id-here (o .rows) p t x id mark fits,
         mark-here (o .rows) p t x id mark fits,
-        paste-here (o .bytes) (slotSize kind * p) v c slot-fits cv (unitOf kind mark) h,
+        paste-here (o .bytes) (slotSize kind * p) v c slot-fits cv (storedLength kind mark) h,
       )
 
-  pub entry-other : (q : ℕ) → unitOf kind (markAt (o .rows) q) ≤ slotSize kind → (q ≡ p → ⊥) → entryAt kind after q ≡ entryAt kind o q
+  pub entry-other : (q : ℕ) → storedLength kind (markAt (o .rows) q) ≤ slotSize kind → (q ≡ p → ⊥) → entryAt kind after q ≡ entryAt kind o q
   unfolding entryAt
   entry-other q h ne =
       rw (word (4 * q) (omega arith) (omega arith), word (4 * q + 1) (omega arith) (omega arith), word (4 * q + 2) (omega arith) (omega arith), word (4 * q + 3) (omega arith) (omega arith))
@@ -89,9 +88,9 @@ module _ (kind : TableKind) (o : Overlay) (k : Kept kind o) (p t x id mark : ℕ
       lt a b = omega arith
 
       by : (b : Bool) → ltb q p ≡ b
-          → take (unitOf kind (markAt (o .rows) q)) (drop (slotSize kind * q) (paste (o .bytes) (slotSize kind * p) v c)) ≡ take (unitOf kind (markAt (o .rows) q)) (drop (slotSize kind * q) (o .bytes))
+          → take (storedLength kind (markAt (o .rows) q)) (drop (slotSize kind * q) (paste (o .bytes) (slotSize kind * p) v c)) ≡ take (storedLength kind (markAt (o .rows) q)) (drop (slotSize kind * q) (o .bytes))
       by true e =
-          paste-before (o .bytes) (slotSize kind * p) v c slot-fits cv (unitOf kind (markAt (o .rows) q)) (slotSize kind * q) (omega (arith, h, slot-in (slotSize kind) q p (ltb-true q p e)))
+          paste-before (o .bytes) (slotSize kind * p) v c slot-fits cv (storedLength kind (markAt (o .rows) q)) (slotSize kind * q) (omega (arith, h, slot-in (slotSize kind) q p (ltb-true q p e)))
       by false e =
-          ap (take (unitOf kind (markAt (o .rows) q)))
+          ap (take (storedLength kind (markAt (o .rows) q)))
           (paste-behind (o .bytes) (slotSize kind * p) v c slot-fits cv (slotSize kind * q) (omega (arith, slot-in (slotSize kind) p q (lt (ltb-false q p e) ne))))

@@ -7,12 +7,11 @@ use native.Mathlib.Omega.{arith}
 use lib.Dec.{leb, eqb}
 use lib.ListN.{take, length}
 use borrow.Author.Tests.{leb-true, le-leb, eqb-true, eq-eqb}
-use Rattle.directory.specs.Table.{unitOf}
 use Rattle.directory.specs.declared.table.TableKind.{TableKind}
 use Rattle.directory.specs.declared.table.TableKind.the-variants.{Index, Value, RefCount}
 use Rattle.keys.specs.Keys.{every, ruled}
 use Rattle.keys.proofs.Places.{both, left-of, right-of}
-use Rattle.overlay.specs.Rules.{Overlay, sharedRoom, slotSize, markRuled, rowRuled, keysRuled, overlayKept}
+use Rattle.overlay.specs.Rules.{storedLength, Overlay, slotSize, markRuled, rowRuled, keysRuled, overlayKept}
 
 pub slot-most : (kind : TableKind) → slotSize kind ≤ 1024
 slot-most Index = omega arith
@@ -20,7 +19,7 @@ slot-most Value = omega arith
 slot-most RefCount = omega arith
 
 -- what a ruled mark stands for fits a slot
-pub unit-fits : (kind : TableKind) (mark : ℕ) → markRuled kind mark ≡ true → unitOf kind mark ≤ slotSize kind
+pub unit-fits : (kind : TableKind) (mark : ℕ) → markRuled kind mark ≡ true → storedLength kind mark ≤ slotSize kind
 unit-fits Index mark e = omega arith
 unit-fits Value mark e = leb-true mark 512 (right-of (leb 1 mark) _ e)
 unit-fits RefCount mark e = omega arith
@@ -38,34 +37,34 @@ module _ (kind : TableKind) (room : ℕ) (rows order : List ℕ) (n : ℕ) where
   unfolding keysRuled
   keys-each e = right-of (ruled rows order n) _ (right-of (leb n room) _ e)
 
-pub record Kept (kind : TableKind) (o : Overlay) : Type 0 where
-  pub rows-long : length (o .rows) ≡ 1024
-  pub order-long : length (o .order) ≡ 256
-  pub bytes-long : length (o .bytes) ≡ 256 * slotSize kind
-  pub room : o .count ≤ 256
+pub record Kept (kind : TableKind) (room : ℕ) (o : Overlay) : Type 0 where
+  pub rows-long : length (o .rows) ≡ 4 * room
+  pub order-long : length (o .order) ≡ room
+  pub bytes-long : length (o .bytes) ≡ slotSize kind * room
+  pub fits : o .count ≤ room
   pub in-order : ruled (o .rows) (o .order) (o .count) ≡ true
   pub each : every (rowRuled kind (o .rows)) (take (o .count) (o .order)) ≡ true
 
-module _ (kind : TableKind) (o : Overlay) where
-  pub shows : overlayKept kind o ≡ true → Kept kind o
+module _ (kind : TableKind) (room : ℕ) (o : Overlay) where
+  pub shows : overlayKept kind room o ≡ true → Kept kind room o
   unfolding overlayKept
   shows e =
-      let a = right-of (eqb (length (o .rows)) 1024) _ e in
-      let b = right-of (eqb (length (o .order)) 256) _ a in
-      let k = right-of (eqb (length (o .bytes)) (256 * slotSize kind)) _ b in
+      let a = right-of (eqb (length (o .rows)) (4 * room)) _ e in
+      let b = right-of (eqb (length (o .order)) room) _ a in
+      let k = right-of (eqb (length (o .bytes)) (slotSize kind * room)) _ b in
       record {
-        rows-long = eqb-true (length (o .rows)) 1024 (left-of (eqb (length (o .rows)) 1024) _ e);
-        order-long = eqb-true (length (o .order)) 256 (left-of (eqb (length (o .order)) 256) _ a);
-        bytes-long = eqb-true (length (o .bytes)) (256 * slotSize kind) (left-of (eqb (length (o .bytes)) (256 * slotSize kind)) _ b);
-        room = keys-room kind sharedRoom (o .rows) (o .order) (o .count) k;
-        in-order = keys-order kind sharedRoom (o .rows) (o .order) (o .count) k;
-        each = keys-each kind sharedRoom (o .rows) (o .order) (o .count) k;
+        rows-long = eqb-true (length (o .rows)) (4 * room) (left-of (eqb (length (o .rows)) (4 * room)) _ e);
+        order-long = eqb-true (length (o .order)) room (left-of (eqb (length (o .order)) room) _ a);
+        bytes-long = eqb-true (length (o .bytes)) (slotSize kind * room) (left-of (eqb (length (o .bytes)) (slotSize kind * room)) _ b);
+        fits = keys-room kind room (o .rows) (o .order) (o .count) k;
+        in-order = keys-order kind room (o .rows) (o .order) (o .count) k;
+        each = keys-each kind room (o .rows) (o .order) (o .count) k;
       }
 
-  pub makes : Kept kind o → overlayKept kind o ≡ true
+  pub makes : Kept kind room o → overlayKept kind room o ≡ true
   unfolding overlayKept keysRuled
   makes k =
-      both (eq-eqb (length (o .rows)) 1024 (k .rows-long))
-      (both (eq-eqb (length (o .order)) 256 (k .order-long))
-      (both (eq-eqb (length (o .bytes)) (256 * slotSize kind) (k .bytes-long))
-      (both (le-leb (o .count) sharedRoom (k .room)) (both (k .in-order) (k .each)))))
+      both (eq-eqb (length (o .rows)) (4 * room) (k .rows-long))
+      (both (eq-eqb (length (o .order)) room (k .order-long))
+      (both (eq-eqb (length (o .bytes)) (slotSize kind * room) (k .bytes-long))
+      (both (le-leb (o .count) room (k .fits)) (both (k .in-order) (k .each)))))

@@ -16,8 +16,9 @@ use Rattle.directory.specs.Directory.{directoryKept}
 use Rattle.directory.specs.declared.directory.Directory.{Directory}
 use Rattle.record.specs.Format.{Format, need, Got, stopped, got, readAt}
 use Rattle.record.specs.Record.{Item, inside, opening}
-use Rattle.record.specs.Next.{isEnd, forwardTo, readerAfter, stepped, beginning, opened, readerAt, stepOf}
+use Rattle.record.specs.Next.{refused, isEnd, forwardTo, readerAfter, stepped, beginning, opened, readerAt, openingOf, stepOf}
 use Rattle.answer.specs.declared.answer.Answer.{Answer}
+use Rattle.answer.specs.declared.answer.Answer.the-variants.{BadArgument}
 use Rattle.record.specs.declared.action.LogAction.{LogAction}
 use Rattle.record.specs.declared.reader.LogReader.{LogReader}
 use Rattle.record.specs.declared.reader.Stepped.{Stepped}
@@ -68,6 +69,13 @@ taken d log r s e = placed (ltb (length log) (r .position)) refl
     placed : (t : Bool) → ltb (length log) (r .position) ≡ t → Taken d log r s
     placed true q = let z : _≡_ {A = ℕ} 0 1 = cc (rw q at e) in absurd (omega arith)
     placed false q = record { fits = ltb-false (length log) (r .position) q; read = either (r .inside) refl q }
+
+-- ---- between records a step is an opening
+
+pub step-opens : (d : Directory) (log : List ℕ) (r : LogReader) → r .inside ≡ false → stepOf d log r ≡ openingOf log r
+unfolding stepOf openingOf
+step-opens d log r b =
+    ap (λ (x : Step). if ltb (length log) (r .position) then refused BadArgument else x) (if-false (r .inside) _ _ b)
 
 -- ---- it moves forward within the log
 

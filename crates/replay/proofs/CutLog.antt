@@ -12,12 +12,12 @@ use borrow.Author.Tests.{leb-true, leb-false, le-leb}
 use Rattle.words.specs.Choice.{if_then_else_}
 use Rattle.words.proofs.Choices.{if-true, if-false}
 use Rattle.directory.specs.declared.directory.Directory.{Directory}
-use Rattle.record.specs.Format.{Got, stopped, got}
 use Rattle.answer.specs.declared.answer.Answer.{Answer}
 use Rattle.answer.specs.declared.answer.Answer.the-variants.{EndOfLog}
 use Rattle.effect.specs.Effect.{Written, apply}
-use Rattle.replay.specs.Replay.{recordAt, tablesKept}
-use Rattle.replay.specs.Run.{Outcome, stops, lastId, byRecord, runFrom, runOf, byWhole, wholeWithin, wholeRecords, applyAll}
+use Rattle.answer.specs.Answer.{lastRecordId}
+use Rattle.replay.specs.Replay.{Walked, fault, walked, recordAt, tablesKept}
+use Rattle.replay.specs.Run.{Outcome, stops, byRecord, runFrom, runOf, byWhole, wholeWithin, wholeRecords, applyAll}
 use Rattle.replay.proofs.Cut.{record-cut}
 use Rattle.replay.proofs.Opening.{record-on}
 use Rattle.replay.proofs.Records.{run-enough}
@@ -32,11 +32,11 @@ module _ (d : Directory) (log : List ℕ) (k : ℕ) (cut : k ≤ length log) whe
   short = take k log
 
   -- a whole record that ends at k or before it stands in the cut log
-  down : (at expected : ℕ) (ws : List Written) (end : ℕ) → end ≤ k → recordAt d log at expected ≡ got ws end → recordAt d short at expected ≡ got ws end
+  down : (at expected : ℕ) (ws : List Written) (end : ℕ) → end ≤ k → recordAt d log at expected ≡ walked ws end → recordAt d short at expected ≡ walked ws end
   down at expected ws end h e = ap (λ (l : List ℕ). recordAt d l at expected) (sym (append-nil short)) ∙ record-cut d log [] k cut at expected ws end h e
 
   -- and a whole record of the cut log stands in the log, and ends at k or before it
-  up : (at expected : ℕ) (ws : List Written) (end : ℕ) → recordAt d short at expected ≡ got ws end → (recordAt d log at expected ≡ got ws end) × (end ≤ k)
+  up : (at expected : ℕ) (ws : List Written) (end : ℕ) → recordAt d short at expected ≡ walked ws end → (recordAt d log at expected ≡ walked ws end) × (end ≤ k)
   up at expected ws end e =
       let l : length short ≡ k = length-take-le k log cut in
       let o = record-on d short at expected ws end e in
@@ -46,11 +46,11 @@ module _ (d : Directory) (log : List ℕ) (k : ℕ) (cut : k ≤ length log) whe
       )
 
   -- where the log has no whole record that ends by k, the cut log has none
-  none : (at expected : ℕ) (g : Got (List Written)) → recordAt d short at expected ≡ g → ((ws : List Written) (end : ℕ) → recordAt d log at expected ≡ got ws end → end ≤ k → ⊥)
+  none : (at expected : ℕ) (g : Walked (List Written)) → recordAt d short at expected ≡ g → ((ws : List Written) (end : ℕ) → recordAt d log at expected ≡ walked ws end → end ≤ k → ⊥)
       → (on : ℕ → ℕ → ℕ → List ℕ → Outcome) (count : ℕ) (image : List ℕ) → Leaves d count image [] (byRecord d on at expected count image g)
   unfolding applyAll
-  none at expected (stopped answer) e h on count image = record { counts = omega arith; tables = refl }
-  none at expected (got ws end) e h on count image = let u = up at expected ws end e in absurd (h ws end (u .0) (u .1))
+  none at expected (fault x) e h on count image = record { counts = omega arith; tables = refl }
+  none at expected (walked ws end) e h on count image = let u = up at expected ws end e in absurd (h ws end (u .0) (u .1))
 
   -- the run over the cut log leaves what the log's records that end by k leave
   run-cut : (n at expected count : ℕ) (image : List ℕ) → Leaves d count image (wholeWithin n k d log at expected) (runFrom n d short at expected count image)
@@ -61,10 +61,10 @@ module _ (d : Directory) (log : List ℕ) (k : ℕ) (cut : k ≤ length log) whe
       Next : Type 0
       Next = (end : ℕ) (image : List ℕ) → Leaves d (count + 1) image (wholeWithin n k d log end (expected + 1)) (runFrom n d short end (expected + 1) (count + 1) image)
 
-      Goal : Got (List Written) → Type 0
+      Goal : Walked (List Written) → Type 0
       Goal g = Leaves d count image (byWhole (wholeWithin n k d log) k expected g) (byRecord d (runFrom n d short) at expected count image (recordAt d short at expected))
 
-      last : (ws : List Written) (end : ℕ) → recordAt d log at expected ≡ got ws end → (b : Bool) → leb end k ≡ b → (t : Bool) → eqb expected lastId ≡ t → Next → Goal (got ws end)
+      last : (ws : List Written) (end : ℕ) → recordAt d log at expected ≡ walked ws end → (b : Bool) → leb end k ≡ b → (t : Bool) → eqb expected lastRecordId ≡ t → Next → Goal (walked ws end)
       last ws end e true b true t ih =
           rw (down at expected ws end (leb-true end k b) e, b, t) (record { counts = omega arith; tables = refl })
       last ws end e true b false t ih =
@@ -75,10 +75,10 @@ module _ (d : Directory) (log : List ℕ) (k : ℕ) (cut : k ≤ length log) whe
           (none at expected (recordAt d short at expected) refl
           (λ vs x f l. let p : x ≡ end = cc (sym f ∙ e) in omega (arith, leb-false end k b)) (runFrom n d short) count image)
 
-      go : (g : Got (List Written)) → recordAt d log at expected ≡ g → Next → Goal g
-      go (stopped answer) e ih =
+      go : (g : Walked (List Written)) → recordAt d log at expected ≡ g → Next → Goal g
+      go (fault x) e ih =
           none at expected (recordAt d short at expected) refl (λ vs x f l. let z : _≡_ {A = ℕ} 0 1 = cc (sym f ∙ e) in omega arith) (runFrom n d short) count image
-      go (got ws end) e ih = last ws end e (leb end k) refl (eqb expected lastId) refl ih
+      go (walked ws end) e ih = last ws end e (leb end k) refl (eqb expected lastRecordId) refl ih
 
 module _ (d : Directory) (log : List ℕ) (at expected : ℕ) (image : List ℕ) (kept : tablesKept d image ≡ true) where
   run-is : (l : List ℕ) → runOf d l at expected image ≡ runFrom (suc (length l)) d l at expected 0 image

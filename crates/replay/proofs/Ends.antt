@@ -18,7 +18,7 @@ use Rattle.directory.specs.declared.table.TableKind.the-variants.{Index, Value,
 use Rattle.directory.specs.declared.directory.Directory.{Directory}
 use Rattle.record.specs.Format.{Format, need, refuse, give, Got, stopped, got, readAt, _>>=_}
 use Rattle.record.specs.Next.{isEnd}
-use Rattle.record.specs.Record.{Item, insertOf, dropIndex, dropRefCount, key, chunk, masked, value, valued, table, dropped, sumHolds, ended, insideBy, inside}
+use Rattle.record.specs.Record.{Item, insertOf, dropIndex, dropRefCount, key, chunk, maskedItem, value, valuedItem, table, droppedItem, sumHolds, endedItem, insideBy, inside}
 use Rattle.answer.specs.declared.answer.Answer.{Answer}
 use Rattle.answer.specs.declared.answer.Answer.the-variants.{Cut, WrongSum}
 use Rattle.record.specs.declared.action.LogAction.{LogAction}
@@ -53,16 +53,16 @@ no-end-insert Index t i = refl
 no-end-insert Value t i = refl
 no-end-insert RefCount t i = refl
 
-no-end-masked : (d : Directory) (kind : TableKind) (width : ℕ) → NoEnd (masked d kind width)
-unfolding masked chunk
+no-end-masked : (d : Directory) (kind : TableKind) (width : ℕ) → NoEnd (maskedItem d kind width)
+unfolding maskedItem chunk
 no-end-masked d kind width = no-end-bind (key d kind) (chunk kind width) (λ k bs more. no-end-insert kind (k .table) (k .index))
 
-no-end-valued : (d : Directory) → NoEnd (valued d)
-unfolding valued value
+no-end-valued : (d : Directory) → NoEnd (valuedItem d)
+unfolding valuedItem value
 no-end-valued d = no-end-bind (key d Value) value (λ k bs. refl)
 
-no-end-dropped : (d : Directory) (kind : TableKind) (action : ℕ → LogAction) → ((n : ℕ) → isEnd (action n) ≡ false) → NoEnd (dropped d kind action)
-unfolding dropped
+no-end-dropped : (d : Directory) (kind : TableKind) (action : ℕ → LogAction) → ((n : ℕ) → isEnd (action n) ≡ false) → NoEnd (droppedItem d kind action)
+unfolding droppedItem
 no-end-dropped d kind action h = no-end-bind (table d kind) (λ n. give (record { action = action n; payload = 0 })) h
 
 no-end-if : (b : Bool) (f g : Format Item) → NoEnd f → NoEnd g → NoEnd (if b then f else g)
@@ -93,7 +93,7 @@ pub record EndTag (at end : ℕ) (log : List ℕ) : Type 0 where
   pub tag : getD log at 0 ≡ 4
   pub closes : end ≡ at + 1 + 4
 
-ended-closes : (validate : Bool) (register at : ℕ) (log : List ℕ) (i : Item) (end : ℕ) → readAt (ended validate register) at log ≡ got i end → end ≡ at + 4
+ended-closes : (validate : Bool) (register at : ℕ) (log : List ℕ) (i : Item) (end : ℕ) → readAt (endedItem validate register) at log ≡ got i end → end ≡ at + 4
 ended-closes validate register at log i end e = go (ltb (length log - at) 4) refl
   where
     held : (b : Bool) → tested b (got (record { action = EndRecord; payload = 0 }) (at + 4)) WrongSum ≡ got i end → end ≡ at + 4
@@ -130,11 +130,11 @@ summing register at log (stopped answer) = stopped answer
 summing register at log (got i end) =
     if isEnd (i .action) then tested (eqb (littleAt 4 log (at + 1)) (finished (updated register (4 ∷ [])))) (got i end) WrongSum else got i end
 
-ended-sum : (register other at : ℕ) (log : List ℕ) → readAt (ended true register) (at + 1) log ≡ summing register at log (readAt (ended false other) (at + 1) log)
+ended-sum : (register other at : ℕ) (log : List ℕ) → readAt (endedItem true register) (at + 1) log ≡ summing register at log (readAt (endedItem false other) (at + 1) log)
 unfolding sumHolds
 ended-sum register other at log = go (ltb (length log - (at + 1)) 4) refl
   where
-    go : (t : Bool) → ltb (length log - (at + 1)) 4 ≡ t → readAt (ended true register) (at + 1) log ≡ summing register at log (readAt (ended false other) (at + 1) log)
+    go : (t : Bool) → ltb (length log - (at + 1)) 4 ≡ t → readAt (endedItem true register) (at + 1) log ≡ summing register at log (readAt (endedItem false other) (at + 1) log)
     go true q =
         let h : length log - (at + 1) < 4 = ltb-true (length log - (at + 1)) 4 q in
         ended-short (at + 1) log true register h ∙ ap (summing register at log) (sym (ended-short (at + 1) log false other h))

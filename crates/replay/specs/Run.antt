@@ -6,11 +6,11 @@ use lib.Dec.{eqb, leb}
 use lib.ListN.{length}
 use Rattle.words.specs.Choice.{if_then_else_}
 use Rattle.directory.specs.declared.directory.Directory.{Directory}
-use Rattle.record.specs.Format.{Got, stopped, got}
+use Rattle.answer.specs.Answer.{lastRecordId}
 use Rattle.answer.specs.declared.answer.Answer.{Answer}
 use Rattle.answer.specs.declared.answer.Answer.the-variants.{EndOfLog, UsedUp, BadState}
 use Rattle.effect.specs.Effect.{Written, apply}
-use Rattle.replay.specs.Replay.{recordAt, tablesKept}
+use Rattle.replay.specs.Replay.{Walked, fault, walked, recordAt, tablesKept}
 use Rattle.replay.specs.declared.many_records.Ran.{Ran}
 
 -- what a run leaves
@@ -21,15 +21,11 @@ pub record Outcome : Type 0 where
 abbrev pub stops : Answer → ℕ → ℕ → List ℕ → Outcome
 stops answer position count image = record { ran = record { answer = answer; position = position; count = count }; image = image }
 
--- 2^64 - 1
-abbrev pub lastId : ℕ
-lastId = 18446744073709551615
-
 -- after a record: the stop, or its effect, "After id 2^64-1 it stops with 12", or on with the next id
-abbrev pub byRecord : Directory → (ℕ → ℕ → ℕ → List ℕ → Outcome) → ℕ → ℕ → ℕ → List ℕ → Got (List Written) → Outcome
-byRecord d on at expected count image (stopped answer) = stops answer at count image
-byRecord d on at expected count image (got ws end) =
-    if eqb expected lastId then stops UsedUp end (count + 1) (apply d ws image) else
+abbrev pub byRecord : Directory → (ℕ → ℕ → ℕ → List ℕ → Outcome) → ℕ → ℕ → ℕ → List ℕ → Walked (List Written) → Outcome
+byRecord d on at expected count image (fault x) = stops (x .answer) at count image
+byRecord d on at expected count image (walked ws end) =
+    if eqb expected lastRecordId then stops UsedUp end (count + 1) (apply d ws image) else
     on end (expected + 1) (count + 1) (apply d ws image)
 
 -- from a position, an expected id and a count so far; at most n records
@@ -37,20 +33,21 @@ unfoldable pub runFrom : ℕ → Directory → List ℕ → ℕ → ℕ → ℕ 
 runFrom zero d log at expected count image = stops EndOfLog at count image
 runFrom (suc n) d log at expected count image = byRecord d (runFrom n d log) at expected count image (recordAt d log at expected)
 
--- a record takes a byte or more, so no more are due than the log has bytes
+-- a record takes a byte or more, so no more are due than the log has bytes: the bound is never met (`run-enough`, proofs/Records)
+abbrev pub runIn : Directory → List ℕ → ℕ → ℕ → ℕ → List ℕ → Outcome
+runIn d log at expected count image = runFrom (suc (length log)) d log at expected count image
+
 unfoldable pub runOf : Directory → List ℕ → ℕ → ℕ → List ℕ → Outcome
-runOf d log at expected image =
-    if tablesKept d image then runFrom (suc (length log)) d log at expected 0 image else
-    stops BadState at 0 image
+runOf d log at expected image = if tablesKept d image then runIn d log at expected 0 image else stops BadState at 0 image
 
 -- ---- what a run is held against: the records themselves
 
 -- "the whole acceptable ones": from a position and an expected id, the records one behind the other that end at byte k or before it, the
 -- ids rising by 1 up to the last; at most n
-abbrev pub byWhole : (ℕ → ℕ → List (List Written)) → ℕ → ℕ → Got (List Written) → List (List Written)
-byWhole on k expected (stopped answer) = []
-byWhole on k expected (got ws end) =
-    if leb end k then ws ∷ (if eqb expected lastId then [] else on end (expected + 1)) else []
+abbrev pub byWhole : (ℕ → ℕ → List (List Written)) → ℕ → ℕ → Walked (List Written) → List (List Written)
+byWhole on k expected (fault x) = []
+byWhole on k expected (walked ws end) =
+    if leb end k then ws ∷ (if eqb expected lastRecordId then [] else on end (expected + 1)) else []
 
 unfoldable pub wholeWithin : ℕ → ℕ → Directory → List ℕ → ℕ → ℕ → List (List Written)
 wholeWithin zero k d log at expected = []

@@ -5,7 +5,7 @@ use native.Mathlib.Omega.{arith}
 use denote.Ref.{now}
 use lib.ListN.{length, length-set, take, drop}
 use lib.Seq.{paste, paste-zero}
-use Rattle.overlay.proofs.Slots.{slot-le, slot-in, slot-turn}
+use Rattle.overlay.proofs.Slots.{slot-le, slot-turn, paste-self}
 use Rattle.overlay.proofs.place.slot_move.Statement.{statement}
 use Rattle.overlay.proofs.place.slot_move.Tie as tie
 
@@ -15,26 +15,29 @@ Inv-loop bytes₀ s q p from to i₀ bytes i = (i ≤ s) × (length bytes ≡ le
 abbrev μ-loop : tie.MeasureT-loop
 μ-loop bytes₀ s q p from to i₀ bytes i = s - i
 
+returns : tie.Need-returns Inv-loop μ-loop
+returns c = let a = c .before .args in rw (c .if1 .taken) (paste-self (now (a .bytes)) (a .s * a .q) (a .s))
+
 mul-from : tie.Need-mul-from Inv-loop μ-loop
-mul-from c = omega (arith, slot-in (c .args .s) (c .args .q) 256 (omega arith))
+mul-from c = omega arith
 
 mul-to : tie.Need-mul-to Inv-loop μ-loop
-mul-to c = omega (arith, slot-in (c .args .s) (c .args .p) 256 (omega arith))
+mul-to c = omega (arith, slot-le (c .before .args .s) (c .before .args .p) (c .before .args .q) (c .before .pre .0))
 
 loop-holds : tie.Need-loop-holds Inv-loop μ-loop
-loop-holds c = let a = c .args in (omega arith, refl, paste-zero (now (a .bytes)) (a .s * a .p) (take (a .s) (drop (a .s * a .q) (now (a .bytes)))))
+loop-holds c = let a = c .before .args in (omega arith, refl, paste-zero (now (a .bytes)) (a .s * a .p) (take (a .s) (drop (a .s * a .q) (now (a .bytes)))))
 
 add-v : tie.Need-add-v Inv-loop μ-loop
-add-v c = omega (arith, slot-in (c .before .before .args .s) (c .before .before .args .q) 256 (omega arith))
+add-v c = omega arith
 
 slice-read-v : tie.Need-slice-read-v Inv-loop μ-loop
-slice-read-v c = omega (arith, slot-in (c .before .before .before .args .s) (c .before .before .before .args .q) 256 (omega arith))
+slice-read-v c = omega arith
 
 add-bytes : tie.Need-add-bytes Inv-loop μ-loop
-add-bytes c = omega (arith, slot-in (c .before .before .before .args .s) (c .before .before .before .args .p) 256 (omega arith))
+add-bytes c = omega (arith, slot-le (c .before .before .before .before .args .s) (c .before .before .before .before .args .p) (c .before .before .before .before .args .q) (c .before .before .before .before .pre .0))
 
 slice-write-bytes : tie.Need-slice-write-bytes Inv-loop μ-loop
-slice-write-bytes c = omega (arith, slot-in (c .before .before .before .args .s) (c .before .before .before .args .p) 256 (omega arith))
+slice-write-bytes c = omega (arith, slot-le (c .before .before .before .before .args .s) (c .before .before .before .before .args .p) (c .before .before .before .before .args .q) (c .before .before .before .before .pre .0))
 
 add-i : tie.Need-add-i Inv-loop μ-loop
 add-i c = omega arith
@@ -45,19 +48,19 @@ loop-less c = omega arith
 loop-again : tie.Need-loop-again Inv-loop μ-loop
 loop-again c =
     let l = c .before .before .loop in
-    let a = c .before .before .before .args in (
+    let a = c .before .before .before .before .args in (
       omega arith,
       length-set (l .bytes) _ _ ∙ l .inv .1,
-      rw (l .inv .2) (slot-turn (now (a .bytes)) (a .s) (a .s * a .q) (a .s * a .p) (l .i) (omega arith) (slot-le (a .s) (a .p) (a .q) (omega arith)) (omega (arith, slot-in (a .s) (a .q) 256 (omega arith)))),
+      rw (l .inv .2) (slot-turn (now (a .bytes)) (a .s) (a .s * a .q) (a .s * a .p) (l .i) (omega arith) (slot-le (a .s) (a .p) (a .q) (omega arith)) (omega arith)),
     )
 
 same-length : tie.Need-same-length Inv-loop μ-loop
 same-length c = c .before .loop .inv .1
 
-returns : tie.Need-returns Inv-loop μ-loop
-returns c =
+returns-2 : tie.Need-returns-2 Inv-loop μ-loop
+returns-2 c =
     let l = c .before .loop in
-    let e : l .i ≡ c .before .before .args .s = omega arith in
+    let e : l .i ≡ c .before .before .before .args .s = omega arith in
     l .inv .2 ∙ rw e
 
 pub slot-move-spec : {M : Type 1} → statement M
@@ -66,6 +69,7 @@ slot-move-spec =
     (tie.spec
     Inv-loop
     μ-loop
+    returns
     mul-from
     mul-to
     loop-holds
@@ -77,4 +81,4 @@ slot-move-spec =
     loop-less
     loop-again
     same-length
-    returns)
+    returns-2)

@@ -5,7 +5,7 @@ use mathlib.Core.Path.{_≡_, refl, sym, ap, _∙_}
 use Prim.Native.Nat.{ℕ, _+_}
 use native.Mathlib.Omega.{arith}
 use Rattle.record.specs.Format.{Got, got, readAt}
-use Rattle.record.specs.Parts.{gotItem}
+use Rattle.record.specs.Inner.{gotItem}
 use Rattle.record.specs.Next.{stepped}
 use Rattle.record.specs.Record.{Item, inside}
 use Rattle.record.specs.declared.item.ItemAnswer.{ItemAnswer}

@@ -4,7 +4,7 @@ use mathlib.Core.Path.{_≡_, refl, sym, ap, _∙_}
 use Prim.Native.Nat.{ℕ, _+_}
 use native.Mathlib.Omega.{arith}
 use Rattle.record.specs.Format.{Got, got, readAt}
-use Rattle.record.specs.Parts.{gotId}
+use Rattle.record.specs.Inner.{gotId}
 use Rattle.record.specs.Next.{opened}
 use Rattle.record.specs.Record.{opening}
 use Rattle.record.specs.declared.opening.IdAnswer.{IdAnswer}
