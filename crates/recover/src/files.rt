@@ -2,14 +2,14 @@
 ghost use Prim.Native.Nat.{_+_, _≤_};
 ghost use mathlib.Core.Path.{_≡_};
 ghost use lib.ListN.{length};
+use super::fault::tell_fault;
 use super::message::tell;
 use super::message::tell_lengths;
-use super::text::directory_of;
-use super::text::empty;
-use super::window::fill;
 use directory::Directory;
+use directory_text::directory_of;
 use libc::SEEK_END;
 use libc::SEEK_SET;
+use log_input::fill;
 
 // The longest text of a directory, and a byte more, by which a longer one shows.
 pub const TEXT_ROOM: usize = 65537;
@@ -28,7 +28,7 @@ pub enum Image {
 
 fn refused() -> Read {
     Read {
-        directory: empty(),
+        directory: Directory::new(),
         good: false,
     }
 }
@@ -37,7 +37,7 @@ fn read_text(path: &[u8], text: &[u8]) -> Read {
     let parsed = directory_of(text);
     let fault = parsed.fault;
     if fault.is_any() {
-        fault.tell(path, parsed.line);
+        tell_fault(fault, path, parsed.line);
         return refused();
     }
     let directory = parsed.directory;
