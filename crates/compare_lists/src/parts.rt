@@ -58,7 +58,13 @@ fn with_entry_in(list: LogChange, kind: TableKind, row: Forged, local: &mut [u8]
             after.local_values = now;
         }
         TableKind::RefCount => {
-            let now = with_key(list.local_ref_count, &mut local[32768..49152], 16, kind, row);
+            let now = with_key(
+                list.local_ref_count,
+                &mut local[32768..49152],
+                16,
+                kind,
+                row,
+            );
             after.local_ref_count = now;
         }
     }
@@ -127,14 +133,24 @@ pub fn put_entries(
     let ref_count = list.local_ref_count;
     let b = put_part(answer, at, TableKind::Index, index, &all[0..16384]);
     let c = put_part(answer, b, TableKind::Value, values, &all[16384..32768]);
-    put_part(answer, c, TableKind::RefCount, ref_count, &all[32768..49152])
+    put_part(
+        answer,
+        c,
+        TableKind::RefCount,
+        ref_count,
+        &all[32768..49152],
+    )
+}
+
+fn wide(number: u16) -> u64 {
+    number as u64
 }
 
 fn wide_numbers(tables: [u16; 16]) -> [u64; 16] {
     let mut numbers = [0u64; 16];
     let mut i = 0;
     while i < 16 {
-        numbers[i] = tables[i] as u64;
+        numbers[i] = wide(tables[i]);
         i += 1;
     }
     numbers

@@ -79,13 +79,20 @@ pub fn clear_replay<'a>(
     replied(list, cleared, after, Reply::Line(1))
 }
 
+fn put_ids(answer: &mut [u8; 65536], at: usize, ids: &[u64; 8]) -> usize
+    requires { ⌜ at ≤ 4000 ⌝ }
+    ensures { λ r. ⌜ r ≤ 5000 ⌝ }
+{
+    put_all(answer, at, ids, 8, 8, 8)
+}
+
 // The last ids of the columns.
 fn put_last_ids(answer: &mut [u8; 65536], at: usize, overlays: LogOverlays) -> usize
     requires { ⌜ at ≤ 4000 ⌝ }
     ensures { λ r. ⌜ r ≤ 5000 ⌝ }
 {
     let ids = overlays.last_record_ids;
-    put_all(answer, at, &ids, 8, 8, 8)
+    put_ids(answer, at, &ids)
 }
 
 pub fn state(queues: Queues, living: Living, command: &[u8], answer: &mut [u8; 65536]) -> Reply {

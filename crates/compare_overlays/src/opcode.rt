@@ -2,7 +2,7 @@
 ghost use Prim.Native.Nat.{_≤_};
 ghost use lib.ListN.{length};
 use super::lookups::value_into;
-use super::parts::keyed;
+use super::parts::on_kind;
 use super::parts::put_overlays;
 use change::LogChange;
 use compare_lines::Fault;
@@ -61,9 +61,22 @@ fn by_kind(
         return replied(overlays, Reply::Broken(Fault::UnknownKind));
     }
     let kind = kind_of(command[1]);
-    keyed(
-        list, overlays, kind, command, local, irows, iorder, ibytes, vrows, vorder, vbytes, crows,
-        corder, cbytes, answer,
+    on_kind(
+        list,
+        overlays,
+        kind,
+        command,
+        local,
+        irows,
+        iorder,
+        ibytes,
+        vrows,
+        vorder,
+        vbytes,
+        crows,
+        corder,
+        cbytes,
+        answer,
     )
 }
 
@@ -89,24 +102,70 @@ pub fn serve(
     let opcode = command[0];
     match opcode {
         0x1a => by_kind(
-            list, overlays, 13, command, local, irows, iorder, ibytes, vrows, vorder, vbytes, crows,
-            corder, cbytes, answer,
+            list,
+            overlays,
+            13,
+            command,
+            local,
+            irows,
+            iorder,
+            ibytes,
+            vrows,
+            vorder,
+            vbytes,
+            crows,
+            corder,
+            cbytes,
+            answer,
         ),
         0x1b => replied(
             overlays,
-            value_into(list, overlays, command, local, vrows, vorder, vbytes, room, answer),
+            value_into(
+                list,
+                overlays,
+                command,
+                local,
+                vrows,
+                vorder,
+                vbytes,
+                room,
+                answer,
+            ),
         ),
         0x1d => replied(
             overlays,
             put_overlays(
-                overlays, command, irows, iorder, ibytes, vrows, vorder, vbytes, crows, corder,
-                cbytes, answer,
+                overlays,
+                command,
+                irows,
+                iorder,
+                ibytes,
+                vrows,
+                vorder,
+                vbytes,
+                crows,
+                corder,
+                cbytes,
+                answer,
             ),
         ),
         0x1e => replied(overlays, last_id(overlays, command, answer)),
         0x22 => by_kind(
-            list, overlays, 31, command, local, irows, iorder, ibytes, vrows, vorder, vbytes, crows,
-            corder, cbytes, answer,
+            list,
+            overlays,
+            31,
+            command,
+            local,
+            irows,
+            iorder,
+            ibytes,
+            vrows,
+            vorder,
+            vbytes,
+            crows,
+            corder,
+            cbytes,
+            answer,
         ),
         _ => replied(overlays, Reply::Unknown),
     }

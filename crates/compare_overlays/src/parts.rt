@@ -48,7 +48,7 @@ fn one_kind(
     }
 }
 
-pub fn keyed(
+pub fn on_kind(
     list: LogChange,
     overlays: LogOverlays,
     kind: TableKind,
@@ -131,6 +131,14 @@ pub fn put_overlays<'a>(
     let ref_count = overlays.ref_count;
     let a = put_part(answer, 0, TableKind::Index, irows, iorder, ibytes, index);
     let b = put_part(answer, a, TableKind::Value, vrows, vorder, vbytes, value);
-    let end = put_part(answer, b, TableKind::RefCount, crows, corder, cbytes, ref_count);
+    let end = put_part(
+        answer,
+        b,
+        TableKind::RefCount,
+        crows,
+        corder,
+        cbytes,
+        ref_count,
+    );
     Reply::Line(end as u16)
 }

@@ -85,7 +85,21 @@ fn overlay(
     let living = session.living;
     let before = living.overlays;
     let done = compare_overlays::serve(
-        list, before, command, local, written, irows, iorder, ibytes, vrows, vorder, vbytes, crows, corder, cbytes, answer,
+        list,
+        before,
+        command,
+        local,
+        written,
+        irows,
+        iorder,
+        ibytes,
+        vrows,
+        vorder,
+        vbytes,
+        crows,
+        corder,
+        cbytes,
+        answer,
     );
     let after = done.overlays;
     let mut kept = session;
@@ -199,7 +213,20 @@ pub fn serve(
         return by_list;
     }
     let by_overlays = overlay(
-        session, command, local, written, irows, iorder, ibytes, vrows, vorder, vbytes, crows, corder, cbytes, answer,
+        session,
+        command,
+        local,
+        written,
+        irows,
+        iorder,
+        ibytes,
+        vrows,
+        vorder,
+        vbytes,
+        crows,
+        corder,
+        cbytes,
+        answer,
     );
     let reply = by_overlays.reply;
     if is_known(reply) {

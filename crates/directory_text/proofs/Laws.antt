@@ -1,16 +1,17 @@
 -- Laws of scanning. Assumes nothing.
 use mathlib.Core.Path.{_≡_, refl, sym, ap, ap₂, _∙_}
-use mathlib.Core.Bool.{Bool, true, false, not}
+use mathlib.Core.Bool.{Bool, true, false, not, _&&_}
 use mathlib.Core.List.{List, [], _∷_}
 use Prim.Native.Nat.{ℕ, zero, suc, _+_, _-_, _≤_, _<_}
 use native.Mathlib.Nat.{add-zero}
 use native.Mathlib.Numerals.{add-one}
 use native.Mathlib.Omega.{arith}
+use borrow.Author.Tests.{eq-eqb, ne-eqb}
 use lib.Dec.{eqb}
 use lib.ListN.{length, take, drop, getD, drop-of-length-le, length-drop}
 use lib.Seq.{drop-drop, drop-cons, length-take-le}
 use Rattle.words.specs.Choice.{if_then_else_}
-use Rattle.directory_text.specs.Scan.{passes, front, behind, wordOf, behindWord, isNone, sameBytes, onFirst, linesOf}
+use Rattle.directory_text.specs.Scan.{isBlank, passes, front, behind, wordOf, behindWord, isNone, sameBytes, onFirst, linesOf}
 use Rattle.directory_text.specs.declared.scan.Pass.the-variants.{Blanks, Word, Before}
 
 -- one byte of a scan, by its test
@@ -116,3 +117,44 @@ unfolding linesOf
 no-line text at h =
     let e : drop at text ≡ [] = drop-of-length-le text {i = at} h in
     rw e
+
+-- whether two words are one
+and-false : (t s : Bool) → false ≡ s → false ≡ t && s
+and-false true s e = e
+and-false false s e = refl
+
+pub unlike : (a b : List ℕ) → (length a ≡ length b → ⊥) → false ≡ sameBytes a b
+unfolding sameBytes
+unlike [] [] n = absurd (n refl)
+unlike [] (b ∷ bs) n = refl
+unlike (a ∷ l) [] n = refl
+unlike (a ∷ l) (b ∷ bs) n = and-false (eqb a b) (sameBytes l bs) (unlike l bs (λ e. n (ap suc e)))
+
+module _ (a b : List ℕ) (i : ℕ) (h : i < length a) (k : i < length b) where
+  pub same-goes : getD a i 0 ≡ getD b i 0 → sameBytes (drop i a) (drop i b) ≡ sameBytes (drop (i + 1) a) (drop (i + 1) b)
+  unfolding sameBytes
+  same-goes e = rw (add-one i, drop-cons a i 0 h, drop-cons b i 0 k, eq-eqb (getD a i 0) (getD b i 0) e)
+
+  pub same-stops : (getD a i 0 ≡ getD b i 0 → ⊥) → sameBytes (drop i a) (drop i b) ≡ false
+  unfolding sameBytes
+  same-stops n = rw (drop-cons a i 0 h, drop-cons b i 0 k, ne-eqb (getD a i 0) (getD b i 0) n)
+
+pub same-ends : (a b : List ℕ) (i : ℕ) → length a ≤ i → length b ≤ i → sameBytes (drop i a) (drop i b) ≡ true
+unfolding sameBytes
+same-ends a b i h k =
+    let d : drop i a ≡ [] = drop-of-length-le a {i = i} h in
+    let e : drop i b ≡ [] = drop-of-length-le b {i = i} k in
+    rw (d, e)
+
+-- a blank, by its tests
+pub space : (b : ℕ) → b ≡ 32 → true ≡ isBlank b
+unfolding isBlank
+space b e = rw e
+
+pub tab : (b : ℕ) → b ≡ 9 → true ≡ isBlank b
+unfolding isBlank
+tab b e = rw e
+
+pub no-space : (b : ℕ) → (b ≡ 32 → ⊥) → (b ≡ 9 → ⊥) → eqb b 13 ≡ isBlank b
+unfolding isBlank
+no-space b n m = rw (ne-eqb b 32 n, ne-eqb b 9 m)

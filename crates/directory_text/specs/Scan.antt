@@ -43,8 +43,8 @@ isNone (b ∷ bs) = false
 unfoldable pub sameBytes : List ℕ → List ℕ → Bool
 sameBytes [] [] = true
 sameBytes [] (b ∷ bs) = false
-sameBytes (a ∷ as) [] = false
-sameBytes (a ∷ as) (b ∷ bs) = eqb a b && sameBytes as bs
+sameBytes (a ∷ l) [] = false
+sameBytes (a ∷ l) (b ∷ bs) = eqb a b && sameBytes l bs
 
 -- a byte in front of the first line
 unfoldable pub onFirst : ℕ → List (List ℕ) → List (List ℕ)

@@ -55,7 +55,7 @@ fn with_table(directory: Directory, table: TableDescription, line: u64) -> Parse
     Parsed {
         directory: longer,
         line: line,
-        fault: fault,
+        fault: Fault::None,
     }
 }
 
