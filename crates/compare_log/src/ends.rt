@@ -1,4 +1,6 @@
 // END: a record ended.
+ghost use Prim.Native.Nat.{_≤_};
+ghost use lib.ListN.{length};
 use super::lived::Lived;
 use super::lived::Living;
 use super::lived::replied;
@@ -12,6 +14,49 @@ use directory::Directory;
 use ending::Ended;
 use files::FileSource;
 use files::Queues;
+use overlay::LogOverlays;
+
+// The output is the front of its room.
+fn end_onto(
+    directory: Directory,
+    list: LogChange,
+    local: &[u8],
+    overlays: LogOverlays,
+    irows: &mut [u64],
+    iorder: &mut [u64],
+    ibytes: &mut [u8],
+    vrows: &mut [u64],
+    vorder: &mut [u64],
+    vbytes: &mut [u8],
+    crows: &mut [u64],
+    corder: &mut [u64],
+    cbytes: &mut [u8],
+    queues: Queues,
+    next: u64,
+    room: &mut [u8],
+    n: usize,
+) -> Ended
+    requires { ⌜ n ≤ length (now room) ⌝ }
+{
+    ending::end_record(
+        directory,
+        list,
+        local,
+        overlays,
+        irows,
+        iorder,
+        ibytes,
+        vrows,
+        vorder,
+        vbytes,
+        crows,
+        corder,
+        cbytes,
+        queues,
+        next,
+        &mut room[0..n],
+    )
+}
 
 fn source_of(source: FileSource) -> u64 {
     match source {
@@ -44,7 +89,7 @@ pub fn end(
     directory: Directory,
     command: &[u8],
     local: &[u8; 49152],
-    room: &mut [u8],
+    room: &mut [u8; 60000],
     irows: &mut [u64; 1024],
     iorder: &mut [u64; 256],
     ibytes: &mut [u8; 131072],
@@ -60,13 +105,13 @@ pub fn end(
         return replied(list, queues, living, wrong_length(command.len(), 5));
     }
     let n = words::u32_at(command, 1) as usize;
-    if room.len() < n {
+    if 60000 < n {
         return replied(list, queues, living, Reply::Broken(Fault::LongOutput));
     }
     compare_lines::fill(room, 0, n, 0x5a);
     let before = living.overlays;
     let next = living.next_record_id;
-    let done = ending::end_record(
+    let done = end_onto(
         directory,
         list,
         local,
@@ -82,7 +127,8 @@ pub fn end(
         cbytes,
         queues,
         next,
-        &mut room[0..n],
+        room,
+        n,
     );
     let overlays = done.overlays;
     let taken = done.queues;

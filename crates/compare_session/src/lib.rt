@@ -1,7 +1,7 @@
 // The run protocol without its lines: what is kept from command to command, and one command served.
-mod serve;
+mod opcode;
 mod session;
 
-pub use serve::serve;
+pub use opcode::serve;
 pub use session::Served;
 pub use session::Session;

@@ -1,7 +1,7 @@
 -- Laws of a line's numbers. Assumes nothing.
 use mathlib.Core.Path.{_≡_, refl, sym, ap, ap₂, _∙_}
 use mathlib.Core.Bool.{true, false}
-use mathlib.Core.List.{List, []}
+use mathlib.Core.List.{List, [], _∷_}
 use Prim.Native.Nat.{ℕ, _+_, _-_, _≤_, _<_, zero-le}
 use lib.ListN.{length, take, drop, length-drop}
 use native.Mathlib.Omega.{arith}
@@ -9,9 +9,10 @@ use borrow.Author.Tests.{lt-ltb, le-ltb}
 use Rattle.words.specs.Choice.{if_then_else_}
 use Rattle.words.proofs.Choices.{if-true, if-false}
 use Rattle.directory.specs.Table.{description}
+use Rattle.directory.specs.declared.table.TableDescription.{TableDescription}
 use Rattle.directory.specs.declared.table.TableKind.{TableKind}
 use Rattle.directory.specs.declared.table.TableKind.the-variants.{Index, Value, RefCount}
-use Rattle.directory_text.specs.Scan.{passes, front, behind, wordOf, behindWord, isNone}
+use Rattle.directory_text.specs.Scan.{passes, front, behind, wordOf, behindWord, isNone, sameBytes}
 use Rattle.directory_text.specs.Number.{numberOf}
 use Rattle.directory_text.specs.Line.{isAny, fitted, numberIn, lengthIn, tableIn, kindIn, codeIn, lineIn}
 use Rattle.directory_text.specs.Inner.{orLine, onTaken, stopped, Fitted, Took, TookBehind, TookLength, Ended}
@@ -47,14 +48,14 @@ fit-is which most next v e h =
 
 -- the next word: none, or one that is a number or not
 module _ (code : List ℕ) (from start end : ℕ) (b : start ≡ from + length (front (passes Blanks) (drop from code))) (w : end ≡ start + length (front (passes Word) (drop start code))) (which most : ℕ) (within : end ≤ length code) where
-  pub took-none : start ≡ end → Took code from which most (stopped end (fault.Missing which))
+  pub took-none : {t : Taken} → start ≡ end → t ≡ stopped end (fault.Missing which) → Took code from which most t
   unfolding orLine onTaken numberIn
-  took-none e =
-      record {
+  took-none e f =
+      rw f (record {
         small = zero-le;
         within = within;
         same = λ go. if-true (isNone (wordOf (drop from code))) _ _ (no-word code from start end b w e);
-      }
+      })
 
   pub took-one : {t : Taken} → (start ≡ end → ⊥) → start ≤ end → Fitted (numberOf (take (end - start) (drop start code))) which most end t → Took code from which most t
   unfolding onTaken numberIn
@@ -72,14 +73,14 @@ module _ (code : List ℕ) (from start end : ℕ) (b : start ≡ from + length (
 
 -- behind a number that is at fault, or that isn't
 module _ (code : List ℕ) (before : Taken) (within : before .next ≤ length code) where
-  pub behind-fault : (which most : ℕ) → isAny (before .fault) ≡ true → TookBehind code before which most (stopped (before .next) (before .fault))
+  pub behind-fault : {t : Taken} (which most : ℕ) → isAny (before .fault) ≡ true → t ≡ stopped (before .next) (before .fault) → TookBehind code before which most t
   unfolding orLine onTaken
-  behind-fault which most e =
-      record {
+  behind-fault which most e f =
+      rw f (record {
         small = zero-le;
         within = within;
         same = λ go. if-true (isAny (before .fault)) _ _ e ∙ sym (if-true (isAny (before .fault)) _ _ e);
-      }
+      })
 
   pub behind-number : {t : Taken} (which most : ℕ) → isAny (before .fault) ≡ false → Took code (before .next) which most t → TookBehind code before which most t
   unfolding orLine
@@ -122,10 +123,38 @@ module _ (code : List ℕ) (last : Taken) (r : ℕ) (e : isAny (last .fault) ≡
       record { same = λ l. if-false (isAny (last .fault)) _ _ e ∙ if-true _ _ _ n }
 
 -- the four numbers of a line, one behind the other
-pub table-of : (code : List ℕ) (from : ℕ) (kind : TableKind) (n c k l : Taken) (f : Fault) → Took code from 1 65535 n → TookBehind code n 2 255 c → TookBehind code c 3 65535 k → TookLength code k kind l → Ended code l f → tableIn kind (drop from code) ≡ orLine f (line.Table (description kind (n .value) (c .value) (k .value) (l .value)))
-unfolding tableIn onTaken
-table-of code from kind n c k l f tn tc tk tl e =
-    tn .same _ ∙ tc .same _ ∙ tk .same _ ∙ tl .same _ ∙ e .same _
+module _ (code : List ℕ) (from : ℕ) (kind : TableKind) (n c k l : Taken) (f : Fault) (tn : Took code from 1 65535 n) (tc : TookBehind code n 2 255 c) (tk : TookBehind code c 3 65535 k) (tl : TookLength code k kind l) (e : Ended code l f) where
+  table-of : tableIn kind (drop from code) ≡ orLine f (line.Table (description kind (n .value) (c .value) (k .value) (l .value)))
+  unfolding tableIn onTaken
+  table-of = tn .same _ ∙ tc .same _ ∙ tk .same _ ∙ tl .same _ ∙ e .same _
+
+  pub table-faulty : isAny f ≡ true → line.Broken f ≡ tableIn kind (drop from code)
+  unfolding orLine
+  table-faulty a = sym (table-of ∙ if-true _ _ _ a)
+
+  pub table-whole : {t : TableDescription} → isAny f ≡ false → t ≡ description kind (n .value) (c .value) (k .value) (l .value) → line.Table t ≡ tableIn kind (drop from code)
+  unfolding orLine
+  table-whole a d = ap line.Table d ∙ sym (table-of ∙ if-false _ _ _ a)
+
+-- a line by its first word
+module _ (word bs : List ℕ) {l : Line} where
+  pub is-index : sameBytes word (105 ∷ 110 ∷ 100 ∷ 101 ∷ 120 ∷ []) ≡ true → l ≡ tableIn Index bs → l ≡ kindIn word bs
+  unfolding kindIn
+  is-index a e = e ∙ sym (if-true _ _ _ a)
+
+  module _ (i : sameBytes word (105 ∷ 110 ∷ 100 ∷ 101 ∷ 120 ∷ []) ≡ false) where
+    pub is-value : sameBytes word (118 ∷ 97 ∷ 108 ∷ 117 ∷ 101 ∷ []) ≡ true → l ≡ tableIn Value bs → l ≡ kindIn word bs
+    unfolding kindIn
+    is-value a e = e ∙ sym (if-false _ _ _ i ∙ if-true _ _ _ a)
+
+    module _ (v : sameBytes word (118 ∷ 97 ∷ 108 ∷ 117 ∷ 101 ∷ []) ≡ false) where
+      pub is-count : sameBytes word (114 ∷ 101 ∷ 102 ∷ 99 ∷ 111 ∷ 117 ∷ 110 ∷ 116 ∷ []) ≡ true → l ≡ tableIn RefCount bs → l ≡ kindIn word bs
+      unfolding kindIn
+      is-count a e = e ∙ sym (if-false _ _ _ i ∙ if-false _ _ _ v ∙ if-true _ _ _ a)
+
+pub no-kind : (word bs : List ℕ) → sameBytes word (105 ∷ 110 ∷ 100 ∷ 101 ∷ 120 ∷ []) ≡ false → sameBytes word (118 ∷ 97 ∷ 108 ∷ 117 ∷ 101 ∷ []) ≡ false → sameBytes word (114 ∷ 101 ∷ 102 ∷ 99 ∷ 111 ∷ 117 ∷ 110 ∷ 116 ∷ []) ≡ false → line.Broken fault.UnknownKind ≡ kindIn word bs
+unfolding kindIn
+no-kind word bs i v r = sym (if-false _ _ _ i ∙ if-false _ _ _ v ∙ if-false _ _ _ r)
 
 -- a line without its comment
 module _ (code : List ℕ) (start end : ℕ) (b : start ≡ 0 + length (front (passes Blanks) (drop 0 code))) (w : end ≡ start + length (front (passes Word) (drop start code))) where

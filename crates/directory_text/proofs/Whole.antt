@@ -10,7 +10,7 @@ use lib.ListN.{length, take, drop}
 use Rattle.words.specs.Choice.{if_then_else_}
 use Rattle.words.proofs.Choices.{if-true, if-false}
 use Rattle.directory.specs.Table.{tableKept}
-use Rattle.directory.specs.Directory.{findTable}
+use Rattle.directory.specs.Directory.{noTables, findTable}
 use Rattle.directory.specs.declared.table.TableDescription.{TableDescription}
 use Rattle.directory.specs.declared.directory.Directory.{Directory}
 use Rattle.directory.specs.declared.directory.Found.the-variants.{At, Nothing}
@@ -49,12 +49,21 @@ module _ (d : Directory) (t : TableDescription) where
   below true x e = let z : _≡_ {A = ℕ} 0 1 = cc in absurd (omega arith)
   below false x e = refl
 
-  pub has-room : isAny (faultOf d t) ≡ false → d .count < 16
+  pub has-room : (f : Fault) → f ≡ faultOf d t → isAny f ≡ false → d .count < 16
   unfolding faultOf
-  has-room e = leb-false 16 (d .count) (below (leb 16 (d .count)) _ e)
+  has-room f g e = leb-false 16 (d .count) (below (leb 16 (d .count)) _ (ap isAny (sym g) ∙ e))
+
+  module _ (n : ℕ) {f : Fault} (g : f ≡ faultOf d t) where
+    pub table-refused : isAny f ≡ true → at-line d n f ≡ withTable d t n
+    unfolding withTable
+    table-refused e = ap (at-line d n) g ∙ sym (if-true _ _ _ (ap isAny (sym g) ∙ e))
+
+    pub table-added : isAny f ≡ false → at-line (added d t) n fault.None ≡ withTable d t n
+    unfolding withTable
+    table-added e = sym (if-false _ _ _ (ap isAny (sym g) ∙ e))
 
 -- one line more
-module _ {d : Directory} {bs : List ℕ} {n : ℕ} where
+module _ (d : Directory) (bs : List ℕ) (n : ℕ) where
   pub empty-line : lineIn bs ≡ line.Empty → at-line d n fault.None ≡ withLine d bs n
   unfolding withLine ofLine
   empty-line e = rw e
@@ -108,3 +117,7 @@ module _ (text : List ℕ) (at end : ℕ) (p q : Parsed) (h : at < length text) 
 pub lines-end : (text : List ℕ) (at : ℕ) (p : Parsed) → length text ≤ at → fromLines p (linesOf (drop at text)) ≡ parsed text → p ≡ parsed text
 unfolding fromLines
 lines-end text at p h e = sym (rw (no-line text at h)) ∙ e
+
+pub all-lines : (text : List ℕ) {d : Directory} → d ≡ noTables → fromLines (at-line d 0 fault.None) (linesOf (drop 0 text)) ≡ parsed text
+unfolding parsed
+all-lines text e = rw e

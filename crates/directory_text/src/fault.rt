@@ -21,7 +21,14 @@ impl Fault {
     {
         match self {
             Fault::None => false,
-            _ => true,
+            Fault::UnknownKind => true,
+            Fault::Missing(_) => true,
+            Fault::NotDecimal(_) => true,
+            Fault::TooLarge(_) => true,
+            Fault::MoreWords => true,
+            Fault::SeventeenthTable => true,
+            Fault::RuleBroken => true,
+            Fault::NameTaken => true,
         }
     }
 }

@@ -14,11 +14,14 @@ pub const ROOM: usize = 2097152;
 // Nothing says that a file ends, so a loop over it counts its turns down from a number that no run uses up.
 const TURNS: u64 = 18446744073709551615;
 
-// Where a run over a file stopped, from the file's front, and how many records it replayed.
+// Where a run over a file stopped, from the file's front, how many records it replayed, the id expected next, and the one
+// that stands there if a record begins.
 pub struct Stop {
     pub answer: Answer,
     pub position: u64,
     pub count: u64,
+    pub expected: u64,
+    pub found: u64,
 }
 
 pub enum Outcome {
@@ -78,6 +81,17 @@ fn needs_more(answer: Answer) -> bool {
     }
 }
 
+// The id behind the tag at a place.
+fn id_at(bytes: &[u8], at: usize) -> u64 {
+    if bytes.len() < 9 {
+        return 0;
+    }
+    if bytes.len() - 9 < at {
+        return 0;
+    }
+    words::u64_at(bytes, at + 1)
+}
+
 // A full window in which nothing can be replayed: the record passes it if the file goes on.
 fn full(file: i32, stop: Stop) -> Outcome {
     let mut one = [0u8; 1];
@@ -119,6 +133,8 @@ pub fn replay_file(
             answer: answer,
             position: position,
             count: count,
+            expected: std::num::wrapping_add_u64(first, count),
+            found: id_at(bytes, ran.position),
         };
         if held < ROOM {
             return Outcome::At(stop);

@@ -20,6 +20,7 @@ use log_input::Stop;
 use log_input::replay_file;
 use message::tell;
 use message::tell_answer;
+use message::tell_ids;
 use message::tell_lengths;
 use message::tell_record;
 
@@ -40,6 +41,9 @@ fn finish(stop: Stop, path: &[u8], is_new: bool, image: &[u8])
     io::print_decimal(STDOUT_FILENO, stop.count);
     io::write_all(STDOUT_FILENO, b"\n");
     tell_answer(answer, stop.position);
+    if answer.number() == 5 {
+        tell_ids(stop.found, stop.expected);
+    }
 }
 
 fn replay_onto(

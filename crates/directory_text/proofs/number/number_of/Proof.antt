@@ -63,13 +63,15 @@ digit-of-requires : tie.Need-digit-of-requires Inv-loop μ-loop
 digit-of-requires c κs = search needs
 
 returns-2 : tie.Need-returns-2 Inv-loop μ-loop
-returns-2 c = ?
+returns-2 c =
+    no-digit (c .before .before .before .before .before .before .before .args .word .now) (c .before .before .before .before .loop .i) (c .before .before .before .before .loop .number) (c .before .digit-of .result) _ (omega arith) (c .before .digit-of .ensures .0) (c .before .before .before .before .loop .inv .1) (omega arith)
 
 sub-if3 : tie.Need-sub-if3 Inv-loop μ-loop
 sub-if3 c = omega arith
 
 returns-3 : tie.Need-returns-3 Inv-loop μ-loop
-returns-3 c = ?
+returns-3 c =
+    too-large (c .before .before .before .before .before .before .before .before .args .word .now) (c .before .before .before .before .before .loop .i) (c .before .before .before .before .before .loop .number) (c .before .before .digit-of .result) _ (omega arith) (c .before .before .digit-of .ensures .0) (c .before .before .before .before .before .loop .inv .1) (omega arith) (omega arith)
 
 mul-number : tie.Need-mul-number Inv-loop μ-loop
 mul-number c = omega arith
@@ -84,10 +86,11 @@ loop-less : tie.Need-loop-less Inv-loop μ-loop
 loop-less c = omega arith
 
 loop-again : tie.Need-loop-again Inv-loop μ-loop
-loop-again c = ?
+loop-again c =
+    (omega arith, goes (c .before .before .before .before .before .before .before .before .args .word .now) (c .before .before .before .before .before .loop .i) (c .before .before .before .before .before .loop .number) (c .before .before .digit-of .result) _ (omega arith) (c .before .before .digit-of .ensures .0) (c .before .before .before .before .before .loop .inv .1) (omega arith) (omega arith))
 
 returns-4 : tie.Need-returns-4 Inv-loop μ-loop
-returns-4 c = ?
+returns-4 c = done (c .before .before .before .before .args .word .now) (c .before .loop .i) (c .before .loop .number) _ (omega arith) (c .before .loop .inv .1)
 
 pub number-of-spec : {M : Type 1} → statement M
 number-of-spec =

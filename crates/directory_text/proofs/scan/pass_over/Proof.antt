@@ -34,14 +34,21 @@ loop-less c = omega arith
 
 loop-again : tie.Need-loop-again Inv-loop μ-loop
 loop-again c =
-    (omega arith, omega arith, omega (arith, front-goes _ _ _ (omega arith) (sym (c .before .is-passed .ensures) ∙ not-false _ (c .if1 .left)), c .before .before .before .before .loop .inv .2))
+    let a = c .before .before .before .before .before .before .args in
+    let e = front-goes (passes (a .pass)) (a .text .now) (c .before .before .before .before .loop .at) (omega arith) (sym (c .before .is-passed .ensures) ∙ not-false _ (c .if1 .left)) in
+    (omega arith, omega arith, omega (arith, e, c .before .before .before .before .loop .inv .2))
 
 returns : tie.Need-returns Inv-loop μ-loop
 returns c =
-    (omega arith, omega arith, omega (arith, front-stops _ _ _ (omega arith) (sym (c .before .is-passed .ensures) ∙ not-true _ (c .if1 .taken)), c .before .before .before .before .loop .inv .2))
+    let a = c .before .before .before .args in
+    let e = front-end (passes (a .pass)) (a .text .now) (c .before .loop .at) (omega arith) in
+    (omega arith, omega arith, omega (arith, e, c .before .loop .inv .2))
 
 returns-2 : tie.Need-returns-2 Inv-loop μ-loop
-returns-2 c = (omega arith, omega arith, omega (arith, front-end _ _ _ (omega arith), c .before .loop .inv .2))
+returns-2 c =
+    let a = c .before .before .before .before .before .before .args in
+    let e = front-stops (passes (a .pass)) (a .text .now) (c .before .before .before .before .loop .at) (omega arith) (sym (c .before .is-passed .ensures) ∙ not-true _ (c .if1 .taken)) in
+    (omega arith, omega arith, omega (arith, e, c .before .before .before .before .loop .inv .2))
 
 pub pass-over-spec : {M : Type 1} → statement M
 pass-over-spec =

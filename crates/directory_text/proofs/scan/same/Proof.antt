@@ -28,7 +28,9 @@ shared-slice-read-if2-2 : tie.Need-shared-slice-read-if2-2 Inv-loop μ-loop
 shared-slice-read-if2-2 c = omega arith
 
 returns-2 : tie.Need-returns-2 Inv-loop μ-loop
-returns-2 c = ?
+returns-2 c =
+    let a = c .before .before .before .before .before .before .args in
+    sym (same-stops (a .word .now) (a .other .now) (c .before .before .before .before .loop .i) (omega arith) (omega arith) (c .if2 .taken)) ∙ c .before .before .before .before .loop .inv .2
 
 add-i : tie.Need-add-i Inv-loop μ-loop
 add-i c = omega arith
@@ -37,10 +39,14 @@ loop-less : tie.Need-loop-less Inv-loop μ-loop
 loop-less c = omega arith
 
 loop-again : tie.Need-loop-again Inv-loop μ-loop
-loop-again c = (omega arith, omega arith, ?)
+loop-again c =
+    let a = c .before .before .before .before .before .before .args in
+    (omega arith, omega arith, sym (same-goes (a .word .now) (a .other .now) (c .before .before .before .before .loop .i) (omega arith) (omega arith) (c .if2 .left)) ∙ c .before .before .before .before .loop .inv .2)
 
 returns-3 : tie.Need-returns-3 Inv-loop μ-loop
-returns-3 c = sym (same-ends _ _ _ (omega arith) (omega arith)) ∙ c .before .loop .inv .2
+returns-3 c =
+    let a = c .before .before .before .args in
+    sym (same-ends (a .word .now) (a .other .now) (c .before .loop .i) (omega arith) (omega arith)) ∙ c .before .loop .inv .2
 
 pub same-spec : {M : Type 1} → statement M
 same-spec =

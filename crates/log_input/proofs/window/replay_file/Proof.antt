@@ -45,6 +45,12 @@ wrapping-add-u64-requires-2 c κs = search needs
 wrapping-add-u64-requires-3 : tie.Need-wrapping-add-u64-requires-3 Inv-loop μ-loop
 wrapping-add-u64-requires-3 c κs = search needs
 
+wrapping-add-u64-requires-4 : tie.Need-wrapping-add-u64-requires-4 Inv-loop μ-loop
+wrapping-add-u64-requires-4 c κs = search needs
+
+id-at-requires : tie.Need-id-at-requires Inv-loop μ-loop
+id-at-requires c κs = search needs
+
 same-length-2 : tie.Need-same-length-2 Inv-loop μ-loop
 same-length-2 c = search needs
 
@@ -104,6 +110,8 @@ replay-file-spec =
     run-requires
     wrapping-add-u64-requires-2
     wrapping-add-u64-requires-3
+    wrapping-add-u64-requires-4
+    id-at-requires
     same-length-2
     returns-2
     needs-more-requires

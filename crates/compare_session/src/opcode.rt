@@ -176,6 +176,66 @@ fn is_known(reply: Reply) -> bool {
     }
 }
 
+// The commands over the overlays, and those of the log.
+fn serve_log(
+    session: Session,
+    command: &[u8],
+    log: &[u8; 80000],
+    local: &[u8; 49152],
+    written: &mut [u8; 60000],
+    irows: &mut [u64; 1024],
+    iorder: &mut [u64; 256],
+    ibytes: &mut [u8; 131072],
+    vrows: &mut [u64; 1024],
+    vorder: &mut [u64; 256],
+    vbytes: &mut [u8; 131072],
+    crows: &mut [u64; 1024],
+    corder: &mut [u64; 256],
+    cbytes: &mut [u8; 262144],
+    answer: &mut [u8; 65536],
+) -> Served
+    requires { ⌜ (Kept (session .reading)) × (1 ≤ length (now command)) ⌝ }
+    ensures { λ r. ⌜ Kept (r .session .reading) ⌝ }
+{
+    let by_overlays = overlay(
+        session,
+        command,
+        local,
+        written,
+        irows,
+        iorder,
+        ibytes,
+        vrows,
+        vorder,
+        vbytes,
+        crows,
+        corder,
+        cbytes,
+        answer,
+    );
+    let reply = by_overlays.reply;
+    if is_known(reply) {
+        return by_overlays;
+    }
+    live(
+        session,
+        command,
+        log,
+        local,
+        written,
+        irows,
+        iorder,
+        ibytes,
+        vrows,
+        vorder,
+        vbytes,
+        crows,
+        corder,
+        cbytes,
+        answer,
+    )
+}
+
 pub fn serve(
     session: Session,
     command: &[u8],
@@ -212,27 +272,7 @@ pub fn serve(
     if is_known(reply) {
         return by_list;
     }
-    let by_overlays = overlay(
-        session,
-        command,
-        local,
-        written,
-        irows,
-        iorder,
-        ibytes,
-        vrows,
-        vorder,
-        vbytes,
-        crows,
-        corder,
-        cbytes,
-        answer,
-    );
-    let reply = by_overlays.reply;
-    if is_known(reply) {
-        return by_overlays;
-    }
-    live(
+    serve_log(
         session,
         command,
         log,
