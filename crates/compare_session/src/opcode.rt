@@ -1,10 +1,9 @@
-// One command, handed from library to library until one knows its opcode.
+// One command, handed to the library that knows its opcode; the last one answers for those that none knows.
 ghost use Prim.Native.Nat.{_≤_};
 ghost use lib.ListN.{length};
 ghost use Rattle.compare_reading.specs.Bounds.{Kept};
 use super::session::Served;
 use super::session::Session;
-use compare_lines::Reply;
 
 fn read(
     session: Session,
@@ -62,7 +61,7 @@ fn list(
     kept.replied(reply)
 }
 
-fn overlay(
+fn on_overlays(
     session: Session,
     command: &[u8],
     local: &[u8; 49152],
@@ -168,74 +167,6 @@ fn live(
     kept.replied(reply)
 }
 
-fn is_known(reply: Reply) -> bool {
-    if let Reply::Unknown = reply {
-        false
-    } else {
-        true
-    }
-}
-
-// The commands over the overlays, and those of the log.
-fn serve_log(
-    session: Session,
-    command: &[u8],
-    log: &[u8; 80000],
-    local: &[u8; 49152],
-    written: &mut [u8; 60000],
-    irows: &mut [u64; 1024],
-    iorder: &mut [u64; 256],
-    ibytes: &mut [u8; 131072],
-    vrows: &mut [u64; 1024],
-    vorder: &mut [u64; 256],
-    vbytes: &mut [u8; 131072],
-    crows: &mut [u64; 1024],
-    corder: &mut [u64; 256],
-    cbytes: &mut [u8; 262144],
-    answer: &mut [u8; 65536],
-) -> Served
-    requires { ⌜ (Kept (session .reading)) × (1 ≤ length (now command)) ⌝ }
-    ensures { λ r. ⌜ Kept (r .session .reading) ⌝ }
-{
-    let by_overlays = overlay(
-        session,
-        command,
-        local,
-        written,
-        irows,
-        iorder,
-        ibytes,
-        vrows,
-        vorder,
-        vbytes,
-        crows,
-        corder,
-        cbytes,
-        answer,
-    );
-    let reply = by_overlays.reply;
-    if is_known(reply) {
-        return by_overlays;
-    }
-    live(
-        session,
-        command,
-        log,
-        local,
-        written,
-        irows,
-        iorder,
-        ibytes,
-        vrows,
-        vorder,
-        vbytes,
-        crows,
-        corder,
-        cbytes,
-        answer,
-    )
-}
-
 pub fn serve(
     session: Session,
     command: &[u8],
@@ -257,36 +188,43 @@ pub fn serve(
     requires { ⌜ (Kept (session .reading)) × (1 ≤ length (now command)) ⌝ }
     ensures { λ r. ⌜ Kept (r .session .reading) ⌝ }
 {
-    let by_reading = read(session, command, log, image, answer);
-    let reply = by_reading.reply;
-    if is_known(reply) {
-        return by_reading;
+    let opcode = command[0];
+    match opcode {
+        0x01..=0x04 | 0x0b..=0x0f => read(session, command, log, image, answer),
+        0x05..=0x0a | 0x21 | 0x23 | 0x24 | 0xf0 => list(session, command, local, written, answer),
+        0x14..=0x17 | 0x19 | 0x1f => queue(session, command, log, answer),
+        0x1a | 0x1b | 0x1d | 0x1e | 0x22 => on_overlays(
+            session,
+            command,
+            local,
+            written,
+            irows,
+            iorder,
+            ibytes,
+            vrows,
+            vorder,
+            vbytes,
+            crows,
+            corder,
+            cbytes,
+            answer,
+        ),
+        _ => live(
+            session,
+            command,
+            log,
+            local,
+            written,
+            irows,
+            iorder,
+            ibytes,
+            vrows,
+            vorder,
+            vbytes,
+            crows,
+            corder,
+            cbytes,
+            answer,
+        ),
     }
-    let by_queues = queue(session, command, log, answer);
-    let reply = by_queues.reply;
-    if is_known(reply) {
-        return by_queues;
-    }
-    let by_list = list(session, command, local, written, answer);
-    let reply = by_list.reply;
-    if is_known(reply) {
-        return by_list;
-    }
-    serve_log(
-        session,
-        command,
-        log,
-        local,
-        written,
-        irows,
-        iorder,
-        ibytes,
-        vrows,
-        vorder,
-        vbytes,
-        crows,
-        corder,
-        cbytes,
-        answer,
-    )
 }

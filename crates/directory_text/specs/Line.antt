@@ -58,7 +58,7 @@ tableIn kind bs =
     then line.Table (description kind n column count size)
     else line.Broken fault.MoreWords))))
 
--- a line by its first word, which is "index", "value" or "refcount", and what stands behind it
+-- a line by its first word, which is index, value or refcount, and what stands behind it
 unfoldable pub kindIn : List ℕ → List ℕ → Line
 kindIn word bs =
     if sameBytes word (105 ∷ 110 ∷ 100 ∷ 101 ∷ 120 ∷ [])
@@ -73,6 +73,6 @@ kindIn word bs =
 unfoldable pub codeIn : List ℕ → Line
 codeIn bs = if isNone (wordOf bs) then line.Empty else kindIn (wordOf bs) (behindWord bs)
 
--- "#" starts a comment
+-- the character # starts a comment
 unfoldable pub lineIn : List ℕ → Line
 lineIn bs = codeIn (front (passes (Before 35)) bs)

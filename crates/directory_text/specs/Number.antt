@@ -1,8 +1,7 @@
 -- Decimal numbers below 2^64, from a word's bytes. Assumes nothing.
-use mathlib.Core.Bool.{_&&_}
 use mathlib.Core.List.{List, [], _∷_}
 use Prim.Native.Nat.{ℕ, _+_, _*_, _-_}
-use lib.Dec.{leb, ltb}
+use lib.Dec.{ltb}
 use Rattle.words.specs.Choice.{if_then_else_}
 use Rattle.directory_text.specs.declared.number.Number.{Number}
 use Rattle.directory_text.specs.declared.number.Number.the-variants.{Is, NotDecimal, TooLarge}

@@ -1,4 +1,4 @@
--- A directory in its plain text form: "a line a table", parsed up to the first fault. Assumes nothing.
+-- A directory in its plain text form, a line a table, parsed up to the first fault. Assumes nothing.
 use mathlib.Core.Bool.{Bool, true, false, not}
 use mathlib.Core.List.{List, [], _∷_}
 use Prim.Native.Nat.{ℕ, _+_}

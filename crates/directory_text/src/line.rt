@@ -1,8 +1,6 @@
 // A line of the text.
 ghost use mathlib.Core.Path.{_≡_};
-ghost use mathlib.Core.Bool.{Bool};
-ghost use Prim.Native.Nat.{ℕ, _≤_};
-ghost use mathlib.Core.List.{List};
+ghost use Prim.Native.Nat.{_≤_};
 ghost use lib.ListN.{length, drop};
 ghost use Rattle.directory_text.specs.Line.{tableIn, kindIn, codeIn, lineIn};
 ghost use Rattle.directory_text.specs.Inner.{stopped, Fitted, Took, TookBehind, TookLength, Ended};
