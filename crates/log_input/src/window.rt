@@ -8,6 +8,7 @@ ghost use lib.ListN.{length};
 ghost use Rattle.log_input.specs.Bounds.{Within};
 use answer::Answer;
 use directory::Directory;
+use replay::Ran;
 
 pub const ROOM: usize = 2097152;
 
@@ -105,7 +106,19 @@ fn full(file: i32, stop: Stop) -> Outcome {
     Outcome::TooLong(stop.position)
 }
 
-// The sums don't wrap: no file has 2^64 bytes, and a run that stops with 1 or 2 has not used up the ids.
+// What a run over the bytes held adds. The sums don't wrap: no file has 2^64 bytes, and a run that stops with 1 or 2 has not
+// used up the ids.
+fn further(stop: Stop, ran: Ran, bytes: &[u8]) -> Stop {
+    let answer = ran.answer;
+    Stop {
+        answer: answer,
+        position: std::num::wrapping_add_u64(stop.position, ran.position as u64),
+        count: std::num::wrapping_add_u64(stop.count, ran.count),
+        expected: std::num::wrapping_add_u64(stop.expected, ran.count),
+        found: id_at(bytes, ran.position),
+    }
+}
+
 pub fn replay_file(
     file: i32,
     directory: Directory,
@@ -113,8 +126,13 @@ pub fn replay_file(
     window: &mut [u8; ROOM],
     image: &mut [u8],
 ) -> Outcome {
-    let mut position: u64 = 0;
-    let mut count: u64 = 0;
+    let mut stop = Stop {
+        answer: Answer::EndOfLog,
+        position: 0,
+        count: 0,
+        expected: first,
+        found: 0,
+    };
     let mut rest = 0;
     let mut turns = TURNS;
     while 0 < turns {
@@ -124,18 +142,9 @@ pub fn replay_file(
         }
         let held = filled.held;
         let bytes: &[u8] = window;
-        let id = std::num::wrapping_add_u64(first, count);
-        let ran = replay::run(directory, &bytes[0..held], 0, id, image);
-        position = std::num::wrapping_add_u64(position, ran.position as u64);
-        count = std::num::wrapping_add_u64(count, ran.count);
+        let ran = replay::run(directory, &bytes[0..held], 0, stop.expected, image);
+        stop = further(stop, ran, bytes);
         let answer = ran.answer;
-        let stop = Stop {
-            answer: answer,
-            position: position,
-            count: count,
-            expected: std::num::wrapping_add_u64(first, count),
-            found: id_at(bytes, ran.position),
-        };
         if held < ROOM {
             return Outcome::At(stop);
         }

@@ -7,10 +7,10 @@ use Rattle.log_input.proofs.window.replay_file.Statement.{statement}
 use Rattle.log_input.proofs.window.replay_file.Tie as tie
 
 abbrev Inv-loop : tie.InvT-loop
-Inv-loop file directory first window₀ image₀ position₀ count₀ rest₀ turns₀ window image position count rest turns = (rest ≤ 2097152) × (length image ≡ length image₀)
+Inv-loop file directory first window₀ image₀ stop₀ rest₀ turns₀ window image stop rest turns = (rest ≤ 2097152) × (length image ≡ length image₀)
 
 abbrev μ-loop : tie.MeasureT-loop
-μ-loop file directory first window₀ image₀ position₀ count₀ rest₀ turns₀ window image position count rest turns = turns
+μ-loop file directory first window₀ image₀ stop₀ rest₀ turns₀ window image stop rest turns = turns
 
 loop-holds : tie.Need-loop-holds Inv-loop μ-loop
 loop-holds c = search needs
@@ -24,9 +24,6 @@ same-length c = search needs
 returns : tie.Need-returns Inv-loop μ-loop
 returns c = search needs
 
-wrapping-add-u64-requires : tie.Need-wrapping-add-u64-requires Inv-loop μ-loop
-wrapping-add-u64-requires c κs = search needs
-
 sub-run : tie.Need-sub-run Inv-loop μ-loop
 sub-run c = search needs
 
@@ -39,17 +36,8 @@ part-run-end c = search needs
 run-requires : tie.Need-run-requires Inv-loop μ-loop
 run-requires c κs = search needs
 
-wrapping-add-u64-requires-2 : tie.Need-wrapping-add-u64-requires-2 Inv-loop μ-loop
-wrapping-add-u64-requires-2 c κs = search needs
-
-wrapping-add-u64-requires-3 : tie.Need-wrapping-add-u64-requires-3 Inv-loop μ-loop
-wrapping-add-u64-requires-3 c κs = search needs
-
-wrapping-add-u64-requires-4 : tie.Need-wrapping-add-u64-requires-4 Inv-loop μ-loop
-wrapping-add-u64-requires-4 c κs = search needs
-
-id-at-requires : tie.Need-id-at-requires Inv-loop μ-loop
-id-at-requires c κs = search needs
+further-requires : tie.Need-further-requires Inv-loop μ-loop
+further-requires c κs = search needs
 
 same-length-2 : tie.Need-same-length-2 Inv-loop μ-loop
 same-length-2 c = search needs
@@ -103,15 +91,11 @@ replay-file-spec =
     fill-requires
     same-length
     returns
-    wrapping-add-u64-requires
     sub-run
     part-run-start
     part-run-end
     run-requires
-    wrapping-add-u64-requires-2
-    wrapping-add-u64-requires-3
-    wrapping-add-u64-requires-4
-    id-at-requires
+    further-requires
     same-length-2
     returns-2
     needs-more-requires
