@@ -141,7 +141,7 @@ module _ (w m : ℕ) (bytes : List ℕ) (bits : m < 18446744073709551616) where
   sized : 64 * w ≤ length bytes → Entries w payload
   sized h =
       length-append (le 8 m) (setSlots 64 w m bytes)
-      ∙ ap₂ _+_ (length-le 8 m) (length-setSlots 64 w m bytes h ∙ ap (λ (x : ℕ). x * w) (ones-in 64 m bits ∙ ap ones (sym mask-is)))
+      ∙ ap₂ _+_ (length-le 8 m) (length-slots 64 w m bytes h ∙ ap (λ (x : ℕ). x * w) (ones-in 64 m bits ∙ ap ones (sym mask-is)))
 
 module _ (d : Directory) (kind : TableKind) (t i m : ℕ) (f : Fitting d kind t i m) where
   abbrev place : Place
