@@ -14,7 +14,8 @@ use Rattle.record.specs.Next.{readerAt}
 use Rattle.answer.specs.declared.answer.Answer.{Answer}
 use Rattle.answer.specs.declared.answer.Answer.the-variants.{EndOfLog}
 use Rattle.files.specs.Moves.{frontRead, readingCleaned}
-use Rattle.files.specs.Read.{openingAt, hasFile, nowReading, notRead, readBy, readNextKept}
+use Rattle.files.specs.Read.{openingAt, nowReading, notRead, readBy, readNextKept}
+use Rattle.files.specs.Inner.{hasFile}
 use Rattle.files.specs.declared.queues.Queues.{Queues}
 use Rattle.files.proofs.Rule.{Room}
 
