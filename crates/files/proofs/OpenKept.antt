@@ -30,7 +30,8 @@ use Rattle.found.proofs.Answers.{logs-told, logs-all}
 use Rattle.files.specs.Queues.{replayOf, sizeOf, filesOf, queuesKept}
 use Rattle.files.specs.Moves.{firstIds, readingCleaned}
 use Rattle.files.specs.Open.{openedWith, openLogs}
-use Rattle.files.specs.Read.{hasFile, nowReading, notRead, openingAt, readBy, readNextKept, readNext}
+use Rattle.files.specs.Read.{nowReading, notRead, openingAt, readBy, readNextKept, readNext}
+use Rattle.files.specs.Inner.{hasFile}
 use Rattle.files.specs.declared.queues.Queues.{Queues}
 use Rattle.files.specs.declared.read.ReadNext.{ReadNext}
 use Rattle.files.proofs.Rule.{Sized, Kept, kept-facts, kept-makes, behind-door}

@@ -1,6 +1,6 @@
 -- `read_next` (document 01, "File numbers"; log.rs 1038-1063).
 use Prim.Native.Nat.{ℕ}
-use mathlib.Core.Bool.{Bool, not, _||_}
+use mathlib.Core.Bool.{Bool}
 use mathlib.Core.List.{List}
 use lib.ListN.{length}
 use lib.Dec.{ltb, eqb}
@@ -25,11 +25,7 @@ openingAt log r =
     if ltb (length log) (r .position) then refused BadArgument else
     opened log r (readAt (opening (r .validate)) (r .position) log)
 
--- the file being read, or the read queue's front
-unfoldable pub hasFile : Queues → Bool
-hasFile q = q .reading .some || not (eqb (q .«read_queue» .count) 0)
-
--- that file is the one being read
+-- the file being read, or the read queue's front, is the one being read
 unfoldable pub nowReading : Queues → Queues
 nowReading q = if q .reading .some then q else frontRead q
 
