@@ -19,8 +19,8 @@ use Rattle.directory.specs.declared.table.TableDescription.{TableDescription}
 use Rattle.directory.specs.declared.directory.Directory.{Directory}
 use Rattle.directory.specs.declared.directory.Found.{Found}
 use Rattle.directory.specs.declared.directory.Found.the-variants.{At, Nothing}
+use Rattle.numbers.proofs.Laws.{left-of, right-of}
 use Rattle.keys.specs.Keys.{rank, markAt, ruled}
-use Rattle.keys.proofs.Places.{left-of, right-of}
 use Rattle.overlay.specs.Rules.{Overlay, slotSize, listsOf}
 use Rattle.overlay.specs.Overlay.{spotIn, standsIn, placeIn}
 use Rattle.overlay.specs.Inner.{seatIn}

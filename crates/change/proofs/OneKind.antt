@@ -8,8 +8,8 @@ use lib.ListN.{length}
 use borrow.Author.Tests.{le-leb}
 use Rattle.directory.specs.declared.table.TableKind.{TableKind}
 use Rattle.directory.specs.declared.table.TableKind.the-variants.{Index, Value, RefCount}
+use Rattle.numbers.proofs.Laws.{both}
 use Rattle.keys.specs.Keys.{ruled}
-use Rattle.keys.proofs.Places.{both}
 use Rattle.overlay.specs.Rules.{Overlay, rowsOf, orderOf, listsOf, overlayOf, keysRuled}
 use Rattle.overlay.proofs.Ruled.{Kept, shows}
 use Rattle.overlay.proofs.Parts.{words-long}

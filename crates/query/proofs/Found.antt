@@ -11,8 +11,8 @@ use lib.Seq.{length-take-le, getD-take}
 use borrow.Author.Tests.{leb-true, lt-ltb}
 use Rattle.directory.specs.declared.table.TableKind.{TableKind}
 use Rattle.directory.specs.declared.table.TableKind.the-variants.{Index, Value, RefCount}
+use Rattle.numbers.proofs.Laws.{left-of}
 use Rattle.keys.specs.Keys.{markAt}
-use Rattle.keys.proofs.Places.{left-of}
 use Rattle.overlay.specs.Rules.{Overlay, slotSize, storedLength, markRuled, overlayKept, rowsOf, overlayOf}
 use Rattle.overlay.specs.Overlay.{spotIn, standsIn}
 use Rattle.overlay.specs.Inner.{seatIn}

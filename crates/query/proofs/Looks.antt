@@ -11,8 +11,8 @@ use Rattle.words.specs.Choice.{if_then_else_}
 use Rattle.directory.specs.declared.table.TableKind.{TableKind}
 use Rattle.answer.specs.Answer.{numberOf}
 use Rattle.answer.specs.declared.answer.Answer.the-variants.{Done, BadState}
+use Rattle.numbers.proofs.Laws.{left-of, right-of}
 use Rattle.keys.specs.Keys.{rank}
-use Rattle.keys.proofs.Places.{left-of, right-of}
 use Rattle.overlay.specs.Rules.{Overlay, slotSize, storedLength, markRuled, overlayKept}
 use Rattle.overlay.specs.Overlay.{standsIn, putOver, removedFrom}
 use Rattle.overlay.specs.Entries.{Entry, entriesOf, findEntry, orElse}

@@ -18,7 +18,8 @@ use Rattle.directory.specs.declared.table.TableKind.{TableKind}
 use Rattle.directory.specs.declared.table.TableKind.the-variants.{Value}
 use Rattle.directory.specs.declared.directory.Directory.{Directory}
 use Rattle.effect.specs.Meaning.{bit}
-use Rattle.keys.specs.Keys.{rank, keyAt, markAt, has}
+use Rattle.numbers.specs.Numbers.{has}
+use Rattle.keys.specs.Keys.{rank, keyAt, markAt}
 use Rattle.keys.proofs.Rank.{rank-same}
 use Rattle.overlay.specs.Rules.{Overlay, slotSize, storedLength}
 use Rattle.overlay.specs.Entries.{Entry, entryAt, entriesOf, findEntry}

@@ -12,8 +12,10 @@ use Rattle.directory.specs.declared.directory.Directory.{Directory}
 use Rattle.effect.specs.Effect.{Written}
 use Rattle.effect.specs.Meaning.{says, lastSaid}
 use Rattle.effect.specs.Order.{Each}
-use Rattle.keys.specs.Keys.{has, every, above, ascends}
-use Rattle.keys.proofs.Places.{left-of, right-of, above-ascends}
+use Rattle.numbers.proofs.Sort.{above-ascends}
+use Rattle.numbers.proofs.Laws.{left-of, right-of}
+use Rattle.numbers.specs.Numbers.{has, above, ascends}
+use Rattle.keys.specs.Keys.{every}
 
 -- ---- members
 

@@ -28,7 +28,7 @@ use Rattle.effect.proofs.Exact.{record-said}
 use Rattle.effect.proofs.Places.{stands}
 use Rattle.effect.proofs.Reach.{Under, write-in}
 use Rattle.effect.proofs.Spots.{place-at}
-use Rattle.keys.proofs.Places.{both, left-of, right-of}
+use Rattle.numbers.proofs.Laws.{both, left-of, right-of}
 use Rattle.output.specs.Put.{le}
 use Rattle.output.proofs.Laws.{length-le, little-le}
 use Rattle.writer.specs.Bytes.{setSlots, maskedBytes, payloadOf}

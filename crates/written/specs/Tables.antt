@@ -14,7 +14,8 @@ use Rattle.directory.specs.declared.directory.Found.{Found}
 use Rattle.directory.specs.declared.directory.Found.the-variants.{At, Nothing}
 use Rattle.effect.specs.Meaning.{bit}
 use Rattle.replay.specs.Replay.{judged, imageAfter}
-use Rattle.keys.specs.Keys.{markAt, has}
+use Rattle.numbers.specs.Numbers.{has}
+use Rattle.keys.specs.Keys.{markAt}
 use Rattle.memory.specs.Parts.{ofKind}
 use Rattle.change.specs.Change.{Change}
 use Rattle.writer.specs.Bytes.{recordOf}
