@@ -151,10 +151,10 @@ pub fn replay_file(
         if !needs_more(answer) {
             return Outcome::At(stop);
         }
-        rest = move_front(window, ran.position, held);
-        if rest == ROOM {
+        if ran.position == 0 {
             return full(file, stop);
         }
+        rest = move_front(window, ran.position, held);
         turns -= 1;
     }
     Outcome::Unreadable

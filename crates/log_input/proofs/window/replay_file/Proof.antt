@@ -54,9 +54,6 @@ same-length-3 c = search needs
 returns-3 : tie.Need-returns-3 Inv-loop μ-loop
 returns-3 c = search needs
 
-move-front-requires : tie.Need-move-front-requires Inv-loop μ-loop
-move-front-requires c κs = search needs
-
 full-requires : tie.Need-full-requires Inv-loop μ-loop
 full-requires c κs = search needs
 
@@ -65,6 +62,9 @@ same-length-4 c = search needs
 
 returns-4 : tie.Need-returns-4 Inv-loop μ-loop
 returns-4 c = search needs
+
+move-front-requires : tie.Need-move-front-requires Inv-loop μ-loop
+move-front-requires c κs = search needs
 
 sub-turns : tie.Need-sub-turns Inv-loop μ-loop
 sub-turns c = search needs
@@ -101,10 +101,10 @@ replay-file-spec =
     needs-more-requires
     same-length-3
     returns-3
-    move-front-requires
     full-requires
     same-length-4
     returns-4
+    move-front-requires
     sub-turns
     loop-less
     loop-again
