@@ -11,5 +11,4 @@ pub use span::Span;
 pub use span::span_of;
 pub use together::all_kept;
 pub use together::kept_in;
-pub use together::put_each;
 pub use together::put_in;
