@@ -19,7 +19,7 @@ use Rattle.memory.specs.declared.span.Span.{Span}
 use Rattle.memory.proofs.Spans.{lies, of-parts, words-all}
 use Rattle.memory.proofs.Stored.{part-long}
 use Rattle.putting.specs.Listed.{lastIdsPut}
-use Rattle.putting.specs.Inner.{KeysIn, withLastIds}
+use Rattle.putting.specs.Inner.{partsAt, KeysIn, withLastIds}
 use Rattle.putting.proofs.OneKind.{kind-kept}
 use Rattle.putting.proofs.Places.{keys-ruled}
 
@@ -32,7 +32,8 @@ span-five holder.List Value = refl
 span-five holder.List RefCount = refl
 
 -- the keys of memories that keep all their rules
-pub keys-in : (h : Holder) (kind : TableKind) (c : Counts) (words bytes : List ℕ) → partsKept h (partsOf h c words bytes) ≡ true → KeysIn h kind c words
+pub keys-in : (h : Holder) (kind : TableKind) (c : Counts) (words bytes : List ℕ) → partsKept h (partsAt h c words bytes) ≡ true → KeysIn h kind c words
+unfolding partsAt
 keys-in h kind c words bytes ok = record {
   long = words-all h c words bytes ok;
   ruled = keys-ruled kind (spanOf h kind .room) (partOf h kind c words bytes) (rw (← of-parts h kind c words bytes) (kind-kept h kind (partsOf h c words bytes) ok));

@@ -7,7 +7,8 @@ use lib.ListN.{length, getD, take, drop}
 use Rattle.directory.specs.declared.table.TableKind.{TableKind}
 use Rattle.keys.specs.Keys.{rank, markAt}
 use Rattle.overlay.specs.Rules.{Overlay, slotSize, storedLength, markRuled, keysRuled, overlayKept, rowsOf, orderOf}
-use Rattle.memory.specs.Parts.{Parts, spanOf, wordsAll, countOf, wordsIn, ofKind, withKind, partsKept, Takes, putInto}
+use Rattle.memory.specs.Parts.{Parts, partsOf, spanOf, wordsAll, countOf, wordsIn, ofKind, withKind, partsKept, Takes, putInto}
+use Rattle.memory.specs.Overlays.{Overlays, overlaysOf}
 use Rattle.memory.specs.declared.counts.Counts.{Counts}
 use Rattle.memory.specs.declared.span.Holder.{Holder}
 use Rattle.memory.specs.declared.span.Holder.the-variants as holder
@@ -21,6 +22,13 @@ pub record Placed (kind : TableKind) (room : ℕ) (list : Overlay) (p : ℕ) : T
   pub table : getD (list .rows) (4 * p) 0 < 65536
   pub mark : markRuled kind (markAt (list .rows) p) ≡ true
   pub lies : slotSize kind * p + storedLength kind (markAt (list .rows) p) ≤ length (list .bytes)
+
+-- `partsOf` and `overlaysOf` shut: two of them are then compared by what they are of, and no memory's length is counted
+unfoldable pub partsAt : Holder → Counts → List ℕ → List ℕ → Parts
+partsAt h c words bytes = partsOf h c words bytes
+
+unfoldable pub overlaysAt : LogOverlays → List ℕ → List ℕ → Overlays
+overlaysAt o words bytes = overlaysOf o words bytes
 
 -- the words of a place
 abbrev pub rowAt : List ℕ → ℕ → Row
@@ -47,6 +55,12 @@ pub record KindGoes (kind : TableKind) (room : ℕ) (list : Overlay) (shared : P
   pub small : room ≤ 256
   pub listed : overlayKept kind room list ≡ true
   pub free : passes list (ofKind kind shared) ≡ false
+
+-- the entries of one kind of a list can be put
+pub record ListGoes (kind : TableKind) (list shared : Parts) : Type 0 where
+  pub listed : partsKept holder.List list ≡ true
+  pub kept : partsKept holder.Shared shared ≡ true
+  pub free : passes (ofKind kind list) (ofKind kind shared) ≡ false
 
 -- the words of a memory are all there, and the keys of a kind keep their rules
 pub record KeysIn (h : Holder) (kind : TableKind) (c : Counts) (words : List ℕ) : Type 0 where

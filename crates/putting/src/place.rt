@@ -4,9 +4,8 @@ ghost use mathlib.Core.Bool.{true};
 ghost use Prim.Native.Nat.{_+_, _*_, _<_, _≤_};
 ghost use lib.ListN.{length, getD};
 ghost use Rattle.overlay.specs.Rules.{storedLength, markRuled, overlayOf};
-ghost use Rattle.memory.specs.Parts.{partsOf};
 ghost use Rattle.memory.specs.declared.span.Holder.the-variants.{Shared};
-ghost use Rattle.putting.specs.Inner.{rowAt, rowPut, listPut, RowGoes, KindGoes};
+ghost use Rattle.putting.specs.Inner.{partsAt, rowAt, rowPut, listPut, RowGoes, KindGoes};
 use directory::TableKind;
 use memory::Counts;
 use memory::Holder;
@@ -53,9 +52,9 @@ fn put_place(
     stored: &[u8],
     p: usize,
 ) -> Counts
-    requires { ⌜ RowGoes holder kind row (now stored) p (partsOf holder counts (now words) (now bytes)) ⌝ }
-    ensures { λ r. ⌜ partsOf holder r (now (words .exit)) (now (bytes .exit))
-        ≡ rowPut kind id row (now (stored .entry)) p (partsOf holder counts (now (words .entry)) (now (bytes .entry))) ⌝ }
+    requires { ⌜ RowGoes holder kind row (now stored) p (partsAt holder counts (now words) (now bytes)) ⌝ }
+    ensures { λ r. ⌜ partsAt holder r (now (words .exit)) (now (bytes .exit))
+        ≡ rowPut kind id row (now (stored .entry)) p (partsAt holder counts (now (words .entry)) (now (bytes .entry))) ⌝ }
 {
     let from = overlay::slot_size(kind) * p;
     let to = from + stored_length(kind, row.mark);
@@ -85,9 +84,9 @@ pub(crate) fn put_listed<'a>(
     stored: &'a [u8],
     n: usize,
 ) -> Counts
-    requires { ⌜ KindGoes kind room (overlayOf room (now listed) (now stored) n) (partsOf Shared counts (now words) (now bytes)) ⌝ }
-    ensures { λ r. ⌜ partsOf Shared r (now (words .exit)) (now (bytes .exit))
-        ≡ listPut kind id (overlayOf room (now (listed .entry)) (now (stored .entry)) n) (partsOf Shared counts (now (words .entry)) (now (bytes .entry))) ⌝ }
+    requires { ⌜ KindGoes kind room (overlayOf room (now listed) (now stored) n) (partsAt Shared counts (now words) (now bytes)) ⌝ }
+    ensures { λ r. ⌜ partsAt Shared r (now (words .exit)) (now (bytes .exit))
+        ≡ listPut kind id (overlayOf room (now (listed .entry)) (now (stored .entry)) n) (partsAt Shared counts (now (words .entry)) (now (bytes .entry))) ⌝ }
 {
     let cut = 4 * room;
     let mut m = counts;

@@ -1,10 +1,10 @@
 // All entries of a list, over the shared ones.
 ghost use mathlib.Core.Path.{_≡_};
 ghost use mathlib.Core.Bool.{true, false};
-ghost use Rattle.memory.specs.Parts.{partsOf, partsKept, ofKind};
-ghost use Rattle.memory.specs.Overlays.{overlaysOf};
+ghost use Rattle.memory.specs.Parts.{partsKept};
 ghost use Rattle.memory.specs.declared.span.Holder.the-variants.{Shared, List};
-ghost use Rattle.putting.specs.Listed.{passes, crowded, putKind, putAll, overlaysPut};
+ghost use Rattle.putting.specs.Listed.{crowded, putKind, overlaysPut};
+ghost use Rattle.putting.specs.Inner.{partsAt, overlaysAt, ListGoes};
 use super::last_id::set_last_ids;
 use super::place::put_listed;
 use directory::Directory;
@@ -24,11 +24,9 @@ fn put_kind<'a>(
     words: &mut [u64],
     bytes: &mut [u8],
 ) -> Counts
-    requires { ⌜ (partsKept List (partsOf List list (now «list_words») (now «list_bytes»)) ≡ true)
-        × (partsKept Shared (partsOf Shared counts (now words) (now bytes)) ≡ true)
-        × (passes (ofKind kind (partsOf List list (now «list_words») (now «list_bytes»))) (ofKind kind (partsOf Shared counts (now words) (now bytes))) ≡ false) ⌝ }
-    ensures { λ r. ⌜ partsOf Shared r (now (words .exit)) (now (bytes .exit))
-        ≡ putKind kind id (partsOf List list (now («list_words» .entry)) (now («list_bytes» .entry))) (partsOf Shared counts (now (words .entry)) (now (bytes .entry))) ⌝ }
+    requires { ⌜ ListGoes kind (partsAt List list (now «list_words») (now «list_bytes»)) (partsAt Shared counts (now words) (now bytes)) ⌝ }
+    ensures { λ r. ⌜ partsAt Shared r (now (words .exit)) (now (bytes .exit))
+        ≡ putKind kind id (partsAt List list (now («list_words» .entry)) (now («list_bytes» .entry))) (partsAt Shared counts (now (words .entry)) (now (bytes .entry))) ⌝ }
 {
     let s = memory::span_of(Holder::List, kind);
     let a = s.words_at;
@@ -59,11 +57,11 @@ pub fn put_list<'a>(
     words: &mut [u64],
     bytes: &mut [u8],
 ) -> LogOverlays
-    requires { ⌜ (partsKept List (partsOf List list (now «list_words») (now «list_bytes»)) ≡ true)
-        × (partsKept Shared (partsOf Shared (overlays .counts) (now words) (now bytes)) ≡ true)
-        × (crowded (partsOf List list (now «list_words») (now «list_bytes»)) (partsOf Shared (overlays .counts) (now words) (now bytes)) ≡ false) ⌝ }
-    ensures { λ r. ⌜ overlaysOf r (now (words .exit)) (now (bytes .exit))
-        ≡ overlaysPut directory id (partsOf List list (now («list_words» .entry)) (now («list_bytes» .entry))) (overlaysOf overlays (now (words .entry)) (now (bytes .entry))) ⌝ }
+    requires { ⌜ (partsKept List (partsAt List list (now «list_words») (now «list_bytes»)) ≡ true)
+        × (partsKept Shared (partsAt Shared (overlays .counts) (now words) (now bytes)) ≡ true)
+        × (crowded (partsAt List list (now «list_words») (now «list_bytes»)) (partsAt Shared (overlays .counts) (now words) (now bytes)) ≡ false) ⌝ }
+    ensures { λ r. ⌜ overlaysAt r (now (words .exit)) (now (bytes .exit))
+        ≡ overlaysPut directory id (partsAt List list (now («list_words» .entry)) (now («list_bytes» .entry))) (overlaysAt overlays (now (words .entry)) (now (bytes .entry))) ⌝ }
 {
     let mut o = set_last_ids(directory, overlays, id, list, list_words);
     let mut c = overlays.counts;

@@ -29,12 +29,12 @@ last-ids-requires : tie.Need-last-ids-requires
 last-ids-requires c κs =
     let a = c .before .before .before .args in
     let s = c .before .span-of in
-    (words-five List Value (a .list) (now (a .«list_words»)) (c .before .before .before .pre) (s .result) (s .ensures), fits List Value (s .result) (s .ensures) .room-most, words-ruled List Value (a .list) (now (a .«list_words»)) (c .before .before .before .pre) (s .result) (s .ensures) (a .list .value) refl)
+    (words-five List Value (a .list) (now (a .list-words)) (c .before .before .before .pre) (s .result) (s .ensures), fits List Value (s .result) (s .ensures) .room-most, words-ruled List Value (a .list) (now (a .list-words)) (c .before .before .before .pre) (s .result) (s .ensures) (a .list .value) refl)
 
 returns : tie.Need-returns
 returns c =
     let a = c .before .before .before .before .args in
-    c .last-ids .ensures ∙ ids-part (a .directory) (a .overlays) (a .id) (a .list) (now (a .«list_words»)) (c .before .before .span-of .result) (c .before .before .span-of .ensures)
+    c .last-ids .ensures ∙ ids-part (a .directory) (a .overlays) (a .id) (a .list) (now (a .list-words)) (c .before .before .span-of .result) (c .before .before .span-of .ensures)
 
 pub set-last-ids-spec : {M : Type 1} → statement M
 set-last-ids-spec =

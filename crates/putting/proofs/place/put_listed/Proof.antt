@@ -8,17 +8,16 @@ use denote.Ref.{now}
 use Rattle.overlay.specs.Rules.{Overlay, overlayOf}
 use Rattle.overlay.proofs.Parts.{words-long}
 use Rattle.overlay.proofs.Ruled.{shows}
-use Rattle.memory.specs.Parts.{partsOf}
 use Rattle.memory.specs.declared.span.Holder.the-variants.{Shared}
-use Rattle.memory.proofs.Spans.{words-all, bytes-all}
-use Rattle.putting.specs.Inner.{listPut}
+use Rattle.putting.specs.Inner.{partsAt, listPut}
+use Rattle.putting.proofs.OneKind.{at-words, at-bytes}
 use Rattle.putting.proofs.Puts.{Left, left-first, left-done, turn-place, turn-small, turn-goes, turn-next}
 use Rattle.putting.proofs.place.put_listed.Statement.{statement}
 use Rattle.putting.proofs.place.put_listed.Tie as tie
 
 abbrev Inv-loop : tie.InvT-loop
 Inv-loop kind words₀ bytes₀ id room listed stored n cut m₀ i₀ words bytes m i =
-    (i ≤ n) × Left kind id (overlayOf room listed stored n) i (partsOf Shared m words bytes) (listPut kind id (overlayOf room listed stored n) (partsOf Shared m₀ words₀ bytes₀))
+    (i ≤ n) × Left kind id (overlayOf room listed stored n) i (partsAt Shared m words bytes) (listPut kind id (overlayOf room listed stored n) (partsAt Shared m₀ words₀ bytes₀))
 
 abbrev μ-loop : tie.MeasureT-loop
 μ-loop kind words₀ bytes₀ id room listed stored n cut m₀ i₀ words bytes m i = n - i
@@ -80,12 +79,12 @@ loop-again c =
 same-length : tie.Need-same-length Inv-loop μ-loop
 same-length c =
     let a = c .before .before .before .before .before .before .args in
-    omega (arith, words-all Shared (c .before .loop .m) (c .before .loop .words) (c .before .loop .bytes) (c .before .loop .inv .1 .kept), words-all Shared (a .counts) (now (a .words)) (now (a .bytes)) (c .before .before .before .before .before .before .pre .kept))
+    omega (arith, at-words Shared (c .before .loop .m) (c .before .loop .words) (c .before .loop .bytes) (c .before .loop .inv .1 .kept), at-words Shared (a .counts) (now (a .words)) (now (a .bytes)) (c .before .before .before .before .before .before .pre .kept))
 
 same-length-2 : tie.Need-same-length-2 Inv-loop μ-loop
 same-length-2 c =
     let a = c .before .before .before .before .before .before .args in
-    omega (arith, bytes-all Shared (c .before .loop .m) (c .before .loop .words) (c .before .loop .bytes) (c .before .loop .inv .1 .kept), bytes-all Shared (a .counts) (now (a .words)) (now (a .bytes)) (c .before .before .before .before .before .before .pre .kept))
+    omega (arith, at-bytes Shared (c .before .loop .m) (c .before .loop .words) (c .before .loop .bytes) (c .before .loop .inv .1 .kept), at-bytes Shared (a .counts) (now (a .words)) (now (a .bytes)) (c .before .before .before .before .before .before .pre .kept))
 
 returns : tie.Need-returns Inv-loop μ-loop
 returns c = let s = c .before .before .before .before .before .before in left-done (s .args .kind) (s .args .id) (list s) (s .args .room) (s .pre .listed) (c .before .loop .i) _ _ (c .before .loop .inv .1) (c .loop-test .left)

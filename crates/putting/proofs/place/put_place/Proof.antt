@@ -2,7 +2,8 @@
 use mathlib.Core.Path.{refl}
 use native.Mathlib.Omega.{arith}
 use denote.Ref.{now}
-use Rattle.memory.specs.Parts.{Parts, partsOf}
+use Rattle.memory.specs.Parts.{Parts}
+use Rattle.putting.specs.Inner.{partsAt}
 use Rattle.overlay.specs.Rules.{storedLength}
 use Rattle.putting.proofs.Places.{part-lies, part-fits, part-put}
 use borrow.Author.Needs.{needs}
@@ -10,7 +11,7 @@ use Rattle.putting.proofs.place.put_place.Statement.{statement}
 use Rattle.putting.proofs.place.put_place.Tie as tie
 
 abbrev shared : tie.Start → Parts
-shared s = partsOf (s .args .holder) (s .args .counts) (now (s .args .words)) (now (s .args .bytes))
+shared s = partsAt (s .args .holder) (s .args .counts) (now (s .args .words)) (now (s .args .bytes))
 
 slot-size-requires : tie.Need-slot-size-requires
 slot-size-requires c κs = search needs
@@ -34,6 +35,7 @@ part-put-in-end : tie.Need-part-put-in-end
 part-put-in-end c = let a = c .before .before .before .before .before .before .before .args in part-lies (a .holder) (a .kind) (a .row) (now (a .stored)) (a .p) (shared (c .before .before .before .before .before .before .before)) (c .before .before .before .before .before .before .before .pre) (c .before .before .before .slot-size .result) (c .before .before .stored-length .result) (c .before .before .before .slot-size .ensures .0) (c .before .before .stored-length .ensures .0)
 
 put-in-requires : tie.Need-put-in-requires
+unfolding partsAt
 put-in-requires c κs =
     let a = c .before .before .before .before .before .before .before .before .args in
     (c .before .before .before .before .before .before .before .before .pre .kept, part-fits (a .holder) (a .kind) (a .row) (now (a .stored)) (a .p) (shared (c .before .before .before .before .before .before .before .before)) (c .before .before .before .before .before .before .before .before .pre) (c .before .before .before .before .slot-size .result) (c .before .before .before .stored-length .result) (c .before .before .before .before .slot-size .ensures .0) (c .before .before .before .stored-length .ensures .0), c .before .before .before .before .before .before .before .before .pre .takes)
@@ -45,6 +47,7 @@ same-length-2 : tie.Need-same-length-2
 same-length-2 c = search needs
 
 returns : tie.Need-returns
+unfolding partsAt
 returns c =
     let a = c .before .before .before .before .before .before .before .before .before .before .before .before .before .args in
     part-put (a .holder) (a .kind) (a .row) (now (a .stored)) (a .p) (shared (c .before .before .before .before .before .before .before .before .before .before .before .before .before)) (c .before .before .before .before .before .before .before .before .before .before .before .before .before .pre) (c .before .before .before .before .before .before .before .before .before .slot-size .result) (c .before .before .before .before .before .before .before .before .stored-length .result) (c .before .before .before .before .before .before .before .before .before .slot-size .ensures .0) (c .before .before .before .before .before .before .before .before .stored-length .ensures .0) (a .id) _ _ (c .before .before .before .before .put-in .ensures) refl
