@@ -1,7 +1,8 @@
--- "Numbered answers" (document 01): the number of each answer.
+-- "Numbered answers" (document 01): the number of each answer. A refusal of reading, and the last id of a record.
 use Prim.Native.Nat.{ℕ}
 use Rattle.answer.specs.declared.answer.Answer.{Answer}
 use Rattle.answer.specs.declared.answer.Answer.the-variants.{Done, EndOfLog, Cut, UnknownTag, OutOfPlace, WrongId, NoTable, NoIndex, WrongSum, NoRoom, ShortOutput, NotNext, UsedUp, BadState, BadArgument}
+use Rattle.answer.specs.declared.answer.Refusal.{Refusal}
 
 -- "No." of the table, "Given exactly when" beside it
 abbrev pub numberOf : Answer → ℕ
@@ -20,3 +21,11 @@ numberOf NotNext = 11  -- "list's id plus 1 isn't the next id"
 numberOf UsedUp = 12  -- "record ids, file numbers or a file's size used up"
 numberOf BadState = 13  -- "a directory, list, overlay, queue or other state handed in breaks a rule of this paper, .."
 numberOf BadArgument = 14  -- "slot above 63, chunk or value of the wrong length, position beyond the log's end"
+
+-- a refusal of reading, with its answer in it
+abbrev pub refusal : Answer → Refusal
+refusal answer = record { answer = answer }
+
+-- 2^64-1, the largest id of 8 bytes
+abbrev pub lastRecordId : ℕ
+lastRecordId = 18446744073709551615

@@ -1,6 +1,6 @@
 // The answers of every call.
 ghost use mathlib.Core.Path.{_≡_};
-ghost use Rattle.answer.specs.Answer.{numberOf};
+ghost use Rattle.answer.specs.Answer.{numberOf, refusal};
 
 pub enum Answer {
     Done,
@@ -47,4 +47,13 @@ impl Answer {
 // A refusal of reading.
 pub struct Refusal {
     pub answer: Answer,
+}
+
+impl Refusal {
+    // The one place that knows all the fields: whoever refuses calls it.
+    pub fn new(answer: Answer) -> Refusal
+        ensures { λ r. ⌜ r ≡ refusal answer ⌝ }
+    {
+        Refusal { answer: answer }
+    }
 }

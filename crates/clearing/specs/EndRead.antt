@@ -1,25 +1,21 @@
 -- `end_read` (document 01, "Clearing reads ..": order of checks and what is left; log.rs lines 901 to 932).
-use mathlib.Core.Bool.{true, not, _&&_}
+use mathlib.Core.Bool.{not, _&&_}
 use mathlib.Core.List.{List}
-use Prim.Native.Nat.{ℕ, suc, _+_}
+use Prim.Native.Nat.{ℕ, _+_}
 use lib.Dec.{ltb, eqb}
-use lib.ListN.{length}
 use Rattle.words.specs.Choice.{if_then_else_}
+use Rattle.words.specs.Words.{littleAt}
+use Rattle.answer.specs.Answer.{refusal, lastRecordId}
+use Rattle.answer.specs.declared.answer.Answer.{Answer}
+use Rattle.answer.specs.declared.answer.Answer.the-variants.{Done, UsedUp, BadState}
 use Rattle.directory.specs.Directory.{directoryKept}
 use Rattle.directory.specs.declared.directory.Directory.{Directory}
-use Rattle.directory.specs.declared.table.TableKind.the-variants.{Index, Value, RefCount}
-use Rattle.record.specs.Format.{Got, stopped, got}
-use Rattle.record.specs.Next.{readerAt, stepOf}
-use Rattle.answer.specs.declared.answer.Answer.the-variants.{Done, UsedUp, BadState}
-use Rattle.record.specs.declared.reader.LogReader.{LogReader}
-use Rattle.record.specs.declared.reader.Step.{Step}
-use Rattle.record.specs.declared.reader.Step.the-variants.{Took, Refused}
 use Rattle.effect.specs.Effect.{Written}
-use Rattle.replay.specs.Replay.{restOf}
-use Rattle.replay.specs.Run.{lastId}
-use Rattle.overlay.specs.Shared.{Shared, sharedKept}
-use Rattle.overlay.specs.declared.overlays.LogOverlays.{LogOverlays}
-use Rattle.clearing.specs.Clear.{clearedOf}
+use Rattle.replay.specs.Replay.{Walked, fault, walked, recordAt}
+use Rattle.memory.specs.declared.span.Holder.the-variants as holder
+use Rattle.memory.specs.Parts.{partsKept}
+use Rattle.memory.specs.Overlays.{Overlays, overlaysOf}
+use Rattle.clearing.specs.Clear.{clearedBy}
 use Rattle.clearing.specs.declared.ending.EndRead.{EndRead}
 
 -- an accepted record read again: its id and its actions
@@ -27,52 +23,61 @@ pub record Again : Type 0 where
   pub id : ℕ
   pub actions : List Written
 
-abbrev pub withId : ℕ → Got (List Written) → Got Again
-withId id (stopped answer) = stopped answer
-withId id (got ws end) = got (record { id = id; actions = ws }) end
+abbrev pub withId : ℕ → Walked (List Written) → Walked Again
+withId id (fault x) = fault x
+withId id (walked ws end) = walked (record { id = id; actions = ws }) end
 
--- as replay reads it, "the id test aside"
-abbrev pub byAny : (LogReader → Got (List Written)) → Step → Got Again
-byAny rest (Refused x) = stopped (x .answer)
-byAny rest (Took s) = withId (s .reader .record_id) (rest (s .reader))
+-- the id that stands behind a begin tag
+abbrev pub idThere : List ℕ → ℕ → ℕ
+idThere log at = littleAt 8 log (at + 1)
 
-unfoldable pub recordAgain : Directory → List ℕ → ℕ → Got Again
-recordAgain d log at = byAny (restOf (suc (length log)) d log) (stepOf d log (readerAt at true))
+-- as replay reads it, "the id test aside": the id that stands there is the expected one
+unfoldable pub recordAgain : Directory → List ℕ → ℕ → Walked Again
+recordAgain d log at = withId (idThere log at) (recordAt d log at (idThere log at))
 
 -- "id 2^64-1 gives 12 and changes nothing", behind all faults of reading
-abbrev pub clearable : Got Again → Got Again
-clearable (stopped answer) = stopped answer
-clearable (got g end) = if eqb (g .id) lastId then stopped UsedUp else got g end
+abbrev pub clearable : Walked Again → Walked Again
+clearable (fault x) = fault x
+clearable (walked g end) = if eqb (g .id) lastRecordId then fault (refusal UsedUp) else walked g end
 
 -- 13 first: directory, overlays, and a next id of 0 ("The first id is 1")
-unfoldable pub toClear : Directory → Shared → ℕ → List ℕ → ℕ → Got Again
-toClear d s next log at =
-    if directoryKept d && (sharedKept s && not (eqb next 0)) then clearable (recordAgain d log at) else stopped BadState
-
--- the overlays afterwards: a refusal "clears nothing"
-abbrev pub sharedAfter : Shared → Got Again → Shared
-sharedAfter s (stopped answer) = s
-sharedAfter s (got g end) = record {
-  index = clearedOf Index (g .id) (g .actions) (s .index);
-  value = clearedOf Value (g .id) (g .actions) (s .value);
-  refCount = clearedOf RefCount (g .id) (g .actions) (s .refCount);
-}
+unfoldable pub toClear : Directory → List ℕ → ℕ → Overlays → ℕ → Walked Again
+toClear d log at s next =
+    if directoryKept d && (partsKept holder.Shared (s .parts) && not (eqb next 0)) then clearable (recordAgain d log at) else
+    fault (refusal BadState)
 
 -- "If the id is not below the next id, next becomes id plus 1"
 abbrev pub nextAfter : ℕ → ℕ → ℕ
 nextAfter next id = if ltb id next then next else id + 1
 
--- how many keys are then in use; the last ids stay
-abbrev pub countsOf : LogOverlays → Shared → LogOverlays
-countsOf o s = record { «index» = s .index .count; «value» = s .value .count; «ref_count» = s .refCount .count; «last_record_ids» = o .«last_record_ids» }
+-- what `end_read` leaves: its answer, the place behind the record, the record's id, the next id, and the overlays
+pub record Ending : Type 0 where
+  pub answer : Answer
+  pub position : ℕ
+  pub recordId : ℕ
+  pub nextRecordId : ℕ
+  pub overlays : Overlays
 
--- what is answered: the place behind the record and its id
-abbrev pub endedRead : LogOverlays → ℕ → ℕ → Shared → Got Again → EndRead
-endedRead o next at s (stopped answer) = record { answer = answer; position = at; «record_id» = 0; «next_record_id» = next; overlays = o }
-endedRead o next at s (got g end) = record {
+-- a refusal "clears nothing"; a record takes its entries along, and the last ids stay
+abbrev pub endReadBy : ℕ → Overlays → ℕ → Walked Again → Ending
+endReadBy at s next (fault x) = record { answer = x .answer; position = at; recordId = 0; nextRecordId = next; overlays = s }
+endReadBy at s next (walked g end) = record {
   answer = Done;
   position = end;
-  «record_id» = g .id;
-  «next_record_id» = nextAfter next (g .id);
-  overlays = countsOf o (sharedAfter s (got g end));
+  recordId = g .id;
+  nextRecordId = nextAfter next (g .id);
+  overlays = record { parts = clearedBy (g .id) (g .actions) (s .parts); lastIds = s .lastIds };
+}
+
+abbrev pub endRead : Directory → List ℕ → ℕ → Overlays → ℕ → Ending
+endRead d log at s next = endReadBy at s next (toClear d log at s next)
+
+-- the same from what the call hands back and the two memories as it leaves them
+abbrev pub endReadOf : EndRead → List ℕ → List ℕ → Ending
+endReadOf r words bytes = record {
+  answer = r .answer;
+  position = r .position;
+  recordId = r .«record_id»;
+  nextRecordId = r .«next_record_id»;
+  overlays = overlaysOf (r .overlays) words bytes;
 }

@@ -1,4 +1,4 @@
 -- What the contracts cite.
 pub mod Clear
 pub mod EndRead
-pub mod Parts
+pub mod Inner

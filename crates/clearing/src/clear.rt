@@ -1,15 +1,17 @@
-// One kind's overlay, action by action.
+// The shared overlays, action by action.
 ghost use mathlib.Core.Path.{_≡_};
 ghost use mathlib.Core.Bool.{true};
-ghost use Prim.Native.Nat.{suc};
-ghost use lib.ListN.{length};
-ghost use Rattle.overlay.specs.Rules.{overlayOf, overlayKept};
-ghost use Rattle.replay.specs.Parts.{isGot};
-ghost use Rattle.replay.specs.Replay.{restOf};
+ghost use Rattle.directory.specs.Directory.{directoryKept};
+ghost use Rattle.memory.specs.declared.span.Holder.the-variants.{Shared};
+ghost use Rattle.memory.specs.Parts.{partsOf, partsKept};
+ghost use Rattle.replay.specs.Inner.{isWalked};
+ghost use Rattle.replay.specs.Replay.{restIn};
 ghost use Rattle.clearing.specs.Clear.{namedBy, clearedKey};
-ghost use Rattle.clearing.specs.Parts.{keyNamed, clearedGot};
+ghost use Rattle.clearing.specs.Inner.{clearedWalk};
 use directory::Directory;
 use directory::TableKind;
+use memory::Counts;
+use memory::Holder;
 use record::LogAction;
 use record::LogReader;
 use record::Step;
@@ -20,8 +22,8 @@ pub enum NamedKey {
     Nothing,
 }
 
-fn named(action: LogAction) -> NamedKey
-    ensures { λ r. ⌜ keyNamed r ≡ namedBy action ⌝ }
+fn named_by(action: LogAction) -> NamedKey
+    ensures { λ r. ⌜ r ≡ namedBy action ⌝ }
 {
     match action {
         LogAction::BeginRecord => NamedKey::Nothing,
@@ -43,52 +45,52 @@ fn named(action: LogAction) -> NamedKey
     }
 }
 
-// The entry that an action names, if it is of the kind and has the record's id.
+// The entry that an action names, if it has the record's id.
 fn clear_action(
-    kind: TableKind,
     action: LogAction,
-    rows: &mut [u64],
-    order: &mut [u64],
+    counts: Counts,
+    words: &mut [u64],
     bytes: &mut [u8],
-    n: usize,
     id: u64,
-) -> usize
-    requires { ⌜ overlayKept kind (overlayOf (now rows) (now order) (now bytes) n) ≡ true ⌝ }
-    ensures { λ r. ⌜ overlayOf (now (rows .exit)) (now (order .exit)) (now (bytes .exit)) r
-        ≡ clearedKey kind id (namedBy action) (overlayOf (now (rows .entry)) (now (order .entry)) (now (bytes .entry)) n) ⌝ }
+) -> Counts
+    requires { ⌜ partsKept Shared (partsOf Shared counts (now words) (now bytes)) ≡ true ⌝ }
+    ensures { λ r. ⌜ partsOf Shared r (now (words .exit)) (now (bytes .exit))
+        ≡ clearedKey id (namedBy action) (partsOf Shared counts (now (words .entry)) (now (bytes .entry))) ⌝ }
 {
-    match named(action) {
-        NamedKey::Nothing => n,
-        NamedKey::Key(own, table, index) => {
-            if own.same(kind) {
-                overlay::remove(kind, rows, order, bytes, n, table, index, id)
-            } else {
-                n
-            }
-        }
+    match named_by(action) {
+        NamedKey::Nothing => counts,
+        NamedKey::Key(kind, table, index) => memory::remove_in(
+            Holder::Shared,
+            kind,
+            counts,
+            words,
+            bytes,
+            table,
+            index,
+            id,
+        ),
     }
 }
 
 // The entries that a record names, from inside it to its end. It meets no refusal, since the record was checked.
 pub fn clear_rest(
-    kind: TableKind,
     d: Directory,
     log: &[u8],
     r: LogReader,
-    rows: &mut [u64],
-    order: &mut [u64],
+    counts: Counts,
+    words: &mut [u64],
     bytes: &mut [u8],
-    n: usize,
-) -> usize
-    requires { ⌜ (overlayKept kind (overlayOf (now rows) (now order) (now bytes) n) ≡ true) × (isGot (restOf (suc (length (now log))) d (now log) r) ≡ true) ⌝ }
-    ensures { λ m. ⌜ overlayOf (now (rows .exit)) (now (order .exit)) (now (bytes .exit)) m
-        ≡ clearedGot kind (r .record_id) (restOf (suc (length (now (log .entry)))) d (now (log .entry)) r) (overlayOf (now (rows .entry)) (now (order .entry)) (now (bytes .entry)) n) ⌝ }
+) -> Counts
+    requires { ⌜ (directoryKept d ≡ true) × (partsKept Shared (partsOf Shared counts (now words) (now bytes)) ≡ true)
+        × (isWalked (restIn d (now log) r) ≡ true) ⌝ }
+    ensures { λ c. ⌜ partsOf Shared c (now (words .exit)) (now (bytes .exit))
+        ≡ clearedWalk (r .record_id) (restIn d (now (log .entry)) r) (partsOf Shared counts (now (words .entry)) (now (bytes .entry))) ⌝ }
 {
     let id = r.record_id;
     let mut cur = r;
-    let mut left = n;
+    let mut left = counts;
     loop {
-        match cur.step(d, log) {
+        match cur.next_kept(d, log) {
             Step::Refused(_) => return left,
             Step::Took(s) => {
                 let action = s.action;
@@ -96,7 +98,7 @@ pub fn clear_rest(
                 if action.is_end() {
                     return left;
                 }
-                left = clear_action(kind, action, rows, order, bytes, left, id);
+                left = clear_action(action, left, words, bytes, id);
                 cur = next;
             }
         }

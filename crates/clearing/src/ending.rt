@@ -1,12 +1,17 @@
 // The end of reading a record.
 ghost use mathlib.Core.Path.{_≡_};
-ghost use Rattle.overlay.specs.Shared.{sharedOf};
-ghost use Rattle.clearing.specs.EndRead.{toClear, sharedAfter, nextAfter, endedRead};
-ghost use Rattle.clearing.specs.Parts.{wholeToClear};
-use super::all::clear_all;
+ghost use mathlib.Core.Bool.{true};
+ghost use Rattle.directory.specs.Directory.{directoryKept};
+ghost use Rattle.memory.specs.declared.span.Holder.the-variants.{Shared};
+ghost use Rattle.memory.specs.Parts.{partsOf, partsKept};
+ghost use Rattle.memory.specs.Overlays.{overlaysOf};
+ghost use Rattle.clearing.specs.EndRead.{recordAgain, clearable, nextAfter, endReadBy, endRead, endReadOf};
+ghost use Rattle.clearing.specs.Inner.{nothingRead};
+use super::clear::clear_rest;
 use answer::Answer;
 use directory::Directory;
-use overlay::LogOverlays;
+use memory::Holder;
+use memory::LogOverlays;
 use replay::WholeAnswer;
 
 pub struct EndRead {
@@ -17,55 +22,15 @@ pub struct EndRead {
     pub overlays: LogOverlays,
 }
 
-// The record to be cleared, or why nothing is.
-fn to_clear<'a>(
-    directory: Directory,
-    log: &[u8],
-    position: usize,
-    overlays: LogOverlays,
-    irows: &'a [u64],
-    iorder: &'a [u64],
-    ibytes: &'a [u8],
-    vrows: &'a [u64],
-    vorder: &'a [u64],
-    vbytes: &'a [u8],
-    crows: &'a [u64],
-    corder: &'a [u64],
-    cbytes: &'a [u8],
-    next: u64,
-) -> WholeAnswer
-    ensures { λ r. ⌜ r ≡ wholeToClear directory (sharedOf overlays (now (irows .entry)) (now (iorder .entry)) (now (ibytes .entry)) (now (vrows .entry)) (now (vorder .entry)) (now (vbytes .entry)) (now (crows .entry)) (now (corder .entry)) (now (cbytes .entry))) next (now (log .entry)) position ⌝ }
+fn nothing_read(answer: Answer, position: usize, overlays: LogOverlays, next: u64) -> EndRead
+    ensures { λ r. ⌜ r ≡ nothingRead answer position overlays next ⌝ }
 {
-    if !directory.kept() {
-        return WholeAnswer::NotWhole(Answer::BadState);
-    }
-    if !overlay::all_kept(
-        overlays,
-        irows,
-        iorder,
-        ibytes,
-        vrows,
-        vorder,
-        vbytes,
-        crows,
-        corder,
-        cbytes,
-    ) {
-        return WholeAnswer::NotWhole(Answer::BadState);
-    }
-    if next == 0 {
-        return WholeAnswer::NotWhole(Answer::BadState);
-    }
-    match replay::check_record(directory, log, position) {
-        WholeAnswer::NotWhole(a) => WholeAnswer::NotWhole(a),
-        WholeAnswer::Whole(w) => {
-            let opened = w.opened;
-            if opened.record_id == 18446744073709551615 {
-                WholeAnswer::NotWhole(Answer::UsedUp)
-            } else {
-                WholeAnswer::Whole(w)
-            }
-        }
+    EndRead {
+        answer: answer,
+        position: position,
+        record_id: 0,
+        next_record_id: next,
+        overlays: overlays,
     }
 }
 
@@ -77,76 +42,71 @@ fn raised(next: u64, id: u64) -> u64
     if id < next { next } else { id + 1 }
 }
 
-// Reads the record at a position again and takes its entries out of the overlays.
-pub fn end_read(
+// Reads the record at a position again and takes its entries out of the overlays, all of which were tested already.
+pub fn end_read_kept(
     directory: Directory,
     log: &[u8],
     position: usize,
     overlays: LogOverlays,
-    irows: &mut [u64],
-    iorder: &mut [u64],
-    ibytes: &mut [u8],
-    vrows: &mut [u64],
-    vorder: &mut [u64],
-    vbytes: &mut [u8],
-    crows: &mut [u64],
-    corder: &mut [u64],
-    cbytes: &mut [u8],
+    words: &mut [u64],
+    bytes: &mut [u8],
     next: u64,
 ) -> EndRead
-    ensures { λ r. ⌜ (r ≡ endedRead overlays next position (sharedOf overlays (now (irows .entry)) (now (iorder .entry)) (now (ibytes .entry)) (now (vrows .entry)) (now (vorder .entry)) (now (vbytes .entry)) (now (crows .entry)) (now (corder .entry)) (now (cbytes .entry))) (toClear directory (sharedOf overlays (now (irows .entry)) (now (iorder .entry)) (now (ibytes .entry)) (now (vrows .entry)) (now (vorder .entry)) (now (vbytes .entry)) (now (crows .entry)) (now (corder .entry)) (now (cbytes .entry))) next (now (log .entry)) position))
-        × (sharedOf (r .overlays) (now (irows .exit)) (now (iorder .exit)) (now (ibytes .exit)) (now (vrows .exit)) (now (vorder .exit)) (now (vbytes .exit)) (now (crows .exit)) (now (corder .exit)) (now (cbytes .exit)) ≡ sharedAfter (sharedOf overlays (now (irows .entry)) (now (iorder .entry)) (now (ibytes .entry)) (now (vrows .entry)) (now (vorder .entry)) (now (vbytes .entry)) (now (crows .entry)) (now (corder .entry)) (now (cbytes .entry))) (toClear directory (sharedOf overlays (now (irows .entry)) (now (iorder .entry)) (now (ibytes .entry)) (now (vrows .entry)) (now (vorder .entry)) (now (vbytes .entry)) (now (crows .entry)) (now (corder .entry)) (now (cbytes .entry))) next (now (log .entry)) position)) ⌝ }
+    requires { ⌜ (directoryKept directory ≡ true) × (partsKept Shared (partsOf Shared (overlays .counts) (now words) (now bytes)) ≡ true) × (next ≡ 0 → ⊥) ⌝ }
+    ensures { λ r. ⌜ endReadOf r (now (words .exit)) (now (bytes .exit))
+        ≡ endReadBy position (overlaysOf overlays (now (words .entry)) (now (bytes .entry))) next (clearable (recordAgain directory (now (log .entry)) position)) ⌝ }
 {
-    match to_clear(
-        directory,
-        log,
-        position,
-        overlays,
-        irows,
-        iorder,
-        ibytes,
-        vrows,
-        vorder,
-        vbytes,
-        crows,
-        corder,
-        cbytes,
-        next,
-    ) {
-        WholeAnswer::NotWhole(a) => EndRead {
-            answer: a,
-            position: position,
-            record_id: 0,
-            next_record_id: next,
-            overlays: overlays,
-        },
+    match replay::check_record_kept(directory, log, position) {
+        WholeAnswer::NotWhole(x) => {
+            let a = x.answer;
+            nothing_read(a, position, overlays, next)
+        }
         WholeAnswer::Whole(w) => {
-            let mut r = w.opened;
-            r.crc32 = checksum::START;
-            r.validate = false;
-            let id = r.record_id;
-            let left = clear_all(
-                directory,
-                log,
-                r,
-                overlays,
-                irows,
-                iorder,
-                ibytes,
-                vrows,
-                vorder,
-                vbytes,
-                crows,
-                corder,
-                cbytes,
-            );
+            let opened = w.opened;
+            let id = opened.record_id;
+            if id == answer::LAST_RECORD_ID {
+                return nothing_read(Answer::UsedUp, position, overlays, next);
+            }
+            let before = overlays.counts;
+            let counts = clear_rest(directory, log, opened.unvalidated(), before, words, bytes);
+            let last_record_ids = overlays.last_record_ids;
+            let overlays = LogOverlays {
+                counts,
+                last_record_ids,
+            };
             EndRead {
                 answer: Answer::Done,
                 position: w.end,
                 record_id: id,
                 next_record_id: raised(next, id),
-                overlays: left,
+                overlays,
             }
         }
     }
+}
+
+// The same, tested: 13 before anything is read.
+pub fn end_read(
+    directory: Directory,
+    log: &[u8],
+    position: usize,
+    overlays: LogOverlays,
+    words: &mut [u64],
+    bytes: &mut [u8],
+    next: u64,
+) -> EndRead
+    ensures { λ r. ⌜ endReadOf r (now (words .exit)) (now (bytes .exit))
+        ≡ endRead directory (now (log .entry)) position (overlaysOf overlays (now (words .entry)) (now (bytes .entry))) next ⌝ }
+{
+    if !directory.kept() {
+        return nothing_read(Answer::BadState, position, overlays, next);
+    }
+    let counts = overlays.counts;
+    if !memory::all_kept(Holder::Shared, counts, words, bytes) {
+        return nothing_read(Answer::BadState, position, overlays, next);
+    }
+    if next == 0 {
+        return nothing_read(Answer::BadState, position, overlays, next);
+    }
+    end_read_kept(directory, log, position, overlays, words, bytes, next)
 }

@@ -2,20 +2,21 @@
 -- what an action is. Assumes nothing.
 use mathlib.Core.Path.{_≡_, refl, sym, ap, _∙_}
 use mathlib.Core.List.{List, [], _∷_, _++_}
-use mathlib.Core.Option.{Option, none, some, Option·getD}
+use mathlib.Core.Option.{Option, none, some, Option·getD, orElse}
 use Prim.Native.Nat.{ℕ, _<_}
 use lib.ListN.{length, getD, take, drop, take-append-drop}
 use Rattle.directory.specs.declared.directory.Directory.{Directory}
 use Rattle.effect.specs.Effect.{Written, strokes, apply}
-use Rattle.effect.specs.Meaning.{orElse}
 use Rattle.effect.proofs.Bytes.{orElse-none, lastAt, recordAt, apply-at, apply-agree, length-apply}
 
 orElse-assoc : (a b c : Option ℕ) → orElse (orElse a b) c ≡ orElse a (orElse b c)
+unfolding orElse
 orElse-assoc none b c = refl
 orElse-assoc (some a) b c = refl
 
 -- where neither reaches, the second does not
 orElse-right : (a b : Option ℕ) → orElse a b ≡ none → b ≡ none
+unfolding orElse
 orElse-right none b e = e
 orElse-right (some a) b e = cc
 

@@ -2,7 +2,7 @@
 use mathlib.Core.Path.{_≡_, refl, sym, ap, _∙_}
 use mathlib.Core.Bool.{Bool, true, false}
 use mathlib.Core.List.{List, [], _∷_}
-use mathlib.Core.Option.{Option, none, some, Option·getD}
+use mathlib.Core.Option.{Option, none, some, Option·getD, orElse}
 use Prim.Native.Nat.{ℕ, suc, _<_}
 use native.Mathlib.Omega.{arith}
 use lib.Dec.{eqb}
@@ -12,7 +12,6 @@ use borrow.Author.Tests.{eqb-true, eqb-false, ne-eqb}
 use Rattle.words.specs.Choice.{if_then_else_}
 use Rattle.directory.specs.declared.directory.Directory.{Directory}
 use Rattle.effect.specs.Effect.{Written, Stroke, stroke, strokes, puts, done, apply}
-use Rattle.effect.specs.Meaning.{orElse}
 
 -- the byte that `bytes`, stored from `at` on, puts at p
 unfoldable pub byteAt : ℕ → List ℕ → ℕ → Option ℕ
@@ -48,10 +47,12 @@ recordAt d [] p = none
 recordAt d (w ∷ ws) p = orElse (recordAt d ws p) (lastAt (strokes d (w .action) (w .payload)) p)
 
 pub orElse-none : (a : Option ℕ) → orElse a none ≡ a
+unfolding orElse
 orElse-none none = refl
 orElse-none (some a) = refl
 
 pub orElse-getD : (a b : Option ℕ) (x : ℕ) → Option·getD (orElse a b) x ≡ Option·getD a (Option·getD b x)
+unfolding orElse
 orElse-getD none b x = refl
 orElse-getD (some a) b x = refl
 

@@ -2,7 +2,7 @@
 -- it drops, and touches nothing else." What an action says of a byte is `says` of specs/Meaning. Assumes nothing.
 use mathlib.Core.Path.{_≡_, refl, ap, _∙_}
 use mathlib.Core.List.{List, [], _∷_, _++_}
-use mathlib.Core.Option.{Option, none, some, Option·getD}
+use mathlib.Core.Option.{Option, none, some, Option·getD, orElse}
 use Prim.Native.Nat.{ℕ, _<_}
 use lib.ListN.{length, getD}
 use Rattle.directory.specs.declared.directory.Directory.{Directory}
@@ -27,7 +27,7 @@ same-length = length-apply
 -- ---- the same in two sentences
 
 silent : (d : Directory) (s : List Written) (p : ℕ) → Each (λ w. says d w p ≡ none) s → lastSaid d s p ≡ none
-unfolding lastSaid
+unfolding lastSaid orElse
 silent d [] p h = refl
 silent d (w ∷ s) p h = rw (silent d s p (h .1)) (h .0)
 
@@ -41,7 +41,7 @@ touches-nothing-else d s image p sized h none-says = demand-2 d s image p sized 
 
 said-last : (d : Directory) (front : List Written) (w : Written) (back : List Written) (p b : ℕ) → says d w p ≡ some b
     → Each (λ v. says d v p ≡ none) back → lastSaid d (front ++ w ∷ back) p ≡ some b
-unfolding lastSaid
+unfolding lastSaid orElse
 said-last d [] w back p b e q = rw (silent d back p q) e
 said-last d (v ∷ front) w back p b e q = rw (said-last d front w back p b e q)
 

@@ -2,10 +2,10 @@
 -- actions with the same bytes in different order. If no kind, table and index is written twice, and in neither record a table is written
 -- after its own drop, both leave the same tables, those that demand 2 names." Assumes nothing.
 use mathlib.Core.Path.{_≡_, sym, ap, ap₂, _∙_}
-use mathlib.Core.Bool.{Bool, false}
+use mathlib.Core.Bool.{Bool}
 use mathlib.Core.List.{List, [], _∷_, _++_, List·Permᴰ, List·isSet, Perm}
 use mathlib.Core.Logic.{∥∥₁-elim}
-use mathlib.Core.Option.{Option, some, Option·getD}
+use mathlib.Core.Option.{Option, none, some, Option·getD}
 use Prim.Native.Nat.{ℕ, _<_}
 use native.Mathlib.Nat.{ℕ-set}
 use native.Mathlib.Omega.{arith}
@@ -13,7 +13,7 @@ use lib.ListN.{length, getD}
 use Rattle.words.specs.Choice.{if_then_else_}
 use Rattle.directory.specs.declared.directory.Directory.{Directory}
 use Rattle.effect.specs.Effect.{Written, apply}
-use Rattle.effect.specs.Order.{writes, drops, Each, Pairs, Other, Spared}
+use Rattle.effect.specs.Order.{writesTo, dropsTable, Each, Pairs, Other, Spared}
 use Rattle.effect.proofs.Bytes.{recordAt, apply-at, apply-same}
 use Rattle.effect.proofs.Settle.{wrote, dropped, wrote-perm, dropped-perm, settle}
 
@@ -45,17 +45,17 @@ settled d s image p spared h = apply-at d s image p h ∙ ap (λ (o : Option ℕ
 
 -- The writer's order, writes and then drops, meets the premise on drops.
 pub writer-order : (ws ds : List Written)
-    → Each (λ w. drops w ≡ false) ws  -- first actions that drop nothing
-    → Each (λ w. writes w ≡ false) ds  -- then actions that write nothing
+    → Each (λ w. dropsTable w ≡ none) ws  -- first actions that drop nothing
+    → Each (λ w. writesTo w ≡ none) ds  -- then actions that write nothing
     → Pairs Spared (ws ++ ds)
 writer-order [] [] h k = tt
 writer-order [] (v ∷ ds) h k = (free ds (k .1), writer-order [] ds h (k .1))
   where
-    free : (l : List Written) → Each (λ w. writes w ≡ false) l → Each (Spared v) l
+    free : (l : List Written) → Each (λ w. writesTo w ≡ none) l → Each (Spared v) l
     free [] q = tt
-    free (w ∷ l) q = ((λ a b s t. let z : _≡_ {A = ℕ} 0 1 = cc (q .0) in omega arith), free l (q .1))
+    free (w ∷ l) q = ((λ t a b. let z : _≡_ {A = ℕ} 0 1 = cc (q .0) in omega arith), free l (q .1))
 writer-order (v ∷ ws) ds h k = (free (ws ++ ds), writer-order ws ds (h .1) k)
   where
     free : (l : List Written) → Each (Spared v) l
     free [] = tt
-    free (w ∷ l) = ((λ a b s t. let z : _≡_ {A = ℕ} 0 1 = cc (h .0) in omega arith), free l)
+    free (w ∷ l) = ((λ t a b. let z : _≡_ {A = ℕ} 0 1 = cc (h .0) in omega arith), free l)

@@ -10,7 +10,7 @@ use lib.Dec.{eqb, ltb}
 use lib.ListN.{take}
 use borrow.Author.Tests.{eqb-true, lt-ltb, le-ltb}
 use Rattle.words.specs.Choice.{if_then_else_}
-use Rattle.directory.specs.Table.{sameKind, isTable, sizeOf}
+use Rattle.directory.specs.Table.{sameKind, isTable, slotLength, sizeOf}
 use Rattle.directory.specs.Directory.{tablesOf, findFrom, findTable, sizesOf, startOf, imageLength}
 use Rattle.directory.specs.declared.table.TableKind.{TableKind}
 use Rattle.directory.specs.declared.table.TableKind.the-variants.{Index, Value, RefCount}
@@ -18,6 +18,7 @@ use Rattle.directory.specs.declared.table.TableDescription.{TableDescription}
 use Rattle.directory.specs.declared.directory.Directory.{Directory}
 use Rattle.directory.specs.declared.directory.Found.{Found}
 use Rattle.directory.specs.declared.directory.Found.the-variants.{At, Nothing}
+use Rattle.record.specs.Record.{valueLength}
 use Rattle.effect.specs.Effect.{Place, placeOf}
 
 same-kind : (k j : TableKind) → sameKind k j ≡ true → k ≡ j
@@ -98,3 +99,7 @@ stands d kind number P e = go (findTable d kind number) refl
         let f : r .0 ≡ row = omega (arith, r .1) in
         let x : Nth kind number 0 (tablesOf d) row t = subst (λ (n : ℕ). Nth kind number 0 (tablesOf d) n t) f (r .2) in
         subst (λ (P : Place). Stands d kind number P) s (record { of = x .of; called = x .called; room = x .room; homes = simp zero-add at (x .homes) })
+
+-- a value in a record is as long as its slot in the image
+pub value-slot : (d : Directory) (number : ℕ) (P : Place) → placeOf d Value number ≡ some P → valueLength (P .table) ≡ slotLength (P .table)
+value-slot d number P e = rw (stands d Value number P e .of)

@@ -1,20 +1,20 @@
 -- What a record leaves at a position, free of its order: 0 if a drop reaches it, else the byte of the one write that reaches it, else nothing.
 -- Assumes nothing.
 use mathlib.Core.Path.{_≡_, refl, sym, ap, ap₂, _∙_}
-use mathlib.Core.Bool.{Bool, true, false, _||_, true≢false}
+use mathlib.Core.Bool.{Bool, true, false, _||_}
 use mathlib.Core.List.{List, [], _∷_, List·Permᴰ, List·Permᴰ·nil, List·Permᴰ·cons, List·Permᴰ·swap, List·Permᴰ·trans}
-use mathlib.Core.Option.{Option, none, some}
+use mathlib.Core.Option.{Option, none, some, orElse}
 use Prim.Native.Nat.{ℕ, _+_, _≤_}
 use native.Mathlib.Omega.{arith}
 use Rattle.words.specs.Choice.{if_then_else_}
+use Rattle.directory.specs.declared.table.TableKind.{TableKind}
 use Rattle.directory.specs.declared.directory.Directory.{Directory}
 use Rattle.record.specs.declared.action.LogAction.{LogAction}
 use Rattle.record.specs.declared.action.LogAction.the-variants.{BeginRecord, InsertIndex, InsertValue, InsertRefCount, EndRecord, DropTable, DropRefCountTable}
 use Rattle.effect.specs.Effect.{Written, strokes}
-use Rattle.effect.specs.Meaning.{orElse}
-use Rattle.effect.specs.Order.{named, writes, drops, writtenBy, droppedBy, Each, Pairs, Other, Spared}
+use Rattle.effect.specs.Order.{NamedTable, Target, writtenBy, droppedBy, writesTo, dropsTable, Each, Pairs, Other, Spared}
 use Rattle.effect.proofs.Bytes.{lastAt, recordAt}
-use Rattle.effect.proofs.Reach.{Under, one-table, write-in, drop-in, idle}
+use Rattle.effect.proofs.Reach.{In, Under, one-table, write-in, drop-in, idle}
 
 abbrev isSome : Option ℕ → Bool
 isSome none = false
@@ -32,6 +32,7 @@ or-swap false false true = refl
 or-swap false false false = refl
 
 orElse-swap : (o a b : Option ℕ) → hit a + hit b ≤ 1 → orElse (orElse o b) a ≡ orElse (orElse o a) b
+unfolding orElse
 orElse-swap (some c) a b h = refl
 orElse-swap none none none h = refl
 orElse-swap none none (some b) h = refl
@@ -39,21 +40,28 @@ orElse-swap none (some a) none h = refl
 orElse-swap none (some a) (some b) h = absurd (omega arith)
 
 -- an action that drops does not write
-drop-writes : (a : LogAction) (payload : List ℕ) → droppedBy a ≡ true → writtenBy a payload ≡ false
-drop-writes (InsertIndex a) payload e = cc
-drop-writes (InsertValue a) payload e = cc
-drop-writes (InsertRefCount a) payload e = cc
-drop-writes (DropTable t) payload e = refl
-drop-writes (DropRefCountTable t) payload e = refl
-drop-writes BeginRecord payload e = refl
-drop-writes EndRecord payload e = refl
+drop-writes : (a : LogAction) (payload : List ℕ) (n : NamedTable) (t : Target) → droppedBy a ≡ some n → writtenBy a payload ≡ some t → ⊥
+drop-writes (InsertIndex a) payload n t e f = let z : _≡_ {A = ℕ} 0 1 = cc in omega arith
+drop-writes (InsertValue a) payload n t e f = let z : _≡_ {A = ℕ} 0 1 = cc in omega arith
+drop-writes (InsertRefCount a) payload n t e f = let z : _≡_ {A = ℕ} 0 1 = cc in omega arith
+drop-writes (DropTable d) payload n t e f = let z : _≡_ {A = ℕ} 0 1 = cc in omega arith
+drop-writes (DropRefCountTable d) payload n t e f = let z : _≡_ {A = ℕ} 0 1 = cc in omega arith
+drop-writes BeginRecord payload n t e f = let z : _≡_ {A = ℕ} 0 1 = cc in omega arith
+drop-writes EndRecord payload n t e f = let z : _≡_ {A = ℕ} 0 1 = cc in omega arith
+
+-- the second, if there is a first
+abbrev given : {A : Type 0} → Option A → Option ℕ → Option ℕ
+given none o = none
+given (some a) o = o
 
 if-write : (d : Bool) (w x : Option ℕ) → orElse (if d then some 0 else w) x ≡ (if d || false then some 0 else orElse w x)
+unfolding orElse
 if-write true w x = refl
 if-write false w x = refl
 
 if-drop : (d : Bool) (w x : Option ℕ) → ((b : ℕ) → x ≡ some b → (w ≡ none) × (b ≡ 0))
     → orElse (if d then some 0 else w) x ≡ (if d || isSome x then some 0 else orElse w none)
+unfolding orElse
 if-drop true w x h = refl
 if-drop false w none h = refl
 if-drop false w (some b) h = let r = h b refl in rw (r .0, r .1)
@@ -64,10 +72,10 @@ module _ (d : Directory) (p : ℕ) where
 
   -- what an action puts at p if it is a write; whether it is a drop that reaches p
   abbrev ofWrite : Written → Option ℕ
-  ofWrite w = if writes w then reached w else none
+  ofWrite w = given (writesTo w) (reached w)
 
   abbrev ofDrop : Written → Bool
-  ofDrop w = if drops w then isSome (reached w) else false
+  ofDrop w = isSome (given (dropsTable w) (reached w))
 
   -- the last write that reaches p; whether a drop reaches it
   abbrev pub wrote : List Written → Option ℕ
@@ -104,22 +112,33 @@ module _ (d : Directory) (p : ℕ) where
 
   -- ---- no key twice: at most one write reaches p
 
-  abbrev Reaches : Written → Type 0
-  Reaches w = Under d (named w .kind) (named w .table) (named w .index) p
+  -- what a write that reaches p names
+  record Reaches (w : Written) : Type 0 where
+    to : Target
+    is : writesTo w ≡ some to
+    here : Under d (to .table .kind) (to .table .number) (to .index) p
 
-  ofWrite-in : (w : Written) (b : ℕ) → ofWrite w ≡ some b → (writes w ≡ true) × Reaches w
-  ofWrite-in w b e = go (writes w) refl
+  ofWrite-in : (w : Written) (b : ℕ) → ofWrite w ≡ some b → Reaches w
+  ofWrite-in w b e = go (writesTo w) refl
     where
-      go : (t : Bool) → writes w ≡ t → (writes w ≡ true) × Reaches w
-      go true q = (q, write-in d (w .action) (w .payload) p b q (rw q at e))
-      go false q = let z : _≡_ {A = ℕ} 0 1 = cc (rw q at e) in absurd (omega arith)
+      go : (o : Option Target) → writesTo w ≡ o → Reaches w
+      go (some t) q = record { to = t; is = q; here = write-in d (w .action) (w .payload) p b t q (rw q at e) }
+      go none q = let z : _≡_ {A = ℕ} 0 1 = cc (rw q at e) in absurd (omega arith)
+
+  -- two targets in one byte's table have that table
+  same-table : (n m : NamedTable) (x : In d (n .kind) (n .number) p) (y : In d (m .kind) (m .number) p) → (n ≡ m) × (x .place ≡ y .place)
+  same-table n m x y =
+      let s = one-table d (n .kind) (m .kind) (n .number) (m .number) p x y in
+      (ap₂ (λ (k : TableKind) (i : ℕ). record { kind = k; number = i }) (s .0) (s .1), s .2)
 
   clash : (v w : Written) (x y : ℕ) → Other v w → ofWrite v ≡ some x → ofWrite w ≡ some y → ⊥
   clash v w x y o e f =
       let a = ofWrite-in v x e in
       let b = ofWrite-in w y f in
-      let s = one-table d (named v .kind) (named w .kind) (named v .table) (named w .table) p (a .1 .inside) (b .1 .inside) in
-      o (a .0) (b .0) (s .0) (s .1) (sym (a .1 .under) ∙ rw (s .2) (b .1 .under))
+      let s = same-table (a .to .table) (b .to .table) (a .here .inside) (b .here .inside) in
+      let i : a .to .index ≡ b .to .index = sym (a .here .under) ∙ rw (s .1) (b .here .under) in
+      let t : a .to ≡ b .to = ap₂ (λ (x : NamedTable) (n : ℕ). record { table = x; index = n }) (s .0) i in
+      o (b .to) (a .is ∙ ap {B = Option Target} some t) (b .is)
 
   alone : (v : Written) (x : ℕ) (s : List Written) → ofWrite v ≡ some x → Each (Other v) s → hits s ≡ 0
   alone v x [] e h = refl
@@ -142,28 +161,29 @@ module _ (d : Directory) (p : ℕ) where
 
   -- ---- no table is written after its own drop: where a drop reaches p, p is 0
 
-  spared : (v : Written) (x : ℕ) (s : List Written) → drops v ≡ true → reached v ≡ some x → Each (Spared v) s → wrote s ≡ none
-  spared v x [] q e h = refl
-  spared v x (w ∷ s) q e h = go (ofWrite w) refl (spared v x s q e (h .1))
+  spared : (v : Written) (n : NamedTable) (x : ℕ) (s : List Written) → dropsTable v ≡ some n → reached v ≡ some x → Each (Spared v) s → wrote s ≡ none
+  unfolding orElse
+  spared v n x [] q e h = refl
+  spared v n x (w ∷ s) q e h = go (ofWrite w) refl (spared v n x s q e (h .1))
     where
       go : (o : Option ℕ) → ofWrite w ≡ o → wrote s ≡ none → orElse (wrote s) o ≡ none
       go none f ih = rw ih
       go (some y) f ih =
           let b = ofWrite-in w y f in
-          let a = drop-in d (v .action) (v .payload) p x q e in
-          let t = one-table d (named v .kind) (named w .kind) (named v .table) (named w .table) p (a .0) (b .1 .inside) in
-          absurd (h .0 q (b .0) (t .0) (t .1))
+          let a = drop-in d (v .action) (v .payload) p x n q e in
+          let t = same-table n (b .to .table) (a .0) (b .here .inside) in
+          absurd (h .0 (b .to) (q ∙ ap {B = Option NamedTable} some (t .0)) (b .is))
 
   pub settle : (s : List Written) → Pairs Spared s → recordAt d s p ≡ (if dropped s then some 0 else wrote s)
   unfolding recordAt lastAt
   settle [] h = refl
-  settle (w ∷ s) h = rw (settle s (h .1)) (go (drops w) refl (writes w) refl)
+  settle (w ∷ s) h = rw (settle s (h .1)) (go (dropsTable w) refl (writesTo w) refl)
     where
-      go : (x : Bool) → drops w ≡ x → (y : Bool) → writes w ≡ y
+      go : (x : Option NamedTable) → dropsTable w ≡ x → (y : Option Target) → writesTo w ≡ y
           → orElse (if dropped s then some 0 else wrote s) (reached w) ≡ (if dropped (w ∷ s) then some 0 else wrote (w ∷ s))
-      go true q true r = absurd (true≢false (sym r ∙ drop-writes (w .action) (w .payload) q))
-      go true q false r =
+      go (some n) q (some t) r = absurd (drop-writes (w .action) (w .payload) n t q r)
+      go (some n) q none r =
           rw (q, r) (if-drop (dropped s) (wrote s) (reached w)
-          (λ b e. (spared w b s q e (h .0), drop-in d (w .action) (w .payload) p b q e .1)))
-      go false q true r = rw (q, r) (if-write (dropped s) (wrote s) (reached w))
-      go false q false r = rw (q, r, idle d (w .action) (w .payload) r q) (if-write (dropped s) (wrote s) none)
+          (λ b e. (spared w n b s q e (h .0), drop-in d (w .action) (w .payload) p b n q e .1)))
+      go none q (some t) r = rw (q, r) (if-write (dropped s) (wrote s) (reached w))
+      go none q none r = rw (q, r, idle d (w .action) (w .payload) r q) (if-write (dropped s) (wrote s) none)

@@ -21,7 +21,7 @@ use Rattle.directory.specs.declared.directory.Directory.{Directory}
 use Rattle.directory.specs.declared.directory.Found.{Found}
 use Rattle.directory.specs.declared.directory.Found.the-variants.{At, Nothing}
 use Rattle.record.specs.Format.{Format, need, refuse, give, got, readAt, _>>=_, _>>_, test}
-use Rattle.record.specs.Record.{Item, insertOf, dropIndex, dropRefCount, known, key, chunk, masked, value, valued, table, dropped, sumHolds, ended, insideBy, inside, opening}
+use Rattle.record.specs.Record.{Item, insertOf, dropIndex, dropRefCount, known, key, chunk, maskedItem, valueLength, value, valuedItem, table, droppedItem, sumHolds, endedItem, insideBy, inside, opening}
 use Rattle.record.specs.Next.{stepOf}
 use Rattle.answer.specs.declared.answer.Answer.{Answer}
 use Rattle.record.specs.declared.action.LogAction.{LogAction}
@@ -32,9 +32,8 @@ use Rattle.record.specs.declared.reader.Stepped.{Stepped}
 use Rattle.record.specs.declared.reader.Step.the-variants.{Took}
 use Rattle.record.proofs.Formats.{Within, within}
 use Rattle.record.proofs.Steps.{Read, within-record, at-opening, Taken, taken}
-use Rattle.effect.specs.Effect.{Place, placeOf, unit}
+use Rattle.effect.specs.Effect.{Place, placeOf}
 use Rattle.effect.specs.Meaning.{Entries, SizedBy}
-use Rattle.effect.proofs.Places.{stands}
 
 -- whatever bytes it gets behind those seen already, a format gives only what has the property Q beside all the bytes seen
 abbrev Good : {A : Type 0} → (A → List ℕ → Type 0) → List ℕ → Format A → Type 0
@@ -93,12 +92,12 @@ module _ {B : Type 0} (Q : B → List ℕ → Type 0) (seen : List ℕ) where
   good-known (At row t) g h = h row t refl
 
 module _ (d : Directory) where
-  -- of the key read: its table stands in the directory, and the length is that table's
+  -- of the key read: its table stands in the directory, and the description is that table's
   record Keyed (kind : TableKind) (k : Key) (seen : List ℕ) : Type 0 where
     row : ℕ
     t : TableDescription
     found : findTable d kind (k .table) ≡ At row t
-    long : k .length ≡ t .length
+    described : k .description ≡ t
 
   -- of the item read: its payload is the last of the bytes seen, and is sized
   record Fine (i : Item) (seen : List ℕ) : Type 0 where
@@ -112,7 +111,7 @@ module _ (d : Directory) where
   unfolding key
   good-key kind seen = λ h l.
       good-known (Keyed kind) (seen ++ h) (findTable d kind (little (take 2 h))) _
-      (λ row t e. good-test (Keyed kind) (seen ++ h) (ltb (little (drop 2 h)) (t .count)) _ _ (record { row = row; t = t; found = e; long = refl }))
+      (λ row t e. good-test (Keyed kind) (seen ++ h) (ltb (little (drop 2 h)) (t .count)) _ _ (record { row = row; t = t; found = e; described = refl }))
 
   module _ (kind : TableKind) (width : ℕ) (is : (table index : ℕ) (payload : List ℕ) → Entries width payload → SizedBy d (insertOf kind table index) payload) where
     good-chunk : (k : Key) (seen : List ℕ) → Good Fine seen (chunk kind width k)
@@ -125,32 +124,31 @@ module _ (d : Directory) where
       sized = is (k .table) (k .index) (mask ++ entries) (rw (length-append, take-at mask entries 8 l, l, m));
     }
 
-    good-masked : (seen : List ℕ) → Good Fine seen (masked d kind width)
-    unfolding masked
+    good-masked : (seen : List ℕ) → Good Fine seen (maskedItem d kind width)
+    unfolding maskedItem
     good-masked seen = good-bind (Keyed kind) Fine seen (key d kind) _ (good-key kind seen) (λ k seen h. good-chunk k seen)
 
-  -- a value's table is of the kind `Value`, so what lies under an index of it is one value
-  value-unit : (k : Key) (seen : List ℕ) → Keyed Value k seen → (P : Place) → placeOf d Value (k .table) ≡ some P → k .length ≡ unit (P .table)
+  -- the description in a key is that of the table in its place
+  key-place : (k : Key) (seen : List ℕ) → Keyed Value k seen → (P : Place) → placeOf d Value (k .table) ≡ some P → k .description ≡ P .table
   unfolding placeOf
-  value-unit k seen h P e =
+  key-place k seen h P e =
       let s : h .t ≡ P .table = cc (rw (h .found) at e) in
-      let v : P .table .kind ≡ Value = stands d Value (k .table) P e .of in
-      h .long ∙ ap (λ (t : TableDescription). t .length) s ∙ rw v
+      h .described ∙ s
 
-  good-valued : (seen : List ℕ) → Good Fine seen (valued d)
-  unfolding valued value SizedBy
+  good-valued : (seen : List ℕ) → Good Fine seen (valuedItem d)
+  unfolding valuedItem value SizedBy
   good-valued seen =
       good-bind (Keyed Value) Fine seen (key d Value) _ (good-key Value seen)
-      (λ k seen h bs l. record { front = seen; payload = bs; is = refl; long = l; sized = λ P e. l ∙ value-unit k seen h P e })
+      (λ k seen h bs l. record { front = seen; payload = bs; is = refl; long = l; sized = λ P e. l ∙ ap valueLength (key-place k seen h P e) })
 
-  good-dropped : (kind : TableKind) (action : ℕ → LogAction) → ((number : ℕ) → SizedBy d (action number) []) → (seen : List ℕ) → Good Fine seen (dropped d kind action)
-  unfolding dropped
+  good-dropped : (kind : TableKind) (action : ℕ → LogAction) → ((number : ℕ) → SizedBy d (action number) []) → (seen : List ℕ) → Good Fine seen (droppedItem d kind action)
+  unfolding droppedItem
   good-dropped kind action is seen =
       good-bind (λ n s. Unit {0}) Fine seen (table d kind) _ (good-any seen (table d kind))
       (λ n s h. record { front = s; payload = []; is = sym (append-nil s); long = refl; sized = is n })
 
-  good-ended : (validate : Bool) (register : ℕ) (seen : List ℕ) → Good Fine seen (ended validate register)
-  unfolding ended SizedBy
+  good-ended : (validate : Bool) (register : ℕ) (seen : List ℕ) → Good Fine seen (endedItem validate register)
+  unfolding endedItem SizedBy
   good-ended validate register seen = λ b l.
       good-test Fine (seen ++ b) (sumHolds validate register (little b)) _ _ (record { front = seen ++ b; payload = []; is = sym (append-nil (seen ++ b)); long = refl; sized = tt })
 

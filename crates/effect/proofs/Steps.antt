@@ -7,7 +7,7 @@ use native.Mathlib.Nat.{add-zero, sub-zero}
 use mathlib.Core.Logic.{_≢_}
 use lib.Count.{onesIn}
 use borrow.Author.Tests.{eq-eqb, ne-eqb}
-use Rattle.effect.specs.Effect.{slots, puts}
+use Rattle.effect.specs.Effect.{slotStrokes, puts}
 use native.Mathlib.Numerals.{add-one}
 use native.Mathlib.Omega.{arith}
 use lib.ListN.{length, take, drop, set, getD, replicate}
@@ -60,18 +60,18 @@ ones-clear (suc n) m w h e =
     rw (q, z) (omega arith)
 
 pub slots-set : (l log : List ℕ) (left w a m f : ℕ) → 0 < left → m % 2 ≡ 1
-    → puts (slots (left - 1) w (a + w) (m / 2) (drop (f + w) log)) (sets l a (take w (drop f log))) ≡ puts (slots left w a m (drop f log)) l
-unfolding slots puts
+    → puts (slotStrokes (left - 1) w (a + w) (m / 2) (drop (f + w) log)) (sets l a (take w (drop f log))) ≡ puts (slotStrokes left w a m (drop f log)) l
+unfolding slotStrokes puts
 slots-set l log zero w a m f h e = absurd (omega arith)
 slots-set l log (suc n) w a m f h e = let q : suc n - 1 ≡ n = omega arith in rw (q, eq-eqb (m % 2) 1 e, drop-drop)
 
 pub slots-clear : (l log : List ℕ) (left w a m f : ℕ) → 0 < left → m % 2 ≢ 1
-    → puts (slots (left - 1) w (a + w) (m / 2) (drop f log)) l ≡ puts (slots left w a m (drop f log)) l
-unfolding slots puts
+    → puts (slotStrokes (left - 1) w (a + w) (m / 2) (drop f log)) l ≡ puts (slotStrokes left w a m (drop f log)) l
+unfolding slotStrokes puts
 slots-clear l log zero w a m f h e = absurd (omega arith)
 slots-clear l log (suc n) w a m f h e = let q : suc n - 1 ≡ n = omega arith in rw (q, ne-eqb (m % 2) 1 e)
 
-pub slots-last : (l log : List ℕ) (left w a m f : ℕ) → left ≤ 0 → puts (slots left w a m (drop f log)) l ≡ l
-unfolding slots puts
+pub slots-last : (l log : List ℕ) (left w a m f : ℕ) → left ≤ 0 → puts (slotStrokes left w a m (drop f log)) l ≡ l
+unfolding slotStrokes puts
 slots-last l log zero w a m f h = refl
 slots-last l log (suc n) w a m f h = absurd (omega arith)

@@ -8,7 +8,7 @@ use lib.ListN.{take, drop, replicate}
 use lib.Seq.{sets}
 use Rattle.words.specs.Choice.{if_then_else_}
 use Rattle.words.specs.Words.{little}
-use Rattle.directory.specs.Table.{unitOf, sizeOf}
+use Rattle.directory.specs.Table.{slotLength, sizeOf}
 use Rattle.directory.specs.Directory.{findTable, startOf}
 use Rattle.directory.specs.declared.table.TableKind.{TableKind}
 use Rattle.directory.specs.declared.table.TableKind.the-variants.{Index, Value, RefCount}
@@ -46,26 +46,23 @@ placed d (At row t) = some (record { at = startOf d row; table = t })
 unfoldable pub placeOf : Directory → TableKind → ℕ → Option Place
 placeOf d kind number = placed d (findTable d kind number)
 
-abbrev pub unit : TableDescription → ℕ
-unit t = unitOf (t .kind) (t .length)
-
 -- bytes that are stored one behind the other from a position on
 pub data Stroke : Type 0 where
   stroke : (at : ℕ) → (bytes : List ℕ) → Stroke
 
 -- The mask's low n bits, "lowest bit first", each for w bytes from `at` on: a set bit takes the next w bytes of the entries.
 -- (The two cases are bound by `let`, which waits: as arguments both would be computed, 2 to the n calls in all.)
-unfoldable pub slots : ℕ → ℕ → ℕ → ℕ → List ℕ → List Stroke
-slots zero w at mask entries = []
-slots (suc n) w at mask entries =
-    let taken : List Stroke = stroke at (take w entries) ∷ slots n w (at + w) (mask / 2) (drop w entries) in
-    let passed : List Stroke = slots n w (at + w) (mask / 2) entries in
+unfoldable pub slotStrokes : ℕ → ℕ → ℕ → ℕ → List ℕ → List Stroke
+slotStrokes zero w at mask entries = []
+slotStrokes (suc n) w at mask entries =
+    let taken : List Stroke = stroke at (take w entries) ∷ slotStrokes n w (at + w) (mask / 2) (drop w entries) in
+    let passed : List Stroke = slotStrokes n w (at + w) (mask / 2) entries in
     if eqb (mask % 2) 1 then taken else passed
 
 -- the strokes under index i of a table, if there is such an index
-unfoldable pub under : Option Place → ℕ → (ℕ → ℕ → List Stroke) → List Stroke
-under none i f = []
-under (some p) i f = if ltb i (p .table .count) then f (p .at + i * unit (p .table)) (unit (p .table)) else []
+unfoldable pub underIndex : Option Place → ℕ → (ℕ → ℕ → List Stroke) → List Stroke
+underIndex none i f = []
+underIndex (some p) i f = if ltb i (p .table .count) then f (p .at + i * slotLength (p .table)) (slotLength (p .table)) else []
 
 -- "a drop zeroes the table's bytes"
 unfoldable pub zeroed : Option Place → List Stroke
@@ -74,9 +71,9 @@ zeroed (some p) = stroke (p .at) (replicate (sizeOf (p .table)) 0) ∷ []
 
 -- what each action stores
 unfoldable pub strokes : Directory → LogAction → List ℕ → List Stroke
-strokes d (InsertIndex a) payload = under (placeOf d Index (a .table .0)) (a .index) (λ at u. slots 64 8 at (maskIn payload) (entriesIn payload))
-strokes d (InsertValue a) payload = under (placeOf d Value (a .table .0)) (a .index) (λ at u. stroke at (take u payload) ∷ [])
-strokes d (InsertRefCount a) payload = under (placeOf d RefCount (a .table .0)) (a .index) (λ at u. slots 64 16 at (maskIn payload) (entriesIn payload))
+strokes d (InsertIndex a) payload = underIndex (placeOf d Index (a .table .0)) (a .index) (λ at u. slotStrokes 64 8 at (maskIn payload) (entriesIn payload))
+strokes d (InsertValue a) payload = underIndex (placeOf d Value (a .table .0)) (a .index) (λ at u. stroke at (take u payload) ∷ [])
+strokes d (InsertRefCount a) payload = underIndex (placeOf d RefCount (a .table .0)) (a .index) (λ at u. slotStrokes 64 16 at (maskIn payload) (entriesIn payload))
 strokes d (DropTable t) payload = zeroed (placeOf d Index (t .0))
 strokes d (DropRefCountTable t) payload = zeroed (placeOf d RefCount (t .0))
 strokes d BeginRecord payload = []

@@ -1,4 +1,4 @@
 pub mod Effect
+pub mod Inner
 pub mod Meaning
 pub mod Order
-pub mod Parts

@@ -1,58 +1,57 @@
 -- Demand 3's premises: "no kind, table and index is written twice, and in neither record a table is written after its own drop".
--- An action whose mask is 0 writes nothing.
 use mathlib.Core.Path.{_≡_}
-use mathlib.Core.Bool.{Bool, true, false, not}
 use mathlib.Core.List.{List, [], _∷_}
+use mathlib.Core.Option.{Option, none, some}
 use Prim.Native.Nat.{ℕ}
 use lib.Dec.{eqb}
+use Rattle.words.specs.Choice.{if_then_else_}
 use Rattle.directory.specs.declared.table.TableKind.{TableKind}
 use Rattle.directory.specs.declared.table.TableKind.the-variants.{Index, Value, RefCount}
 use Rattle.record.specs.declared.action.LogAction.{LogAction}
 use Rattle.record.specs.declared.action.LogAction.the-variants.{BeginRecord, InsertIndex, InsertValue, InsertRefCount, EndRecord, DropTable, DropRefCountTable}
 use Rattle.effect.specs.Effect.{Written, maskIn}
 
--- which table an action names: its kind, number and index
-pub record Named : Type 0 where
+-- a table as an action names it, and an index of it
+pub record NamedTable : Type 0 where
   pub kind : TableKind
-  pub table : ℕ
+  pub number : ℕ
+
+pub record Target : Type 0 where
+  pub table : NamedTable
   pub index : ℕ
 
--- (a drop names no index and a begin or end no table: neither writes, and the first two aren't asked for it)
-abbrev pub namedBy : LogAction → Named
-namedBy (InsertIndex a) = record { kind = Index; table = a .table .0; index = a .index }
-namedBy (InsertValue a) = record { kind = Value; table = a .table .0; index = a .index }
-namedBy (InsertRefCount a) = record { kind = RefCount; table = a .table .0; index = a .index }
-namedBy (DropTable t) = record { kind = Index; table = t .0; index = 0 }
-namedBy (DropRefCountTable t) = record { kind = RefCount; table = t .0; index = 0 }
-namedBy BeginRecord = record { kind = Index; table = 0; index = 0 }
-namedBy EndRecord = record { kind = Index; table = 0; index = 0 }
+abbrev pub target : TableKind → ℕ → ℕ → Target
+target kind number index = record { table = record { kind = kind; number = number }; index = index }
 
-abbrev pub writtenBy : LogAction → List ℕ → Bool
-writtenBy (InsertIndex a) payload = not (eqb (maskIn payload) 0)
-writtenBy (InsertValue a) payload = true
-writtenBy (InsertRefCount a) payload = not (eqb (maskIn payload) 0)
-writtenBy (DropTable t) payload = false
-writtenBy (DropRefCountTable t) payload = false
-writtenBy BeginRecord payload = false
-writtenBy EndRecord payload = false
+-- "A mask of 0 is accepted and sets nothing."
+abbrev pub ifMasked : List ℕ → Target → Option Target
+ifMasked payload t = if eqb (maskIn payload) 0 then none else some t
 
-abbrev pub droppedBy : LogAction → Bool
-droppedBy (InsertIndex a) = false
-droppedBy (InsertValue a) = false
-droppedBy (InsertRefCount a) = false
-droppedBy (DropTable t) = true
-droppedBy (DropRefCountTable t) = true
-droppedBy BeginRecord = false
-droppedBy EndRecord = false
+-- where an action writes, if it writes
+abbrev pub writtenBy : LogAction → List ℕ → Option Target
+writtenBy (InsertIndex a) payload = ifMasked payload (target Index (a .table .0) (a .index))
+writtenBy (InsertValue a) payload = some (target Value (a .table .0) (a .index))
+writtenBy (InsertRefCount a) payload = ifMasked payload (target RefCount (a .table .0) (a .index))
+writtenBy (DropTable t) payload = none
+writtenBy (DropRefCountTable t) payload = none
+writtenBy BeginRecord payload = none
+writtenBy EndRecord payload = none
 
-abbrev pub named : Written → Named
-named w = namedBy (w .action)
+-- the table that an action drops, if it drops one
+abbrev pub droppedBy : LogAction → Option NamedTable
+droppedBy (InsertIndex a) = none
+droppedBy (InsertValue a) = none
+droppedBy (InsertRefCount a) = none
+droppedBy (DropTable t) = some (record { kind = Index; number = t .0 })
+droppedBy (DropRefCountTable t) = some (record { kind = RefCount; number = t .0 })
+droppedBy BeginRecord = none
+droppedBy EndRecord = none
 
-abbrev pub writes : Written → Bool
-writes w = writtenBy (w .action) (w .payload)
+abbrev pub writesTo : Written → Option Target
+writesTo w = writtenBy (w .action) (w .payload)
 
-abbrev pub drops : Written → Bool
-drops w = droppedBy (w .action)
+abbrev pub dropsTable : Written → Option NamedTable
+dropsTable w = droppedBy (w .action)
 
 -- P of each action; R of each two, the earlier one first
 abbrev pub Each : (Written → Type 0) → List Written → Type 0
@@ -65,9 +64,8 @@ Pairs R (w ∷ ws) = Each (R w) ws × Pairs R ws
 
 -- "no kind, table and index is written twice"
 abbrev pub Other : Written → Written → Type 0
-Other v w =
-    writes v ≡ true → writes w ≡ true → named v .kind ≡ named w .kind → named v .table ≡ named w .table → named v .index ≡ named w .index → ⊥
+Other v w = (t : Target) → writesTo v ≡ some t → writesTo w ≡ some t → ⊥
 
 -- "a table is written after its own drop": not
 abbrev pub Spared : Written → Written → Type 0
-Spared v w = drops v ≡ true → writes w ≡ true → named v .kind ≡ named w .kind → named v .table ≡ named w .table → ⊥
+Spared v w = (t : Target) → dropsTable v ≡ some (t .table) → writesTo w ≡ some t → ⊥

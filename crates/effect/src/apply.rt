@@ -5,9 +5,9 @@ ghost use Prim.Native.Nat.{_+_, _≤_};
 ghost use lib.ListN.{length, take, drop};
 ghost use Rattle.directory.specs.Directory.{imageLength};
 ghost use Rattle.directory.specs.declared.table.TableKind.the-variants.{Value};
-ghost use Rattle.effect.specs.Effect.{written, maskIn, entriesIn, placeOf, stroke, slots, under, zeroed, puts, done};
+ghost use Rattle.effect.specs.Effect.{written, maskIn, entriesIn, placeOf, stroke, slotStrokes, underIndex, zeroed, puts, done};
 ghost use Rattle.effect.specs.Meaning.{Entries, OneValue, SizedBy};
-ghost use Rattle.effect.specs.Parts.{Chunks};
+ghost use Rattle.effect.specs.Inner.{Chunks};
 use super::place::Spot;
 use super::place::locate;
 use super::store::copy;
@@ -31,7 +31,7 @@ fn insert_chunk(
     requires { ⌜ length (now image) ≡ imageLength d ⌝ }
     requires { ⌜ Chunks kind width ⌝ }
     requires { ⌜ Entries width (now payload) ⌝ }
-    ensures { λ _. ⌜ now (image .exit) ≡ puts (under (placeOf d kind number) index (λ at u. slots 64 width at (maskIn (now (payload .entry))) (entriesIn (now (payload .entry))))) (now (image .entry)) ⌝ }
+    ensures { λ _. ⌜ now (image .exit) ≡ puts (underIndex (placeOf d kind number) index (λ at u. slotStrokes 64 width at (maskIn (now (payload .entry))) (entriesIn (now (payload .entry))))) (now (image .entry)) ⌝ }
 {
     match locate(d, kind, number, index) {
         Spot::Nowhere => {}
@@ -46,7 +46,7 @@ fn insert_chunk(
 fn insert_value(d: Directory, number: u16, index: u64, payload: &[u8], image: &mut [u8])
     requires { ⌜ length (now image) ≡ imageLength d ⌝ }
     requires { ⌜ OneValue (placeOf d Value number) (now payload) ⌝ }
-    ensures { λ _. ⌜ now (image .exit) ≡ puts (under (placeOf d Value number) index (λ at u. stroke at (take u (now (payload .entry))) ∷ [])) (now (image .entry)) ⌝ }
+    ensures { λ _. ⌜ now (image .exit) ≡ puts (underIndex (placeOf d Value number) index (λ at u. stroke at (take u (now (payload .entry))) ∷ [])) (now (image .entry)) ⌝ }
 {
     match locate(d, TableKind::Value, number, index) {
         Spot::Nowhere => {}

@@ -4,7 +4,7 @@ ghost use Prim.Native.Nat.{_+_, _*_, _≤_};
 ghost use lib.Count.{onesIn};
 ghost use lib.ListN.{length, take, drop, replicate};
 ghost use lib.Seq.{sets};
-ghost use Rattle.effect.specs.Effect.{slots, puts};
+ghost use Rattle.effect.specs.Effect.{slotStrokes, puts};
 
 // n zeros from `at` on
 pub fn zero(image: &mut [u8], at: usize, n: usize)
@@ -34,7 +34,7 @@ pub fn copy(image: &mut [u8], at: usize, payload: &[u8], from: usize, n: usize)
 // the set bits of the mask, lowest first: `width` bytes of the payload for each
 pub fn put_slots(image: &mut [u8], at: usize, width: usize, mask: u64, payload: &[u8], from: usize)
     requires { ⌜ (at + 64 * width ≤ length (now image)) × (from + onesIn 64 mask * width ≤ length (now payload)) ⌝ }
-    ensures { λ _. ⌜ now (image .exit) ≡ puts (slots 64 width at mask (drop from (now (payload .entry)))) (now (image .entry)) ⌝ }
+    ensures { λ _. ⌜ now (image .exit) ≡ puts (slotStrokes 64 width at mask (drop from (now (payload .entry)))) (now (image .entry)) ⌝ }
 {
     let mut m = mask;
     let mut a = at;

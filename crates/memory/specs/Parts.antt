@@ -2,14 +2,15 @@
 use mathlib.Core.Path.{_≡_}
 use mathlib.Core.Bool.{Bool, false, _&&_}
 use mathlib.Core.List.{List}
+use mathlib.Core.Option.{Option}
 use Prim.Native.Nat.{ℕ, _-_, _<_}
 use lib.Dec.{eqb}
 use lib.ListN.{take, drop, length}
 use Rattle.directory.specs.declared.table.TableKind.{TableKind}
 use Rattle.directory.specs.declared.table.TableKind.the-variants.{Index, Value, RefCount}
 use Rattle.overlay.specs.Rules.{Overlay, overlayOf, overlayKept}
-use Rattle.overlay.specs.Overlay.{standsIn, putOver}
-use Rattle.keys.specs.Keys.{rank}
+use Rattle.overlay.specs.Entries.{Entry, entriesOf, findEntry}
+use Rattle.overlay.specs.Overlay.{standsIn, putOver, removedFrom}
 use Rattle.memory.specs.declared.counts.Counts.{Counts}
 use Rattle.memory.specs.declared.span.Holder.{Holder}
 use Rattle.memory.specs.declared.span.Span.{Span}
@@ -81,6 +82,10 @@ ofKind Index p = p .index
 ofKind Value p = p .value
 ofKind RefCount p = p .refCount
 
+-- what stands under a key of a kind
+abbrev pub entryUnder : TableKind → ℕ → Parts → Option Entry
+entryUnder kind key p = findEntry key (entriesOf kind (ofKind kind p))
+
 -- one kind changed, the others as they were
 abbrev pub withKind : TableKind → Parts → Overlay → Parts
 withKind Index p o = record { index = o; value = p .value; refCount = p .refCount; wordsMore = p .wordsMore; bytesMore = p .bytesMore }
@@ -100,3 +105,7 @@ Takes h kind p key = standsIn (ofKind kind p) key ≡ false → ofKind kind p .c
 -- an entry put into the part of its kind
 unfoldable pub putInto : TableKind → Parts → ℕ → ℕ → ℕ → ℕ → List ℕ → Parts
 putInto kind p table index id mark src = withKind kind p (putOver kind (ofKind kind p) table index id mark src)
+
+-- the entry of a key taken out of the part of its kind, if its id is the one given
+unfoldable pub removeFrom : TableKind → Parts → ℕ → ℕ → Parts
+removeFrom kind p key id = withKind kind p (removedFrom kind (ofKind kind p) key id)

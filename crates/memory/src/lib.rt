@@ -12,3 +12,4 @@ pub use span::span_of;
 pub use together::all_kept;
 pub use together::kept_in;
 pub use together::put_in;
+pub use together::remove_in;

@@ -1,4 +1,4 @@
--- An entry put into an overlay that keeps its rules: it is put over the entry of its key, the rules are kept, and a findEntry finds it.
+-- An entry put into an overlay that keeps its rules: it is put over the entry of its key, the rules are kept, and a lookup finds it.
 -- Assumes nothing.
 use mathlib.Core.Path.{_≡_, refl, sym, ap, _∙_}
 use mathlib.Core.Bool.{Bool, true, false}
@@ -11,7 +11,7 @@ use lib.ListN.{getD, take, drop, length, length-append, length-drop, length-set}
 use lib.Seq.{paste, length-paste, length-take-le, take-length}
 use Rattle.words.specs.Choice.{if_then_else_}
 use Rattle.directory.specs.declared.table.TableKind.{TableKind}
-use Rattle.keys.specs.Keys.{rank, keyAt, rowPut, keysOf, every, ruled, spot, holds, putIn}
+use Rattle.keys.specs.Keys.{rank, keyAt, rowPut, keysOf, every, spot, holds, putIn}
 use Rattle.keys.proofs.Kept.{over-ruled, next-ruled}
 use Rattle.overlay.specs.Rules.{storedLength, Overlay, slotSize, markRuled, rowRuled, overlayKept, listsOf}
 use Rattle.overlay.specs.Overlay.{spotIn, standsIn, putOver}
@@ -98,7 +98,7 @@ module _ (kind : TableKind) (room : ℕ) (o : Overlay) (ok : overlayKept kind ro
             ap (entriesOf kind) (sym (next-is kind o table index id mark src j refl h)) ∙ next-entries h
             ∙ sym (next-at (entriesOf kind o) (keysOf (o .rows) (o .order) (o .count)) (keys-are kind o) new h)
 
-    -- a findEntry finds the new entry under its key, and under any other what it found before
+    -- a lookup finds the new entry under its key, and under any other what it found before
     pub findEntry-after-put : (key : ℕ) → findEntry key (entriesOf kind (putOver kind o table index id mark src))
         ≡ (if eqb (rank table index) key then some (record { key = rank table index; id = id; mark = mark; bytes = src }) else findEntry key (entriesOf kind o))
     findEntry-after-put key = ap (findEntry key) put-entries ∙ findEntry-put new key (entriesOf kind o)

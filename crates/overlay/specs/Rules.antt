@@ -39,7 +39,7 @@ markRuled RefCount mask = ltb 0 mask
 unfoldable pub rowRuled : TableKind → List ℕ → ℕ → Bool
 rowRuled kind rows p = ltb (getD rows (4 * p) 0) 65536 && markRuled kind (markAt rows p)
 
--- the rules of keys that need no directory, whatever the room: those of an overlay, and of the part of a list that a findEntry is handed
+-- the rules of keys that need no directory, whatever the room: those of an overlay, and of the part of a list that a lookup is handed
 unfoldable pub keysRuled : TableKind → ℕ → List ℕ → List ℕ → ℕ → Bool
 keysRuled kind room rows order n = leb n room && (ruled rows order n && every (rowRuled kind rows) (take n order))
 

@@ -1,22 +1,13 @@
 -- Cases (f), (g), (h) and (i) of document 01, under every directory that keeps its rules, validating or not. Assumes nothing.
-use mathlib.Core.Path.{_≡_, refl, ap, _∙_}
+use mathlib.Core.Path.{_≡_}
 use mathlib.Core.Bool.{Bool, true}
 use mathlib.Core.List.{List, [], _∷_}
 use Prim.Native.Nat.{ℕ}
 use Rattle.directory.specs.Directory.{directoryKept}
 use Rattle.directory.specs.declared.directory.Directory.{Directory}
-use Rattle.words.specs.Choice.{if_then_else_}
-use Rattle.answer.specs.Answer.{numberOf}
 use Rattle.record.specs.Format.{readAt}
-use Rattle.record.specs.Next.{readerAt, stepOf, nextOf}
-use Rattle.record.specs.Record.{opening, openingBy, begun, early}
-use Rattle.record.specs.declared.reader.Step.{Step}
-use Rattle.record.specs.declared.reader.Step.the-variants.{Took, Refused}
-
--- the number that a step answers
-abbrev pub answerOf : Step → ℕ
-answerOf (Took s) = 0
-answerOf (Refused r) = numberOf (r .answer)
+use Rattle.record.specs.Next.{answerOf, readerAt, stepOf, nextOf}
+use Rattle.record.specs.Record.{opening, openingBy, begunId, early}
 
 module _ (d : Directory) (kept : directoryKept d ≡ true) (validate : Bool) where
   abbrev answered : List ℕ → ℕ
@@ -29,5 +20,5 @@ module _ (d : Directory) (kept : directoryKept d ≡ true) (validate : Bool) whe
   -- "(f) bytes 01 and seven more, answer 1; (g) byte 02 alone, 1; (h) byte 08, 3; (i) 05 and two bytes, 4"
   pub cases : (a b c e f g h : ℕ)
       → (answered (1 ∷ a ∷ b ∷ c ∷ e ∷ f ∷ g ∷ h ∷ []) ≡ 1) × (answered (2 ∷ []) ≡ 1) × (answered (8 ∷ []) ≡ 3) × (answered (5 ∷ a ∷ b ∷ []) ≡ 4)
-  unfolding stepOf opening openingBy begun early readAt
+  unfolding stepOf opening openingBy begunId early readAt
   cases a b c e f g h = (tested _, tested _, tested _, tested _)

@@ -1,4 +1,5 @@
 pub mod Cases
+pub mod Faults
 pub mod Formats
 pub mod Parts
 pub mod Steps

@@ -10,19 +10,17 @@ use lib.Dec.{eqb, ltb}
 use lib.ListN.{length, take, drop, getD}
 use lib.Seq.{getD-take, getD-drop}
 use borrow.Author.Tests.{ne-eqb}
-use Rattle.words.specs.Choice.{if_then_else_}
-use Rattle.words.specs.Words.{little, littleAt}
+use Rattle.words.specs.Words.{littleAt}
 use Rattle.words.proofs.Cut.{little-take, little-drop}
 use Rattle.checksum.specs.Checksum.{checksumOf}
 use Rattle.directory.specs.Directory.{findTable}
 use Rattle.directory.specs.declared.table.TableKind.{TableKind}
-use Rattle.directory.specs.declared.table.TableKind.the-variants.{Index, Value, RefCount}
-use Rattle.directory.specs.declared.table.TableDescription.{TableDescription}
+use Rattle.directory.specs.declared.table.TableKind.the-variants.{Value}
 use Rattle.directory.specs.declared.directory.Directory.{Directory}
 use Rattle.directory.specs.declared.directory.Found.{Found}
 use Rattle.directory.specs.declared.directory.Found.the-variants.{At, Nothing}
-use Rattle.record.specs.Format.{Format, need, refuse, give, Got, stopped, got, readAt, _>>=_, _>>_, test}
-use Rattle.record.specs.Record.{Item, insertOf, dropIndex, dropRefCount, known, key, chunk, masked, value, valued, table, dropped, sumHolds, ended, insideBy, inside, early, begun, earlyEnd, openingBy, opening}
+use Rattle.record.specs.Format.{refuse, give, Got, stopped, got, readAt, _>>_, test}
+use Rattle.record.specs.Record.{Item, insertOf, key, chunk, valueLength, value, table, droppedItem, sumHolds, endedItem, insideBy, inside, early, begunId, earlyEnd, openingBy, opening}
 use Rattle.answer.specs.declared.answer.Answer.{Answer}
 use Rattle.answer.specs.declared.answer.Answer.the-variants.{EndOfLog, Cut, UnknownTag, OutOfPlace, NoTable, NoIndex, WrongSum}
 use Rattle.record.specs.declared.action.LogAction.{LogAction}
@@ -33,7 +31,7 @@ use Rattle.record.specs.declared.item.ItemAnswer.the-variants.{Read}
 use Rattle.record.specs.declared.reader.LogReader.{LogReader}
 use Rattle.record.specs.declared.reader.Step.the-variants.{Took}
 use Rattle.record.specs.Next.{readerAfter, stepped}
-use Rattle.record.specs.Parts.{gotItem}
+use Rattle.record.specs.Inner.{gotItem}
 use Rattle.record.proofs.Formats.{need-short, need-met, read-give, read-refuse, then-stop, then-got}
 
 -- a test, and then a value or a refusal
@@ -57,7 +55,7 @@ module _ (at : ℕ) (log : List ℕ) where
 
   abbrev pub keyIn : Found → ℕ → ℕ → Got Key
   keyIn Nothing t i = stopped NoTable
-  keyIn (At row d) t i = tested (ltb i (d .count)) (got (record { table = t; index = i; length = d .length }) (at + 10)) NoIndex
+  keyIn (At row d) t i = tested (ltb i (d .count)) (got (record { table = t; index = i; description = d }) (at + 10)) NoIndex
 
   pub key-short : (d : Directory) (kind : TableKind) → length log - at < 10 → readAt (key d kind) at log ≡ stopped Cut
   unfolding key
@@ -90,14 +88,14 @@ module _ (at : ℕ) (log : List ℕ) where
       need-met 8 Cut _ at log h ∙ rw (← e₁, ← e₂) (need-met n Cut _ (at + 8) log s ∙ read-give _ (at + 8 + n) log
       ∙ ap (got (record { action = insertOf kind (k .table) (k .index); payload = 8 + n })) (add-assoc at 8 n))
 
-  pub value-short : (k : Key) → length log - at < k .length → readAt (value k) at log ≡ stopped Cut
+  pub value-short : (k : Key) → length log - at < valueLength (k .description) → readAt (value k) at log ≡ stopped Cut
   unfolding value
-  value-short k h = need-short (k .length) Cut _ at log h
+  value-short k h = need-short (valueLength (k .description)) Cut _ at log h
 
-  pub value-met : (k : Key) → k .length ≤ length log - at
-      → readAt (value k) at log ≡ got (record { action = insertOf Value (k .table) (k .index); payload = k .length }) (at + k .length)
+  pub value-met : (k : Key) → valueLength (k .description) ≤ length log - at
+      → readAt (value k) at log ≡ got (record { action = insertOf Value (k .table) (k .index); payload = valueLength (k .description) }) (at + valueLength (k .description))
   unfolding value
-  value-met k h = need-met (k .length) Cut _ at log h ∙ read-give _ (at + k .length) log
+  value-met k h = need-met (valueLength (k .description)) Cut _ at log h ∙ read-give _ (at + valueLength (k .description)) log
 
   -- ---- the table of a drop
 
@@ -116,12 +114,12 @@ module _ (at : ℕ) (log : List ℕ) where
   table-met d kind t (At row r) h e₁ e₂ = need-met 2 Cut _ at log h ∙ rw (← e₁, ← e₂) (read-give t (at + 2) log)
 
   module _ (d : Directory) (kind : TableKind) (action : ℕ → LogAction) where
-    pub dropped-stop : (answer : Answer) → stopped answer ≡ readAt (table d kind) at log → stopped answer ≡ readAt (dropped d kind action) at log
-    unfolding dropped
+    pub dropped-stop : (answer : Answer) → stopped answer ≡ readAt (table d kind) at log → stopped answer ≡ readAt (droppedItem d kind action) at log
+    unfolding droppedItem
     dropped-stop answer e = then-stop (table d kind) (λ n. give (record { action = action n; payload = 0 })) at log answer e
 
-    pub dropped-met : (t : ℕ) → got t (at + 2) ≡ readAt (table d kind) at log → got (record { action = action t; payload = 0 }) (at + 2 + 0) ≡ readAt (dropped d kind action) at log
-    unfolding dropped
+    pub dropped-met : (t : ℕ) → got t (at + 2) ≡ readAt (table d kind) at log → got (record { action = action t; payload = 0 }) (at + 2 + 0) ≡ readAt (droppedItem d kind action) at log
+    unfolding droppedItem
     dropped-met t e =
         ap (got (record { action = action t; payload = 0 })) (add-zero (at + 2))
         ∙ sym (read-give (record { action = action t; payload = 0 }) (at + 2) log)
@@ -129,23 +127,23 @@ module _ (at : ℕ) (log : List ℕ) where
 
   -- ---- the end
 
-  pub ended-short : (validate : Bool) (register : ℕ) → length log - at < 4 → readAt (ended validate register) at log ≡ stopped Cut
-  unfolding ended
+  pub ended-short : (validate : Bool) (register : ℕ) → length log - at < 4 → readAt (endedItem validate register) at log ≡ stopped Cut
+  unfolding endedItem
   ended-short validate register h = need-short 4 Cut _ at log h
 
   pub ended-met : (validate : Bool) (register sum : ℕ) → 4 ≤ length log - at → sum ≡ littleAt 4 log at
-      → readAt (ended validate register) at log ≡ tested (sumHolds validate register sum) (got (record { action = EndRecord; payload = 0 }) (at + 4)) WrongSum
-  unfolding ended
+      → readAt (endedItem validate register) at log ≡ tested (sumHolds validate register sum) (got (record { action = EndRecord; payload = 0 }) (at + 4)) WrongSum
+  unfolding endedItem
   ended-met validate register sum h e = need-met 4 Cut _ at log h ∙ rw (← e) (test-give WrongSum (at + 4) log (sumHolds validate register sum) _)
 
   -- ---- openings
 
-  pub begun-short : length log - at < 8 → readAt begun at log ≡ stopped EndOfLog
-  unfolding begun
+  pub begun-short : length log - at < 8 → readAt begunId at log ≡ stopped EndOfLog
+  unfolding begunId
   begun-short h = need-short 8 EndOfLog _ at log h
 
-  pub begun-met : (id : ℕ) → 8 ≤ length log - at → id ≡ littleAt 8 log at → readAt begun at log ≡ got id (at + 8)
-  unfolding begun
+  pub begun-met : (id : ℕ) → 8 ≤ length log - at → id ≡ littleAt 8 log at → readAt begunId at log ≡ got id (at + 8)
+  unfolding begunId
   begun-met id h e = need-met 8 EndOfLog _ at log h ∙ rw (← e) (read-give id (at + 8) log)
 
   pub early-short : (k : ℕ) → length log - at < k → readAt (early k) at log ≡ stopped EndOfLog

@@ -1,23 +1,21 @@
 -- What holds of every step: it moves forward within the log, it looks at nothing behind the bytes it takes, and between records at nothing
 -- before its position. Assumes nothing.
 use mathlib.Core.Path.{_≡_, refl, sym, ap, _∙_}
-use mathlib.Core.Bool.{Bool, true, false, true≢false, false≢true}
-use mathlib.Core.List.{List, [], _∷_, _++_}
+use mathlib.Core.Bool.{Bool, true, false}
+use mathlib.Core.List.{List, _++_}
 use Prim.Native.Nat.{ℕ, _+_, _-_, _≤_, _<_}
 use native.Mathlib.Omega.{arith}
 use lib.Dec.{ltb}
-use lib.ListN.{length, take, drop, length-append, length-drop}
+use lib.ListN.{length, take, drop, length-append}
 use lib.Seq.{length-take-le}
-use borrow.Author.Tests.{ltb-true, ltb-false, lt-ltb, le-ltb}
+use borrow.Author.Tests.{ltb-false, le-ltb}
 use Rattle.words.specs.Choice.{if_then_else_}
 use Rattle.words.proofs.Choices.{if-true, if-false}
-use Rattle.checksum.specs.Checksum.{updated}
-use Rattle.directory.specs.Directory.{directoryKept}
 use Rattle.directory.specs.declared.directory.Directory.{Directory}
-use Rattle.record.specs.Format.{Format, need, Got, stopped, got, readAt}
+use Rattle.record.specs.Format.{Got, stopped, got, readAt}
 use Rattle.record.specs.Record.{Item, inside, opening}
-use Rattle.record.specs.Next.{isEnd, forwardTo, readerAfter, stepped, beginning, opened, readerAt, stepOf}
-use Rattle.answer.specs.declared.answer.Answer.{Answer}
+use Rattle.record.specs.Next.{refused, isEnd, forwardTo, readerAfter, stepped, beginning, opened, readerAt, openingOf, stepOf}
+use Rattle.answer.specs.declared.answer.Answer.the-variants.{BadArgument}
 use Rattle.record.specs.declared.action.LogAction.{LogAction}
 use Rattle.record.specs.declared.reader.LogReader.{LogReader}
 use Rattle.record.specs.declared.reader.Stepped.{Stepped}
@@ -69,6 +67,13 @@ taken d log r s e = placed (ltb (length log) (r .position)) refl
     placed true q = let z : _≡_ {A = ℕ} 0 1 = cc (rw q at e) in absurd (omega arith)
     placed false q = record { fits = ltb-false (length log) (r .position) q; read = either (r .inside) refl q }
 
+-- ---- between records a step is an opening
+
+pub step-opens : (d : Directory) (log : List ℕ) (r : LogReader) → r .inside ≡ false → stepOf d log r ≡ openingOf log r
+unfolding stepOf openingOf
+step-opens d log r b =
+    ap (λ (x : Step). if ltb (length log) (r .position) then refused BadArgument else x) (if-false (r .inside) _ _ b)
+
 -- ---- it moves forward within the log
 
 module _ (at : ℕ) (log : List ℕ) (fits : at ≤ length log) where
@@ -104,7 +109,7 @@ ends-on {d} {log} {r} {s} h (within-record b i end q f) =
 ends-on {d} {log} {r} {s} h (at-opening b id end q f) =
     (opening-on (r .position) log h (r .validate) id end q, within (opening (r .validate)) (r .position) log id end h q .inside)
 
--- "each taken step moves forward and stays in the log"
+-- each taken step moves forward and stays in the log
 pub step-on : (d : Directory) (log : List ℕ) (r : LogReader) (s : Stepped) → stepOf d log r ≡ Took s → On log r s
 step-on d log r s e =
     let t : Taken d log r s = taken d log r s e in
@@ -146,7 +151,7 @@ module _ (d : Directory) (log : List ℕ) (r : LogReader) (s : Stepped) (more : 
       ∙ ap (opened (cut end) r) (local (opening (r .validate)) (r .position) log id end fits q more)
       ∙ rw (same-forward (beginning r id) end log more (omega (arith, w .0)) (w .1)) (sym f)
 
--- "a step looks at nothing behind the bytes it takes": it survives any cutting behind them, and any bytes behind them
+-- a step looks at nothing behind the bytes it takes: it survives any cutting behind them, and any bytes behind them
 pub step-local : (d : Directory) (log : List ℕ) (r : LogReader) (s : Stepped) → stepOf d log r ≡ Took s
     → (more : List ℕ) → stepOf d (take (s .reader .position) log ++ more) r ≡ Took s
 step-local d log r s e more =
@@ -173,7 +178,7 @@ opened-moved log r (got id end) =
     let e : r .position + end - r .position ≡ end - 0 = omega arith in
     rw e
 
--- "between records an answer depends only on the bytes from the position on": it is that of a new reader at the front of those bytes
+-- between records an answer depends only on the bytes from the position on: it is that of a new reader at the front of those bytes
 pub between : (d : Directory) (log : List ℕ) (r : LogReader) → r .inside ≡ false → r .position ≤ length log
     → stepOf d log r ≡ movedStep (r .position) (stepOf d (drop (r .position) log) (readerAt 0 (r .validate)))
 unfolding stepOf

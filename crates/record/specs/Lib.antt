@@ -1,4 +1,4 @@
 pub mod Format
+pub mod Inner
 pub mod Next
-pub mod Parts
 pub mod Record

@@ -11,19 +11,23 @@ use Rattle.directory.specs.Directory.{directoryKept}
 use Rattle.directory.specs.declared.directory.Directory.{Directory}
 use Rattle.record.specs.Format.{Got, stopped, got, readAt}
 use Rattle.record.specs.Record.{Item, inside, opening}
+use Rattle.answer.specs.Answer.{numberOf, refusal}
 use Rattle.answer.specs.declared.answer.Answer.{Answer}
-use Rattle.answer.specs.declared.answer.Answer.the-variants.{BadState, BadArgument}
-use Rattle.answer.specs.declared.answer.Refusal.{Refusal}
+use Rattle.answer.specs.declared.answer.Answer.the-variants.{Done, BadState, BadArgument}
 use Rattle.record.specs.declared.action.LogAction.{LogAction}
 use Rattle.record.specs.declared.action.LogAction.the-variants.{BeginRecord, InsertIndex, InsertValue, InsertRefCount, EndRecord, DropTable, DropRefCountTable}
 use Rattle.record.specs.declared.reader.LogReader.{LogReader}
-use Rattle.record.specs.declared.reader.Stepped.{Stepped}
 use Rattle.record.specs.declared.reader.Step.{Step}
 use Rattle.record.specs.declared.reader.Step.the-variants.{Took, Refused}
 
--- a refusal, with its answer in it
+-- a step that refuses
 abbrev pub refused : Answer → Step
-refused answer = Refused (record { answer = answer })
+refused answer = Refused (refusal answer)
+
+-- the number that a step answers: 0, or that of the refusal
+abbrev pub answerOf : Step → ℕ
+answerOf (Took s) = numberOf Done
+answerOf (Refused x) = numberOf (x .answer)
 
 -- whether an action ends its record
 abbrev pub isEnd : LogAction → Bool
@@ -38,6 +42,10 @@ isEnd (DropRefCountTable t) = false
 -- a new reader, between records (log.rs 226-235)
 abbrev pub readerAt : ℕ → Bool → LogReader
 readerAt position validate = record { position = position; record_id = 0; crc32 = allOnes; validate = validate; inside = false }
+
+-- a reader that leaves the checksum to whoever takes it over the whole record
+abbrev pub plain : LogReader → LogReader
+plain r = record { position = r .position; record_id = r .record_id; crc32 = allOnes; validate = false; inside = r .inside }
 
 -- the reader at a later place of its record; if it validates, its checksum has taken the bytes between (log.rs 252-259, 332-339)
 unfoldable pub forwardTo : List ℕ → LogReader → ℕ → LogReader
@@ -75,7 +83,14 @@ abbrev pub opened : List ℕ → LogReader → Got ℕ → Step
 opened log r (stopped answer) = refused answer
 opened log r (got id end) = Took (record { action = BeginRecord; start = end; length = 0; reader = forwardTo log (beginning r id) end })
 
--- "then for reading 14, then faults in byte order"
+-- a record's opening, tried at the reader's position: "then for reading 14, then faults in byte order". No directory has a say in it
+-- (log.rs 1049-1063, `read_next`)
+unfoldable pub openingOf : List ℕ → LogReader → Step
+openingOf log r =
+    if ltb (length log) (r .position) then refused BadArgument else
+    opened log r (readAt (opening (r .validate)) (r .position) log)
+
+-- a step: inside a record what stands there, between records an opening
 unfoldable pub stepOf : Directory → List ℕ → LogReader → Step
 stepOf d log r =
     if ltb (length log) (r .position) then refused BadArgument else

@@ -1,7 +1,7 @@
 -- A record's bytes and how they are read (document 01, "Record bytes", "Numbered answers", "The opening of a record").
 -- The order of the lines is the order of the checks, and each line that may refuse has its number. Beside it: `LogReader::next`, log.rs 251-330.
 use mathlib.Core.Bool.{Bool, not, _||_}
-use mathlib.Core.List.{List, [], _∷_}
+use mathlib.Core.List.{[], _∷_}
 use Prim.Native.Nat.{ℕ, _+_, _*_}
 use lib.Count.{ones}
 use lib.Dec.{eqb, ltb}
@@ -16,14 +16,14 @@ use Rattle.directory.specs.declared.table.TableDescription.{TableDescription}
 use Rattle.directory.specs.declared.directory.Directory.{Directory}
 use Rattle.directory.specs.declared.directory.Found.{Found}
 use Rattle.directory.specs.declared.directory.Found.the-variants.{At, Nothing}
-use Rattle.record.specs.Format.{Format, need, refuse, give, _>>=_, _>>_, bytes, byte, test}
-use Rattle.answer.specs.declared.answer.Answer.{Answer}
+use Rattle.record.specs.Format.{Format, refuse, give, _>>=_, _>>_, bytes, byte, test}
 use Rattle.answer.specs.declared.answer.Answer.the-variants.{EndOfLog, Cut, UnknownTag, OutOfPlace, NoTable, NoIndex, WrongSum}
 use Rattle.record.specs.declared.action.LogAction.{LogAction}
 use Rattle.record.specs.declared.action.LogAction.the-variants.{BeginRecord, InsertIndex, InsertValue, InsertRefCount, EndRecord, DropTable, DropRefCountTable}
 use Rattle.record.specs.declared.item.Key.{Key}
 
--- what a step inside a record reads: the action, and how many of its bytes are payload. They are the last ones: "everything behind the index"
+-- what a step inside a record reads: the action, and how many of its bytes are payload. They are the last ones, all that
+-- stands behind the index
 pub record Item : Type 0 where
   pub action : LogAction
   pub payload : ℕ
@@ -62,7 +62,7 @@ key d kind = do
   header ← bytes 10 Cut  -- 2
   t ← known (findTable d kind (little (take 2 header)))  -- 6
   test (ltb (little (drop 2 header)) (t .count)) NoIndex  -- 7
-  give (record { table = little (take 2 header); index = little (drop 2 header); length = t .length })
+  give (record { table = little (take 2 header); index = little (drop 2 header); description = t })
 
 -- "mask 8, then 8 bytes per set bit, lowest bit first"; "as 2, with 16 bytes per set bit". "A mask of 0 is accepted"
 unfoldable pub chunk : TableKind → ℕ → Key → Format Item
@@ -72,20 +72,23 @@ chunk kind width k = do
   give (record { action = insertOf kind (k .table) (k .index); payload = 8 + ones (little mask) * width })
 
 -- tags 2 and 6 (log.rs 270-278, 288-296)
-unfoldable pub masked : Directory → TableKind → ℕ → Format Item
-masked d kind width = do
+unfoldable pub maskedItem : Directory → TableKind → ℕ → Format Item
+maskedItem d kind width = do
   k ← key d kind
   chunk kind width k
 
--- "Every value of a table has exactly that table's length."
+-- how many bytes a record has for a value: "Every value of a table has exactly that table's length."
+abbrev pub valueLength : TableDescription → ℕ
+valueLength t = t .length
+
 unfoldable pub value : Key → Format Item
 value k = do
-  bytes (k .length) Cut  -- 2
-  give (record { action = insertOf Value (k .table) (k .index); payload = k .length })
+  bytes (valueLength (k .description)) Cut  -- 2
+  give (record { action = insertOf Value (k .table) (k .index); payload = valueLength (k .description) })
 
 -- tag 3 (log.rs 279-287)
-unfoldable pub valued : Directory → Format Item
-valued d = do
+unfoldable pub valuedItem : Directory → Format Item
+valuedItem d = do
   k ← key d Value
   value k
 
@@ -97,8 +100,8 @@ table d kind = do
   give (little number)
 
 -- tags 5 and 7 (log.rs 316-327)
-unfoldable pub dropped : Directory → TableKind → (ℕ → LogAction) → Format Item
-dropped d kind action = do
+unfoldable pub droppedItem : Directory → TableKind → (ℕ → LogAction) → Format Item
+droppedItem d kind action = do
   number ← table d kind
   give (record { action = action number; payload = 0 })
 
@@ -107,8 +110,8 @@ unfoldable pub sumHolds : Bool → ℕ → ℕ → Bool
 sumHolds validate register sum = not validate || eqb sum (finished (updated register (4 ∷ [])))
 
 -- tag 4 (log.rs 297-315)
-unfoldable pub ended : Bool → ℕ → Format Item
-ended validate register = do
+unfoldable pub endedItem : Bool → ℕ → Format Item
+endedItem validate register = do
   sum ← bytes 4 Cut  -- 2
   test (sumHolds validate register (little sum)) WrongSum  -- 8
   give (record { action = EndRecord; payload = 0 })
@@ -117,12 +120,12 @@ ended validate register = do
 unfoldable pub insideBy : Directory → Bool → ℕ → ℕ → Format Item
 insideBy d validate register tag =
     if eqb tag 1 then refuse OutOfPlace else  -- 4
-    if eqb tag 2 then masked d Index 8 else
-    if eqb tag 3 then valued d else
-    if eqb tag 4 then ended validate register else
-    if eqb tag 5 then dropped d Index dropIndex else
-    if eqb tag 6 then masked d RefCount 16 else
-    if eqb tag 7 then dropped d RefCount dropRefCount else
+    if eqb tag 2 then maskedItem d Index 8 else
+    if eqb tag 3 then valuedItem d else
+    if eqb tag 4 then endedItem validate register else
+    if eqb tag 5 then droppedItem d Index dropIndex else
+    if eqb tag 6 then maskedItem d RefCount 16 else
+    if eqb tag 7 then droppedItem d RefCount dropRefCount else
     refuse UnknownTag  -- 3
 
 -- one step inside a record. `register` is the checksum's register over the record's bytes so far
@@ -138,8 +141,8 @@ early k = do
   refuse OutOfPlace  -- 4
 
 -- "Tag 1 with under 8 more bytes gives 1."; the id (log.rs 264-269)
-unfoldable pub begun : Format ℕ
-begun = do
+unfoldable pub begunId : Format ℕ
+begunId = do
   id ← bytes 8 EndOfLog  -- 1
   give (little id)
 
@@ -153,7 +156,7 @@ earlyEnd validate = do
 -- "Tag 1 ..", "Tags 2, 3, 6 with under 10 more, tags 5, 7 with under 2, tag 4 with under 4 give 1 as well", "Other tags give 3."
 unfoldable pub openingBy : Bool → ℕ → Format ℕ
 openingBy validate tag =
-    if eqb tag 1 then begun else
+    if eqb tag 1 then begunId else
     if eqb tag 2 then early 10 else
     if eqb tag 3 then early 10 else
     if eqb tag 4 then earlyEnd validate else

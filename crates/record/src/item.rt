@@ -3,8 +3,8 @@ ghost use mathlib.Core.Path.{_≡_};
 ghost use Prim.Native.Nat.{_+_, _≤_, _<_};
 ghost use lib.ListN.{length};
 ghost use Rattle.record.specs.Format.{readAt};
-ghost use Rattle.record.specs.Parts.{gotKey, gotTable, gotItem};
-ghost use Rattle.record.specs.Record.{key, chunk, masked, value, valued, table, dropped, dropIndex, dropRefCount, sumHolds, ended, inside};
+ghost use Rattle.record.specs.Inner.{gotKey, gotTable, gotItem};
+ghost use Rattle.record.specs.Record.{key, chunk, maskedItem, valueLength, value, valuedItem, table, droppedItem, dropIndex, dropRefCount, sumHolds, endedItem, inside};
 use super::action::LogAction;
 use super::mask::entries_length;
 use answer::Answer;
@@ -12,13 +12,14 @@ use directory::Directory;
 use directory::Found;
 use directory::IndexTableId;
 use directory::RefCountTableId;
+use directory::TableDescription;
 use directory::TableKind;
 
-// A table's number and an index, both tested, with the length of the table's values.
+// A table's number and an index, both tested, with the table's description.
 pub struct Key {
     pub table: u16,
     pub index: u64,
-    pub length: u16,
+    pub description: TableDescription,
 }
 
 pub enum KeyAnswer {
@@ -61,7 +62,7 @@ fn key_at(d: Directory, log: &[u8], body: usize, kind: TableKind) -> KeyAnswer
                 KeyAnswer::Known(Key {
                     table: table,
                     index: index,
-                    length: t.length,
+                    description: t,
                 })
             } else {
                 KeyAnswer::NoKey(Answer::NoIndex)
@@ -93,7 +94,7 @@ fn chunk_at(log: &[u8], start: usize, kind: TableKind, width: usize, k: Key) -> 
 // Tags 2 and 6.
 fn masked_at(d: Directory, log: &[u8], body: usize, kind: TableKind, width: usize) -> ItemAnswer
     requires { ⌜ (width ≤ 16) × (body ≤ length (now log)) ⌝ }
-    ensures { λ r. ⌜ gotItem r ≡ readAt (masked d kind width) body (now (log .entry)) ⌝ }
+    ensures { λ r. ⌜ gotItem r ≡ readAt (maskedItem d kind width) body (now (log .entry)) ⌝ }
 {
     match key_at(d, log, body, kind) {
         KeyAnswer::NoKey(a) => ItemAnswer::NoItem(a),
@@ -101,12 +102,19 @@ fn masked_at(d: Directory, log: &[u8], body: usize, kind: TableKind, width: usiz
     }
 }
 
+// How many bytes a record has for a value of that table.
+fn value_length(t: TableDescription) -> usize
+    ensures { λ r. ⌜ r ≡ valueLength t ⌝ }
+{
+    t.length as usize
+}
+
 // The value, behind a key.
 fn value_at(log: &[u8], start: usize, k: Key) -> ItemAnswer
     requires { ⌜ start ≤ length (now log) ⌝ }
     ensures { λ r. ⌜ gotItem r ≡ readAt (value k) start (now (log .entry)) ⌝ }
 {
-    let length = k.length as usize;
+    let length = value_length(k.description);
     if log.len() - start < length {
         return ItemAnswer::NoItem(Answer::Cut);
     }
@@ -120,7 +128,7 @@ fn value_at(log: &[u8], start: usize, k: Key) -> ItemAnswer
 // Tag 3.
 fn valued_at(d: Directory, log: &[u8], body: usize) -> ItemAnswer
     requires { ⌜ body ≤ length (now log) ⌝ }
-    ensures { λ r. ⌜ gotItem r ≡ readAt (valued d) body (now (log .entry)) ⌝ }
+    ensures { λ r. ⌜ gotItem r ≡ readAt (valuedItem d) body (now (log .entry)) ⌝ }
 {
     match key_at(d, log, body, TableKind::Value) {
         KeyAnswer::NoKey(a) => ItemAnswer::NoItem(a),
@@ -141,7 +149,7 @@ fn sum_holds(validate: bool, register: u32, sum: u32) -> bool
 // Tag 4.
 fn ended_at(log: &[u8], body: usize, validate: bool, register: u32) -> ItemAnswer
     requires { ⌜ body ≤ length (now log) ⌝ }
-    ensures { λ r. ⌜ gotItem r ≡ readAt (ended validate register) body (now (log .entry)) ⌝ }
+    ensures { λ r. ⌜ gotItem r ≡ readAt (endedItem validate register) body (now (log .entry)) ⌝ }
 {
     if log.len() - body < 4 {
         return ItemAnswer::NoItem(Answer::Cut);
@@ -176,7 +184,7 @@ fn table_at(d: Directory, log: &[u8], body: usize, kind: TableKind) -> TableAnsw
 // Tag 5.
 fn dropped_index_at(d: Directory, log: &[u8], body: usize) -> ItemAnswer
     requires { ⌜ body ≤ length (now log) ⌝ }
-    ensures { λ r. ⌜ gotItem r ≡ readAt (dropped d TableKind.Index dropIndex) body (now (log .entry)) ⌝ }
+    ensures { λ r. ⌜ gotItem r ≡ readAt (droppedItem d TableKind.Index dropIndex) body (now (log .entry)) ⌝ }
 {
     match table_at(d, log, body, TableKind::Index) {
         TableAnswer::NoTable(a) => ItemAnswer::NoItem(a),
@@ -191,7 +199,7 @@ fn dropped_index_at(d: Directory, log: &[u8], body: usize) -> ItemAnswer
 // Tag 7.
 fn dropped_ref_count_at(d: Directory, log: &[u8], body: usize) -> ItemAnswer
     requires { ⌜ body ≤ length (now log) ⌝ }
-    ensures { λ r. ⌜ gotItem r ≡ readAt (dropped d TableKind.RefCount dropRefCount) body (now (log .entry)) ⌝ }
+    ensures { λ r. ⌜ gotItem r ≡ readAt (droppedItem d TableKind.RefCount dropRefCount) body (now (log .entry)) ⌝ }
 {
     match table_at(d, log, body, TableKind::RefCount) {
         TableAnswer::NoTable(a) => ItemAnswer::NoItem(a),

@@ -3,8 +3,8 @@ ghost use mathlib.Core.Path.{_≡_};
 ghost use Prim.Native.Nat.{_+_, _≤_};
 ghost use lib.ListN.{length};
 ghost use Rattle.record.specs.Format.{readAt};
-ghost use Rattle.record.specs.Parts.{gotId};
-ghost use Rattle.record.specs.Record.{begun, early, earlyEnd, opening};
+ghost use Rattle.record.specs.Inner.{gotId};
+ghost use Rattle.record.specs.Record.{begunId, early, earlyEnd, opening};
 use answer::Answer;
 
 pub enum IdAnswer {
@@ -15,7 +15,7 @@ pub enum IdAnswer {
 // Tag 1.
 fn begun_at(log: &[u8], body: usize) -> IdAnswer
     requires { ⌜ body ≤ length (now log) ⌝ }
-    ensures { λ r. ⌜ gotId r (body + 8) ≡ readAt begun body (now (log .entry)) ⌝ }
+    ensures { λ r. ⌜ gotId r (body + 8) ≡ readAt begunId body (now (log .entry)) ⌝ }
 {
     if log.len() - body < 8 {
         return IdAnswer::NotOpened(Answer::EndOfLog);

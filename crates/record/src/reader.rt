@@ -3,9 +3,9 @@ ghost use mathlib.Core.Path.{_≡_};
 ghost use mathlib.Core.Bool.{true, false};
 ghost use Prim.Native.Nat.{_+_, _≤_};
 ghost use lib.ListN.{length};
-ghost use Rattle.checksum.specs.Checksum.{allOnes};
+ghost use Rattle.directory.specs.Directory.{directoryKept};
 ghost use Rattle.record.specs.Format.{readAt};
-ghost use Rattle.record.specs.Next.{refused, readerAt, forwardTo, readerAfter, stepped, opened, stepOf, nextOf};
+ghost use Rattle.record.specs.Next.{refused, readerAt, plain, forwardTo, readerAfter, stepped, opened, openingOf, stepOf, nextOf};
 ghost use Rattle.record.specs.Record.{inside, opening};
 use super::action::LogAction;
 use super::item::ItemAnswer;
@@ -42,7 +42,7 @@ pub enum Step {
 fn refuse(answer: Answer) -> Step
     ensures { λ r. ⌜ r ≡ refused answer ⌝ }
 {
-    Step::Refused(Refusal { answer: answer })
+    Step::Refused(Refusal::new(answer))
 }
 
 impl LogReader {
@@ -63,6 +63,19 @@ impl LogReader {
         ensures { λ r. ⌜ r ≡ self .record_id ⌝ }
     {
         self.record_id
+    }
+
+    // The reader that leaves the checksum to whoever takes it over the whole record.
+    pub fn unvalidated(self) -> LogReader
+        ensures { λ r. ⌜ r ≡ plain self ⌝ }
+    {
+        LogReader {
+            position: self.position,
+            record_id: self.record_id,
+            crc32: checksum::START,
+            validate: false,
+            inside: self.inside,
+        }
     }
 
     fn forward(self, log: &[u8], end: usize) -> LogReader
@@ -142,8 +155,19 @@ impl LogReader {
         }
     }
 
-    // A step under a directory that was tested already: a walk over many actions tests it once.
-    pub fn step(self, directory: Directory, log: &[u8]) -> Step
+    // A record's opening, which needs no directory.
+    pub fn open(self, log: &[u8]) -> Step
+        ensures { λ r. ⌜ r ≡ openingOf (now (log .entry)) self ⌝ }
+    {
+        if log.len() < self.position {
+            return refuse(Answer::BadArgument);
+        }
+        self.step_opening(log)
+    }
+
+    // The next action under a directory that was tested already: a walk over many actions tests it once.
+    pub fn next_kept(self, directory: Directory, log: &[u8]) -> Step
+        requires { ⌜ directoryKept directory ≡ true ⌝ }
         ensures { λ r. ⌜ r ≡ stepOf directory (now (log .entry)) self ⌝ }
     {
         if log.len() < self.position {
@@ -161,7 +185,7 @@ impl LogReader {
         ensures { λ r. ⌜ r ≡ nextOf directory (now (log .entry)) self ⌝ }
     {
         if directory.kept() {
-            self.step(directory, log)
+            self.next_kept(directory, log)
         } else {
             refuse(Answer::BadState)
         }

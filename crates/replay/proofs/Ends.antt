@@ -1,29 +1,25 @@
 -- The end tag, and no other, is read as the end of a record; validating it is testing its checksum. Assumes nothing.
 use mathlib.Core.Path.{_≡_, refl, sym, ap, _∙_}
 use mathlib.Core.Logic.{_≢_}
-use mathlib.Core.Bool.{Bool, true, false, _||_, not, true≢false}
+use mathlib.Core.Bool.{Bool, true, false, true≢false}
 use mathlib.Core.List.{List, [], _∷_}
-use Prim.Native.Nat.{ℕ, _+_, _-_, _*_, _≤_, _<_}
+use Prim.Native.Nat.{ℕ, _+_, _-_, _≤_, _<_}
 use native.Mathlib.Omega.{arith}
 use lib.Dec.{eqb, ltb}
-use lib.Count.{ones}
 use lib.ListN.{length, getD, take, drop}
-use borrow.Author.Tests.{ltb-true, ltb-false, eqb-true, eqb-false}
+use borrow.Author.Tests.{ltb-true, ltb-false, eqb-true}
 use Rattle.words.specs.Choice.{if_then_else_}
-use Rattle.words.specs.Words.{little, littleAt}
+use Rattle.words.specs.Words.{littleAt}
 use Rattle.checksum.specs.Checksum.{updated, finished}
-use Rattle.directory.specs.Directory.{findTable}
 use Rattle.directory.specs.declared.table.TableKind.{TableKind}
 use Rattle.directory.specs.declared.table.TableKind.the-variants.{Index, Value, RefCount}
 use Rattle.directory.specs.declared.directory.Directory.{Directory}
 use Rattle.record.specs.Format.{Format, need, refuse, give, Got, stopped, got, readAt, _>>=_}
 use Rattle.record.specs.Next.{isEnd}
-use Rattle.record.specs.Record.{Item, insertOf, dropIndex, dropRefCount, key, chunk, masked, value, valued, table, dropped, sumHolds, ended, insideBy, inside}
-use Rattle.answer.specs.declared.answer.Answer.{Answer}
-use Rattle.answer.specs.declared.answer.Answer.the-variants.{Cut, WrongSum}
+use Rattle.record.specs.Record.{Item, insertOf, dropIndex, dropRefCount, key, chunk, maskedItem, value, valuedItem, table, droppedItem, sumHolds, endedItem, insideBy, inside}
+use Rattle.answer.specs.declared.answer.Answer.the-variants.{WrongSum}
 use Rattle.record.specs.declared.action.LogAction.{LogAction}
 use Rattle.record.specs.declared.action.LogAction.the-variants.{EndRecord}
-use Rattle.record.specs.declared.item.Key.{Key}
 use Rattle.record.proofs.Parts.{tested, ended-short, ended-met, inside-short, inside-met}
 
 -- ---- a format that gives no end
@@ -53,16 +49,16 @@ no-end-insert Index t i = refl
 no-end-insert Value t i = refl
 no-end-insert RefCount t i = refl
 
-no-end-masked : (d : Directory) (kind : TableKind) (width : ℕ) → NoEnd (masked d kind width)
-unfolding masked chunk
+no-end-masked : (d : Directory) (kind : TableKind) (width : ℕ) → NoEnd (maskedItem d kind width)
+unfolding maskedItem chunk
 no-end-masked d kind width = no-end-bind (key d kind) (chunk kind width) (λ k bs more. no-end-insert kind (k .table) (k .index))
 
-no-end-valued : (d : Directory) → NoEnd (valued d)
-unfolding valued value
+no-end-valued : (d : Directory) → NoEnd (valuedItem d)
+unfolding valuedItem value
 no-end-valued d = no-end-bind (key d Value) value (λ k bs. refl)
 
-no-end-dropped : (d : Directory) (kind : TableKind) (action : ℕ → LogAction) → ((n : ℕ) → isEnd (action n) ≡ false) → NoEnd (dropped d kind action)
-unfolding dropped
+no-end-dropped : (d : Directory) (kind : TableKind) (action : ℕ → LogAction) → ((n : ℕ) → isEnd (action n) ≡ false) → NoEnd (droppedItem d kind action)
+unfolding droppedItem
 no-end-dropped d kind action h = no-end-bind (table d kind) (λ n. give (record { action = action n; payload = 0 })) h
 
 no-end-if : (b : Bool) (f g : Format Item) → NoEnd f → NoEnd g → NoEnd (if b then f else g)
@@ -93,7 +89,7 @@ pub record EndTag (at end : ℕ) (log : List ℕ) : Type 0 where
   pub tag : getD log at 0 ≡ 4
   pub closes : end ≡ at + 1 + 4
 
-ended-closes : (validate : Bool) (register at : ℕ) (log : List ℕ) (i : Item) (end : ℕ) → readAt (ended validate register) at log ≡ got i end → end ≡ at + 4
+ended-closes : (validate : Bool) (register at : ℕ) (log : List ℕ) (i : Item) (end : ℕ) → readAt (endedItem validate register) at log ≡ got i end → end ≡ at + 4
 ended-closes validate register at log i end e = go (ltb (length log - at) 4) refl
   where
     held : (b : Bool) → tested b (got (record { action = EndRecord; payload = 0 }) (at + 4)) WrongSum ≡ got i end → end ≡ at + 4
@@ -130,11 +126,11 @@ summing register at log (stopped answer) = stopped answer
 summing register at log (got i end) =
     if isEnd (i .action) then tested (eqb (littleAt 4 log (at + 1)) (finished (updated register (4 ∷ [])))) (got i end) WrongSum else got i end
 
-ended-sum : (register other at : ℕ) (log : List ℕ) → readAt (ended true register) (at + 1) log ≡ summing register at log (readAt (ended false other) (at + 1) log)
+ended-sum : (register other at : ℕ) (log : List ℕ) → readAt (endedItem true register) (at + 1) log ≡ summing register at log (readAt (endedItem false other) (at + 1) log)
 unfolding sumHolds
 ended-sum register other at log = go (ltb (length log - (at + 1)) 4) refl
   where
-    go : (t : Bool) → ltb (length log - (at + 1)) 4 ≡ t → readAt (ended true register) (at + 1) log ≡ summing register at log (readAt (ended false other) (at + 1) log)
+    go : (t : Bool) → ltb (length log - (at + 1)) 4 ≡ t → readAt (endedItem true register) (at + 1) log ≡ summing register at log (readAt (endedItem false other) (at + 1) log)
     go true q =
         let h : length log - (at + 1) < 4 = ltb-true (length log - (at + 1)) 4 q in
         ended-short (at + 1) log true register h ∙ ap (summing register at log) (sym (ended-short (at + 1) log false other h))

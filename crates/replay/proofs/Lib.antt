@@ -1,3 +1,4 @@
+pub mod Answers
 pub mod AnyId
 pub mod Checked
 pub mod Cut

@@ -1,8 +1,8 @@
 -- A record's opening, and the record behind it. Assumes nothing.
 use mathlib.Core.Path.{_≡_, refl, sym, ap, _∙_}
 use mathlib.Core.Bool.{Bool, true, false, true≢false}
-use mathlib.Core.List.{List, [], _∷_}
-use Prim.Native.Nat.{ℕ, zero, suc, _+_, _-_, _≤_, _<_}
+use mathlib.Core.List.{List}
+use Prim.Native.Nat.{ℕ, suc, _-_, _≤_, _<_}
 use native.Mathlib.Omega.{arith}
 use lib.Dec.{eqb}
 use lib.ListN.{length, take, drop}
@@ -10,8 +10,8 @@ use Rattle.words.specs.Choice.{if_then_else_}
 use Rattle.words.proofs.Choices.{if-true, if-false}
 use Rattle.checksum.specs.Checksum.{allOnes, updated}
 use Rattle.directory.specs.declared.directory.Directory.{Directory}
-use Rattle.record.specs.Format.{Got, stopped, got, readAt}
-use Rattle.record.specs.Next.{forwardTo, beginning, opened, readerAt, stepOf}
+use Rattle.record.specs.Next.{forwardTo, beginning, readerAt, stepOf}
+use Rattle.answer.specs.Answer.{refusal}
 use Rattle.answer.specs.declared.answer.Answer.the-variants.{WrongId}
 use Rattle.answer.specs.declared.answer.Refusal.{Refusal}
 use Rattle.record.specs.declared.reader.LogReader.{LogReader}
@@ -20,8 +20,8 @@ use Rattle.record.specs.declared.reader.Step.{Step}
 use Rattle.record.specs.declared.reader.Step.the-variants.{Took, Refused}
 use Rattle.record.proofs.Steps.{Read, within-record, at-opening, taken, step-on}
 use Rattle.effect.specs.Effect.{Written}
-use Rattle.replay.specs.Replay.{byOpening, restOf, recordAt}
-use Rattle.replay.specs.Parts.{Opened}
+use Rattle.replay.specs.Inner.{Opened}
+use Rattle.replay.specs.Replay.{fault, walked, restOf, byOpening, recordAt}
 use Rattle.replay.proofs.Places.{EndsIn, ends-in}
 
 module _ (d : Directory) (log : List ℕ) (at : ℕ) where
@@ -51,22 +51,22 @@ pub record Whole (d : Directory) (log : List ℕ) (at expected : ℕ) (ws : List
   pub s : Stepped
   pub opens : stepOf d log (readerAt at true) ≡ Took s
   pub id : eqb (s .reader .record_id) expected ≡ true
-  pub rest : restOf (suc (length log)) d log (s .reader) ≡ got ws end
+  pub rest : restOf (suc (length log)) d log (s .reader) ≡ walked ws end
 
-pub whole-record : (d : Directory) (log : List ℕ) (at expected : ℕ) (ws : List Written) (end : ℕ) → recordAt d log at expected ≡ got ws end → Whole d log at expected ws end
+pub whole-record : (d : Directory) (log : List ℕ) (at expected : ℕ) (ws : List Written) (end : ℕ) → recordAt d log at expected ≡ walked ws end → Whole d log at expected ws end
 unfolding recordAt
 whole-record d log at expected ws end e = go (stepOf d log (readerAt at true)) refl e
   where
     by : (s : Stepped) → stepOf d log (readerAt at true) ≡ Took s → (b : Bool) → eqb (s .reader .record_id) expected ≡ b
-        → byOpening expected (restOf (suc (length log)) d log) (Took s) ≡ got ws end → Whole d log at expected ws end
+        → byOpening expected (restOf (suc (length log)) d log) (Took s) ≡ walked ws end → Whole d log at expected ws end
     by s q true b f = record { s = s; opens = q; id = b; rest = sym (if-true (eqb (s .reader .record_id) expected) _ _ b) ∙ f }
     by s q false b f = let z : _≡_ {A = ℕ} 0 1 = cc (sym (if-false (eqb (s .reader .record_id) expected) _ _ b) ∙ f) in absurd (omega arith)
 
-    go : (st : Step) → stepOf d log (readerAt at true) ≡ st → byOpening expected (restOf (suc (length log)) d log) st ≡ got ws end → Whole d log at expected ws end
+    go : (st : Step) → stepOf d log (readerAt at true) ≡ st → byOpening expected (restOf (suc (length log)) d log) st ≡ walked ws end → Whole d log at expected ws end
     go (Refused x) q f = let z : _≡_ {A = ℕ} 0 1 = cc in absurd (omega arith)
     go (Took s) q f = by s q (eqb (s .reader .record_id) expected) refl f
 
-pub record-whole : (d : Directory) (log : List ℕ) (at expected : ℕ) (ws : List Written) (end : ℕ) → Whole d log at expected ws end → recordAt d log at expected ≡ got ws end
+pub record-whole : (d : Directory) (log : List ℕ) (at expected : ℕ) (ws : List Written) (end : ℕ) → Whole d log at expected ws end → recordAt d log at expected ≡ walked ws end
 unfolding recordAt
 record-whole d log at expected ws end w =
     ap (byOpening expected (restOf (suc (length log)) d log)) (w .opens) ∙ if-true (eqb (w .s .reader .record_id) expected) _ _ (w .id) ∙ w .rest
@@ -76,7 +76,7 @@ pub record RecordOn (log : List ℕ) (at end : ℕ) : Type 0 where
   pub forward : at < end
   pub inside : end ≤ length log
 
-pub record-on : (d : Directory) (log : List ℕ) (at expected : ℕ) (ws : List Written) (end : ℕ) → recordAt d log at expected ≡ got ws end → RecordOn log at end
+pub record-on : (d : Directory) (log : List ℕ) (at expected : ℕ) (ws : List Written) (end : ℕ) → recordAt d log at expected ≡ walked ws end → RecordOn log at end
 record-on d log at expected ws end e =
     let w = whole-record d log at expected ws end e in
     let o = opening d log at (w .s) (w .opens) in
@@ -86,11 +86,11 @@ record-on d log at expected ws end e =
 -- ---- a record by its opening
 
 module _ (d : Directory) (log : List ℕ) (at expected : ℕ) where
-  pub record-refused : (x : Refusal) → stepOf d log (readerAt at true) ≡ Refused x → recordAt d log at expected ≡ stopped (x .answer)
+  pub record-refused : (x : Refusal) → stepOf d log (readerAt at true) ≡ Refused x → recordAt d log at expected ≡ fault x
   unfolding recordAt
   record-refused x e = ap (byOpening expected (restOf (suc (length log)) d log)) e
 
-  pub record-wrong : (s : Stepped) → stepOf d log (readerAt at true) ≡ Took s → eqb (s .reader .record_id) expected ≡ false → recordAt d log at expected ≡ stopped WrongId
+  pub record-wrong : (s : Stepped) → stepOf d log (readerAt at true) ≡ Took s → eqb (s .reader .record_id) expected ≡ false → recordAt d log at expected ≡ fault (refusal WrongId)
   unfolding recordAt
   record-wrong s e b = ap (byOpening expected (restOf (suc (length log)) d log)) e ∙ if-false (eqb (s .reader .record_id) expected) _ _ b
 

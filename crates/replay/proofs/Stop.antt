@@ -1,29 +1,19 @@
 -- A run "stops at the first answer other than 0, and reports that answer, the position where the record not replayed begins, and the number
 -- of records replayed"; "After id 2^64-1 it stops with 12." (document 01, "Replay"). Assumes nothing.
-use mathlib.Core.Path.{_≡_, refl, sym, ap, _∙_}
-use mathlib.Core.Logic.{_⊎_, inl, inr}
+use mathlib.Core.Path.{_≡_, refl}
 use mathlib.Core.Bool.{Bool, true, false}
-use mathlib.Core.List.{List, [], _∷_}
-use Prim.Native.Nat.{ℕ, zero, suc, _+_, _-_, _≤_, _<_}
+use mathlib.Core.List.{List}
+use Prim.Native.Nat.{ℕ, zero, suc, _+_, _-_, _<_}
 use native.Mathlib.Omega.{arith}
 use lib.Dec.{eqb}
 use lib.ListN.{length}
 use borrow.Author.Tests.{eqb-true}
-use Rattle.words.specs.Choice.{if_then_else_}
-use Rattle.words.proofs.Choices.{if-true}
 use Rattle.directory.specs.declared.directory.Directory.{Directory}
-use Rattle.record.specs.Format.{Got, stopped, got}
-use Rattle.answer.specs.declared.answer.Answer.{Answer}
-use Rattle.answer.specs.declared.answer.Answer.the-variants.{UsedUp}
 use Rattle.effect.specs.Effect.{Written, apply}
-use Rattle.replay.specs.Replay.{recordAt, tablesKept}
-use Rattle.replay.specs.Run.{Outcome, lastId, byRecord, runFrom, runOf}
+use Rattle.answer.specs.Answer.{lastRecordId}
+use Rattle.replay.specs.Replay.{Walked, fault, walked, recordAt, tablesKept}
+use Rattle.replay.specs.Run.{byRecord, runFrom, runOf, Stops, refuses, used-up}
 use Rattle.replay.proofs.Opening.{record-on}
-
--- the record at the stop is refused with that answer under the next id; or the ids are used up
-abbrev pub Stops : Directory → List ℕ → ℕ → Outcome → Type 0
-Stops d log first o =
-    (recordAt d log (o .ran .position) (first + o .ran .count) ≡ stopped (o .ran .answer)) ⊎ ((o .ran .answer ≡ UsedUp) × (first + o .ran .count ≡ lastId + 1))
 
 module _ (d : Directory) (log : List ℕ) (first : ℕ) where
   run-stops : (n at count : ℕ) (image : List ℕ) → length log - at < n → Stops d log first (runFrom n d log at (first + count) count image)
@@ -34,19 +24,19 @@ module _ (d : Directory) (log : List ℕ) (first : ℕ) where
       Next : Type 0
       Next = (at count : ℕ) (image : List ℕ) → length log - at < n → Stops d log first (runFrom n d log at (first + count) count image)
 
-      last : (ws : List Written) (end : ℕ) → recordAt d log at (first + count) ≡ got ws end → (b : Bool) → eqb (first + count) lastId ≡ b → Next
-          → Stops d log first (byRecord d (runFrom n d log) at (first + count) count image (got ws end))
+      last : (ws : List Written) (end : ℕ) → recordAt d log at (first + count) ≡ walked ws end → (b : Bool) → eqb (first + count) lastRecordId ≡ b → Next
+          → Stops d log first (byRecord d (runFrom n d log) at (first + count) count image (walked ws end))
       last ws end e true b ih =
-          let p : first + count ≡ lastId = eqb-true (first + count) lastId b in
-          rw b (inr (refl, omega arith))
+          let p : first + count ≡ lastRecordId = eqb-true (first + count) lastRecordId b in
+          rw b (used-up (omega arith) refl)
       last ws end e false b ih =
           let o = record-on d log at (first + count) ws end e in
           let z : first + (count + 1) ≡ first + count + 1 = omega arith in
           rw (b, ← z) (ih end (count + 1) (apply d ws image) (omega (arith, o .forward, o .inside)))
 
-      go : (g : Got (List Written)) → recordAt d log at (first + count) ≡ g → Next → Stops d log first (byRecord d (runFrom n d log) at (first + count) count image g)
-      go (stopped answer) e ih = inl e
-      go (got ws end) e ih = last ws end e (eqb (first + count) lastId) refl ih
+      go : (g : Walked (List Written)) → recordAt d log at (first + count) ≡ g → Next → Stops d log first (byRecord d (runFrom n d log) at (first + count) count image g)
+      go (fault x) e ih = refuses x e refl
+      go (walked ws end) e ih = last ws end e (eqb (first + count) lastRecordId) refl ih
 
   -- THE STOP
   pub stop-is : (at : ℕ) (image : List ℕ) → tablesKept d image ≡ true → Stops d log first (runOf d log at first image)

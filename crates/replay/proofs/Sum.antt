@@ -5,7 +5,7 @@ use mathlib.Core.List.{List, [], _∷_, _++_}
 use Prim.Native.Nat.{ℕ, zero, suc, _+_, _-_, _≤_, _<_}
 use native.Mathlib.Omega.{arith}
 use lib.Dec.{eqb, ltb}
-use lib.ListN.{length, getD, take, drop, length-drop}
+use lib.ListN.{length, getD, take, drop}
 use lib.Seq.{take-add, drop-drop, drop-cons}
 use borrow.Author.Tests.{le-ltb}
 use Rattle.words.specs.Choice.{if_then_else_}
@@ -15,17 +15,17 @@ use Rattle.checksum.specs.Checksum.{allOnes, updated, finished, checksumOf}
 use Rattle.checksum.proofs.Register.{updated-append}
 use Rattle.directory.specs.declared.directory.Directory.{Directory}
 use Rattle.record.specs.Format.{Got, stopped, got, readAt}
-use Rattle.record.specs.Next.{isEnd, forwardTo, readerAfter, stepped, stepOf}
+use Rattle.record.specs.Next.{plain, isEnd, forwardTo, readerAfter, stepped, stepOf}
 use Rattle.record.specs.Record.{Item, inside}
 use Rattle.answer.specs.declared.answer.Answer.the-variants.{WrongSum}
-use Rattle.record.specs.declared.action.LogAction.{LogAction}
 use Rattle.record.specs.declared.reader.LogReader.{LogReader}
 use Rattle.record.specs.declared.reader.Step.{Step}
 use Rattle.record.proofs.Formats.{within}
 use Rattle.record.proofs.Parts.{tested}
 use Rattle.effect.specs.Effect.{Written}
-use Rattle.replay.specs.Replay.{writtenIn, addFirst, byStep, restOf}
-use Rattle.replay.specs.Parts.{plain, Opened}
+use Rattle.answer.specs.Answer.{refusal}
+use Rattle.replay.specs.Inner.{Opened}
+use Rattle.replay.specs.Replay.{Walked, fault, walked, addFirst, byStep, restOf}
 use Rattle.replay.proofs.Ends.{EndTag, end-read, summing, inside-sum}
 
 -- a step inside a record
@@ -57,15 +57,18 @@ sum-at log at pos register h k tag e =
     z p = omega arith
 
 -- the test at the end of the walk
-abbrev pub sumTested : ℕ → List ℕ → Got (List Written) → Got (List Written)
-sumTested at log (stopped answer) = stopped answer
-sumTested at log (got ws end) = tested (eqb (littleAt 4 log (end - 4)) (checksumOf (take (end - 4 - at) (drop at log)))) (got ws end) WrongSum
+abbrev pub sumHeld : Bool → Walked (List Written) → Walked (List Written)
+sumHeld holds g = if holds then g else fault (refusal WrongSum)
 
-sum-first : (at : ℕ) (log : List ℕ) (w : Written) (g : Got (List Written)) → addFirst w (sumTested at log g) ≡ sumTested at log (addFirst w g)
-sum-first at log w (stopped answer) = refl
-sum-first at log w (got ws end) = go (eqb (littleAt 4 log (end - 4)) (checksumOf (take (end - 4 - at) (drop at log))))
+abbrev pub sumTested : ℕ → List ℕ → Walked (List Written) → Walked (List Written)
+sumTested at log (fault x) = fault x
+sumTested at log (walked ws end) = sumHeld (eqb (littleAt 4 log (end - 4)) (checksumOf (take (end - 4 - at) (drop at log)))) (walked ws end)
+
+sum-first : (at : ℕ) (log : List ℕ) (w : Written) (g : Walked (List Written)) → addFirst w (sumTested at log g) ≡ sumTested at log (addFirst w g)
+sum-first at log w (fault x) = refl
+sum-first at log w (walked ws end) = go (eqb (littleAt 4 log (end - 4)) (checksumOf (take (end - 4 - at) (drop at log))))
   where
-    go : (b : Bool) → addFirst w (tested b (got ws end) WrongSum) ≡ tested b (got (w ∷ ws) end) WrongSum
+    go : (b : Bool) → addFirst w (sumHeld b (walked ws end)) ≡ sumHeld b (walked (w ∷ ws) end)
     go true = refl
     go false = refl
 
@@ -104,7 +107,7 @@ module _ (d : Directory) (log : List ℕ) (at : ℕ) where
       w : Written
       w = record { action = i .action; payload = take (i .payload) (drop (end - i .payload) log) }
 
-      closing : isEnd (i .action) ≡ true → (b : Bool) → byStep log (restOf n d log) (stepped log r (tested b (got i end) WrongSum)) ≡ tested b (got [] end) WrongSum
+      closing : isEnd (i .action) ≡ true → (b : Bool) → byStep log (restOf n d log) (stepped log r (tested b (got i end) WrongSum)) ≡ sumHeld b (walked [] end)
       closing e true = rw e
       closing e false = refl
 
@@ -143,3 +146,16 @@ module _ (d : Directory) (log : List ℕ) (at : ℕ) where
       ∙ ap (stepped log r) (inside-sum d (r .crc32) allOnes (r .position) log))
       ∙ both n (sum-rest n) r o (readAt (inside d false allOnes) (r .position) log) refl
       ∙ ap (λ (x : Step). sumTested at log (byStep log (restOf n d log) x)) (sym (inside-step d log (plain r) (o .inside) (o .within)))
+
+-- what the validating walk reads, the plain one reads
+pub plain-walked : (d : Directory) (log : List ℕ) (at n : ℕ) (r : LogReader) (ws : List Written) (end : ℕ) → Opened log at r → restOf n d log r ≡ walked ws end
+    → restOf n d log (plain r) ≡ walked ws end
+plain-walked d log at n r ws end o e = by (restOf n d log (plain r)) (sym (sum-rest d log at n r o) ∙ e)
+  where
+    held : (b : Bool) (vs : List Written) (k : ℕ) → sumHeld b (walked vs k) ≡ walked ws end → walked vs k ≡ walked ws end
+    held true vs k q = q
+    held false vs k q = let z : _≡_ {A = ℕ} 0 1 = cc in absurd (omega arith)
+
+    by : (g : Walked (List Written)) → sumTested at log g ≡ walked ws end → g ≡ walked ws end
+    by (fault x) q = q
+    by (walked vs k) q = held (eqb (littleAt 4 log (k - 4)) (checksumOf (take (k - 4 - at) (drop at log)))) vs k q

@@ -1,3 +1,3 @@
-pub mod Parts
+pub mod Inner
 pub mod Replay
 pub mod Run

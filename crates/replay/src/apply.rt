@@ -1,23 +1,20 @@
 // The second pass over a record: its actions onto the image.
 ghost use mathlib.Core.Path.{_≡_};
 ghost use mathlib.Core.Bool.{true};
-ghost use Prim.Native.Nat.{suc};
-ghost use lib.ListN.{length};
-ghost use Rattle.directory.specs.Directory.{imageLength};
-ghost use Rattle.replay.specs.Parts.{isGot};
-ghost use Rattle.replay.specs.Replay.{restOf, imageAfter};
+ghost use Rattle.replay.specs.Inner.{isWalked};
+ghost use Rattle.replay.specs.Replay.{restIn, tablesKept, imageAfter};
 use directory::Directory;
 use record::LogReader;
 use record::Step;
 
 // It meets no refusal, since the first pass met none.
 pub fn apply_rest(d: Directory, log: &[u8], r: LogReader, image: &mut [u8])
-    requires { ⌜ (length (now image) ≡ imageLength d) × (isGot (restOf (suc (length (now log))) d (now log) r) ≡ true) ⌝ }
-    ensures { λ _. ⌜ now (image .exit) ≡ imageAfter d (now (image .entry)) (restOf (suc (length (now (log .entry)))) d (now (log .entry)) r) ⌝ }
+    requires { ⌜ (tablesKept d (now image) ≡ true) × (isWalked (restIn d (now log) r) ≡ true) ⌝ }
+    ensures { λ _. ⌜ now (image .exit) ≡ imageAfter d (now (image .entry)) (restIn d (now (log .entry)) r) ⌝ }
 {
     let mut cur = r;
     loop {
-        match cur.step(d, log) {
+        match cur.next_kept(d, log) {
             Step::Refused(_) => return,
             Step::Took(s) => {
                 let action = s.action;

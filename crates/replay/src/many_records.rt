@@ -1,11 +1,10 @@
 // Records one behind the other.
 ghost use mathlib.Core.Path.{_≡_};
-ghost use Prim.Native.Nat.{suc};
-ghost use lib.ListN.{length};
-ghost use Rattle.directory.specs.Directory.{imageLength};
-ghost use Rattle.replay.specs.Run.{runFrom, runOf};
+ghost use mathlib.Core.Bool.{true};
+ghost use Rattle.replay.specs.Replay.{tablesKept};
+ghost use Rattle.replay.specs.Run.{runIn, runOf};
 use super::check::EndAnswer;
-use super::one_record::replay_tested;
+use super::one_record::replay_kept;
 use super::one_record::tables_kept;
 use answer::Answer;
 use directory::Directory;
@@ -17,16 +16,17 @@ pub struct Ran {
 }
 
 // A run under a directory and an image that were tested already.
-fn run_tested(d: Directory, log: &[u8], at: usize, expected: u64, image: &mut [u8]) -> Ran
-    requires { ⌜ length (now image) ≡ imageLength d ⌝ }
-    ensures { λ r. ⌜ (r ≡ runFrom (suc (length (now (log .entry)))) d (now (log .entry)) at expected 0 (now (image .entry)) .ran) × (now (image .exit) ≡ runFrom (suc (length (now (log .entry)))) d (now (log .entry)) at expected 0 (now (image .entry)) .image) ⌝ }
+pub fn run_kept(d: Directory, log: &[u8], at: usize, expected: u64, image: &mut [u8]) -> Ran
+    requires { ⌜ tablesKept d (now image) ≡ true ⌝ }
+    ensures { λ r. ⌜ (r ≡ runIn d (now (log .entry)) at expected 0 (now (image .entry)) .ran) × (now (image .exit) ≡ runIn d (now (log .entry)) at expected 0 (now (image .entry)) .image) ⌝ }
 {
     let mut position = at;
     let mut id = expected;
     let mut count = 0;
     loop {
-        match replay_tested(d, log, position, id, image) {
-            EndAnswer::NotEnded(a) => {
+        match replay_kept(d, log, position, id, image) {
+            EndAnswer::NotEnded(x) => {
+                let a = x.answer;
                 return Ran {
                     answer: a,
                     position: position,
@@ -36,7 +36,7 @@ fn run_tested(d: Directory, log: &[u8], at: usize, expected: u64, image: &mut [u
             EndAnswer::Ended(end) => {
                 position = end;
                 count += 1;
-                if id == 18446744073709551615 {
+                if id == answer::LAST_RECORD_ID {
                     return Ran {
                         answer: Answer::UsedUp,
                         position: position,
@@ -54,7 +54,7 @@ pub fn run(d: Directory, log: &[u8], at: usize, expected: u64, image: &mut [u8])
     ensures { λ r. ⌜ (r ≡ runOf d (now (log .entry)) at expected (now (image .entry)) .ran) × (now (image .exit) ≡ runOf d (now (log .entry)) at expected (now (image .entry)) .image) ⌝ }
 {
     if tables_kept(d, image) {
-        run_tested(d, log, at, expected, image)
+        run_kept(d, log, at, expected, image)
     } else {
         Ran {
             answer: Answer::BadState,

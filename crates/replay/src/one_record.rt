@@ -1,14 +1,13 @@
 // One record, in two passes over its bytes: checked, then applied.
 ghost use mathlib.Core.Path.{_≡_};
-ghost use Prim.Native.Nat.{suc};
-ghost use lib.ListN.{length};
-ghost use Rattle.directory.specs.Directory.{imageLength};
-ghost use Rattle.replay.specs.Parts.{endIn, Opened};
-ghost use Rattle.replay.specs.Replay.{restOf, recordAt, tablesKept, judged, replayedAs, imageAfter};
+ghost use mathlib.Core.Bool.{true};
+ghost use Rattle.replay.specs.Inner.{Opened};
+ghost use Rattle.replay.specs.Replay.{restIn, recordAt, tablesKept, judged, replayedAs, imageAfter, endIn};
 use super::apply::apply_rest;
 use super::check::EndAnswer;
 use super::check::checked_rest;
 use answer::Answer;
+use answer::Refusal;
 use directory::Directory;
 use record::LogReader;
 use record::Step;
@@ -18,7 +17,7 @@ pub struct Replayed {
     pub position: usize,
 }
 
-// The record behind its opening: checked to its end, then applied.
+// The record behind its opening: checked to its end, then applied. The second pass leaves the checksum out: it was found right.
 fn replay_opened(
     d: Directory,
     log: &[u8],
@@ -26,40 +25,37 @@ fn replay_opened(
     opened: LogReader,
     image: &mut [u8],
 ) -> EndAnswer
-    requires { ⌜ (length (now image) ≡ imageLength d) × Opened (now log) at opened ⌝ }
-    ensures { λ e. ⌜ (e ≡ endIn (restOf (suc (length (now (log .entry)))) d (now (log .entry)) opened)) × (now (image .exit) ≡ imageAfter d (now (image .entry)) (restOf (suc (length (now (log .entry)))) d (now (log .entry)) opened)) ⌝ }
+    requires { ⌜ (tablesKept d (now image) ≡ true) × Opened (now log) at opened ⌝ }
+    ensures { λ e. ⌜ (e ≡ endIn (restIn d (now (log .entry)) opened)) × (now (image .exit) ≡ imageAfter d (now (image .entry)) (restIn d (now (log .entry)) opened)) ⌝ }
 {
     match checked_rest(d, log, at, opened) {
-        EndAnswer::NotEnded(a) => EndAnswer::NotEnded(a),
+        EndAnswer::NotEnded(x) => EndAnswer::NotEnded(x),
         EndAnswer::Ended(end) => {
-            apply_rest(d, log, opened, image);
+            apply_rest(d, log, opened.unvalidated(), image);
             EndAnswer::Ended(end)
         }
     }
 }
 
-// A record under a directory and an image that were tested already.
-pub fn replay_tested(
+// A record under a directory and an image that were tested already: a run tests them once.
+pub fn replay_kept(
     d: Directory,
     log: &[u8],
     at: usize,
     expected: u64,
     image: &mut [u8],
 ) -> EndAnswer
-    requires { ⌜ length (now image) ≡ imageLength d ⌝ }
+    requires { ⌜ tablesKept d (now image) ≡ true ⌝ }
     ensures { λ e. ⌜ (e ≡ endIn (recordAt d (now (log .entry)) at expected)) × (now (image .exit) ≡ imageAfter d (now (image .entry)) (recordAt d (now (log .entry)) at expected)) ⌝ }
 {
-    match LogReader::new(at, true).step(d, log) {
-        Step::Refused(x) => {
-            let a = x.answer;
-            EndAnswer::NotEnded(a)
-        }
+    match LogReader::new(at, true).next_kept(d, log) {
+        Step::Refused(x) => EndAnswer::NotEnded(x),
         Step::Took(s) => {
             let opened = s.reader;
             if opened.record_id == expected {
                 replay_opened(d, log, at, opened, image)
             } else {
-                EndAnswer::NotEnded(Answer::WrongId)
+                EndAnswer::NotEnded(Refusal::new(Answer::WrongId))
             }
         }
     }
@@ -86,11 +82,14 @@ pub fn replay(d: Directory, log: &[u8], at: usize, expected: u64, image: &mut [u
             position: at,
         };
     }
-    match replay_tested(d, log, at, expected, image) {
-        EndAnswer::NotEnded(a) => Replayed {
-            answer: a,
-            position: at,
-        },
+    match replay_kept(d, log, at, expected, image) {
+        EndAnswer::NotEnded(x) => {
+            let a = x.answer;
+            Replayed {
+                answer: a,
+                position: at,
+            }
+        }
         EndAnswer::Ended(end) => Replayed {
             answer: Answer::Done,
             position: end,

@@ -1,14 +1,12 @@
 // A record checked to its end, whatever its id: what clearing reads again.
 ghost use mathlib.Core.Path.{_≡_};
 ghost use mathlib.Core.Bool.{true};
-ghost use Prim.Native.Nat.{suc};
-ghost use lib.ListN.{length};
+ghost use Rattle.directory.specs.Directory.{directoryKept};
 ghost use Rattle.record.specs.Next.{readerAt, stepOf};
-ghost use Rattle.replay.specs.Parts.{wholeOf};
-ghost use Rattle.replay.specs.Replay.{restOf};
+ghost use Rattle.replay.specs.Replay.{restIn, wholeOf};
 use super::check::EndAnswer;
 use super::check::checked_rest;
-use answer::Answer;
+use answer::Refusal;
 use directory::Directory;
 use record::LogReader;
 use record::Step;
@@ -21,21 +19,20 @@ pub struct WholeRecord {
 
 pub enum WholeAnswer {
     Whole(WholeRecord),
-    NotWhole(Answer),
+    NotWhole(Refusal),
 }
 
-pub fn check_record(d: Directory, log: &[u8], at: usize) -> WholeAnswer
-    ensures { λ r. ⌜ r ≡ wholeOf (restOf (suc (length (now (log .entry)))) d (now (log .entry))) (stepOf d (now (log .entry)) (readerAt at true)) ⌝ }
+// Under a directory that was tested already.
+pub fn check_record_kept(d: Directory, log: &[u8], at: usize) -> WholeAnswer
+    requires { ⌜ directoryKept d ≡ true ⌝ }
+    ensures { λ r. ⌜ r ≡ wholeOf (restIn d (now (log .entry))) (stepOf d (now (log .entry)) (readerAt at true)) ⌝ }
 {
-    match LogReader::new(at, true).step(d, log) {
-        Step::Refused(x) => {
-            let a = x.answer;
-            WholeAnswer::NotWhole(a)
-        }
+    match LogReader::new(at, true).next_kept(d, log) {
+        Step::Refused(x) => WholeAnswer::NotWhole(x),
         Step::Took(s) => {
             let opened = s.reader;
             match checked_rest(d, log, at, opened) {
-                EndAnswer::NotEnded(a) => WholeAnswer::NotWhole(a),
+                EndAnswer::NotEnded(x) => WholeAnswer::NotWhole(x),
                 EndAnswer::Ended(end) => WholeAnswer::Whole(WholeRecord { opened, end }),
             }
         }

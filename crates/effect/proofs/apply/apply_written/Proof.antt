@@ -1,5 +1,4 @@
 -- `apply_written` meets its contract: each action by the function for its kind. Assumes nothing.
-use mathlib.Core.Path.{refl}
 use Rattle.effect.specs.Effect.{strokes, puts, done}
 use Rattle.effect.specs.Meaning.{SizedBy}
 use borrow.Author.Needs.{needs}
@@ -22,7 +21,7 @@ enum-known-action c = search needs
 
 insert-chunk-requires : tie.Need-insert-chunk-requires
 unfolding SizedBy
-insert-chunk-requires c κs = (c .before .before .before .before .before .before .before .pre .0, (λ n. refl, rw (c .before .before .before .action .given .1) at (c .before .before .before .before .before .before .before .pre .1)))
+insert-chunk-requires c κs = (c .before .before .before .before .before .before .before .pre .0, (λ t e. rw e, rw (c .before .before .before .action .given .1) at (c .before .before .before .before .before .before .before .pre .1)))
 
 enum-known-action-2 : tie.Need-enum-known-action-2
 enum-known-action-2 c = search needs
@@ -36,7 +35,7 @@ enum-known-action-3 c = search needs
 
 insert-chunk-requires-2 : tie.Need-insert-chunk-requires-2
 unfolding SizedBy
-insert-chunk-requires-2 c κs = (c .before .before .before .before .before .before .before .pre .0, (λ n. refl, rw (c .before .before .before .action3 .given .1) at (c .before .before .before .before .before .before .before .pre .1)))
+insert-chunk-requires-2 c κs = (c .before .before .before .before .before .before .before .pre .0, (λ t e. rw e, rw (c .before .before .before .action3 .given .1) at (c .before .before .before .before .before .before .before .pre .1)))
 
 enum-known-action-4 : tie.Need-enum-known-action-4
 enum-known-action-4 c = search needs

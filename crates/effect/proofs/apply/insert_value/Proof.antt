@@ -1,4 +1,5 @@
 -- `insert_value` meets its contract. Assumes nothing.
+use Rattle.effect.proofs.Places.{value-slot}
 use Rattle.effect.proofs.Spots.{spotted, puts-nowhere, puts-value}
 use mathlib.Core.Path.{sym, _∙_}
 use native.Mathlib.Omega.{arith}
@@ -23,7 +24,7 @@ enum-known-at c = search needs
 copy-requires : tie.Need-copy-requires
 copy-requires c κs =
     let s = spotted _ Value _ _ _ _ (sym (c .before .before .before .before .locate .ensures) ∙ c .before .before .at .given .1) in
-    (omega (arith, s .room), omega (arith, s .long, c .before .before .before .before .before .before .before .pre .1 (s .place) (s .is)))
+    (omega (arith, s .room), omega (arith, s .long, c .before .before .before .before .before .before .before .pre .1 (s .place) (s .is) ∙ value-slot _ _ (s .place) (s .is)))
 
 returns : tie.Need-returns
 returns c = puts-nowhere _ Value _ _ _ (sym (c .before .before .locate .ensures) ∙ c .enum-told .given .1) _

@@ -11,7 +11,7 @@ use Rattle.effect.proofs.place.locate.Reads as reads
 use Rattle.effect.proofs.place.locate.Lts as lts
 use Rattle.directory.proofs.directory.Directory.find.Reads as find-reads
 use Rattle.directory.proofs.directory.Directory.start.Reads as start-reads
-use Rattle.directory.proofs.table.TableKind.unit.Reads as unit-reads
+use Rattle.directory.proofs.table.TableDescription.slot_length.Reads as slot-length-reads
 
 find-requires : tie.Need-find-requires
 find-requires c κs = search needs
@@ -25,28 +25,28 @@ enum-known-row c = search needs
 cast-count : tie.Need-cast-count
 cast-count c = search needs
 
-unit-requires : tie.Need-unit-requires
-unit-requires c κs = search needs
+slot-length-requires : tie.Need-slot-length-requires
+slot-length-requires c κs = search needs
 
 start-requires : tie.Need-start-requires
 start-requires c κs = search needs
 
 -- what lies under the index lies within the image
-room : (c : tie.After-start) → c .start .result + c .before .before .before .before .before .before .before .before .args .index * c .before .unit .result + c .before .unit .result
+room : (c : tie.After-start) → c .start .result + c .before .before .before .before .before .before .before .before .args .index * c .before .slot-length .result + c .before .slot-length .result
     ≤ imageLength (c .before .before .before .before .before .before .before .before .args .d)
-room c = spot-room _ _ _ _ _ (sym (c .before .before .before .before .before .before .before .find .ensures) ∙ c .before .before .before .before .before .row .given .1) _ (c .before .before .if1 .taken) _ _ (c .start .ensures) (c .before .unit .ensures .0)
+room c = spot-room _ _ _ _ _ (sym (c .before .before .before .before .before .before .before .find .ensures) ∙ c .before .before .before .before .before .row .given .1) _ (c .before .before .if1 .taken) _ _ (c .start .ensures) (c .before .slot-length .ensures .0)
 
-mul-t16 : tie.Need-mul-t16
-mul-t16 c = omega (arith, room c)
+mul-t15 : tie.Need-mul-t15
+mul-t15 c = omega (arith, room c)
 
-add-t17 : tie.Need-add-t17
-add-t17 c = omega (arith, room c)
+add-t16 : tie.Need-add-t16
+add-t16 c = omega (arith, room c)
 
 returns : tie.Need-returns
 returns c = spot-none _ _ _ _ (sym (c .before .before .find .ensures) ∙ c .enum-told .given .1)
 
 returns-2 : tie.Need-returns-2
-returns-2 c = spot-at _ _ _ _ _ (sym (c .before .before .before .before .before .before .before .find .ensures) ∙ c .before .before .before .before .before .row .given .1) _ (c .before .before .if1 .taken) _ _ (c .start .ensures) (c .before .unit .ensures .0)
+returns-2 c = spot-at _ _ _ _ _ (sym (c .before .before .before .before .before .before .before .find .ensures) ∙ c .before .before .before .before .before .row .given .1) _ (c .before .before .if1 .taken) _ _ (c .start .ensures) (c .before .slot-length .ensures .0)
 
 returns-3 : tie.Need-returns-3
 returns-3 c = spot-past _ _ _ _ _ (sym (c .before .before .before .before .before .find .ensures) ∙ c .before .before .before .row .given .1) _ (c .if1 .left)
@@ -59,10 +59,10 @@ locate-spec =
     enum-told
     enum-known-row
     cast-count
-    unit-requires
+    slot-length-requires
     start-requires
-    mul-t16
-    add-t17
+    mul-t15
+    add-t16
     returns
     returns-2
     returns-3)

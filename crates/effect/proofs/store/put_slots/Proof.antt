@@ -1,13 +1,13 @@
 -- `put_slots` meets its contract. The invariant: the slots that are left, put into the image as it is, give what the contract says.
 -- Assumes nothing.
-use Prim.Native.Nat.{_+_, _-_, _*_, _≤_}
+use Prim.Native.Nat.{_+_, _*_, _≤_}
 use mathlib.Core.Path.{_≡_, refl, sym, _∙_}
 use mathlib.Core.Logic.{⊎-elim}
 use native.Mathlib.Omega.{arith}
 use lib.Count.{onesIn}
 use lib.ListN.{length, drop}
 use lib.Seq.{length-sets}
-use Rattle.effect.specs.Effect.{slots, puts}
+use Rattle.effect.specs.Effect.{slotStrokes, puts}
 use Rattle.effect.proofs.Steps.{mul-turn, ones-set, ones-clear, slots-set, slots-clear, slots-last}
 use Rattle.effect.proofs.store.put_slots.Statement.{statement}
 use Rattle.effect.proofs.store.put_slots.Tie as tie
@@ -16,7 +16,7 @@ use Rattle.effect.proofs.store.put_slots.Lts as lts
 
 abbrev Inv-loop : tie.InvT-loop
 Inv-loop image₀ at w mask log from m₀ a₀ f₀ left₀ image m a f left =
-    (puts (slots left w a m (drop f log)) image ≡ puts (slots 64 w at mask (drop from log)) image₀)
+    (puts (slotStrokes left w a m (drop f log)) image ≡ puts (slotStrokes 64 w at mask (drop from log)) image₀)
     × (length image ≡ length image₀) × (a + left * w ≤ length image₀) × (f + onesIn left m * w ≤ length log) × (left ≤ 64)
 
 abbrev μ-loop : tie.MeasureT-loop

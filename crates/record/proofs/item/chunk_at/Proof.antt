@@ -1,5 +1,5 @@
 -- `chunk_at` meets its contract. Assumes nothing.
-use mathlib.Core.Path.{_≡_, refl, sym, ap, _∙_}
+use mathlib.Core.Path.{sym}
 use Rattle.record.proofs.Parts.{chunk-short, chunk-cut, chunk-met}
 use borrow.Author.Needs.{needs}
 use Rattle.record.proofs.item.chunk_at.Statement.{statement}

@@ -1,8 +1,8 @@
 -- `dropped_ref_count_at` meets its contract. Assumes nothing.
 use Prim.Native.Nat.{_+_}
-use mathlib.Core.Path.{_≡_, refl, sym, ap, _∙_}
+use mathlib.Core.Path.{sym, ap, _∙_}
 use Rattle.directory.specs.declared.table.TableKind.the-variants.{RefCount}
-use Rattle.record.specs.Parts.{gotTable}
+use Rattle.record.specs.Inner.{gotTable}
 use Rattle.record.specs.Record.{dropRefCount}
 use Rattle.record.specs.declared.item.TableAnswer.{TableAnswer}
 use Rattle.record.proofs.Parts.{dropped-stop, dropped-met}

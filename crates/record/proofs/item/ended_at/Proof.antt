@@ -1,8 +1,7 @@
 -- `ended_at` meets its contract. Assumes nothing.
-use mathlib.Core.Path.{_≡_, refl, sym, ap, _∙_}
-use mathlib.Core.Bool.{Bool}
+use mathlib.Core.Path.{sym, _∙_}
 use native.Mathlib.Nat.{add-zero}
-use Rattle.record.proofs.Parts.{tested, ended-short, ended-met}
+use Rattle.record.proofs.Parts.{ended-short, ended-met}
 use borrow.Author.Needs.{needs}
 use Rattle.record.proofs.item.ended_at.Statement.{statement}
 use Rattle.record.proofs.item.ended_at.Tie as tie

@@ -1,7 +1,7 @@
 -- `key_at` meets its contract. Assumes nothing.
-use mathlib.Core.Path.{_≡_, refl, sym, ap, _∙_}
+use mathlib.Core.Path.{sym, _∙_}
 use borrow.Author.Tests.{lt-ltb, le-ltb}
-use Rattle.record.proofs.Parts.{tested, keyIn, key-short, key-met}
+use Rattle.record.proofs.Parts.{key-short, key-met}
 use borrow.Author.Needs.{needs}
 use Rattle.record.proofs.item.key_at.Statement.{statement}
 use Rattle.record.proofs.item.key_at.Tie as tie

@@ -1,9 +1,8 @@
 -- `masked_at` meets its contract. Assumes nothing.
 use Prim.Native.Nat.{_+_}
-use mathlib.Core.Path.{_≡_, refl, sym, ap, _∙_}
-use native.Mathlib.Omega.{arith}
-use Rattle.record.specs.Parts.{gotKey}
-use Rattle.record.specs.Record.{key, chunk, masked}
+use mathlib.Core.Path.{sym, ap, _∙_}
+use Rattle.record.specs.Inner.{gotKey}
+use Rattle.record.specs.Record.{key, chunk, maskedItem}
 use Rattle.record.specs.declared.item.KeyAnswer.{KeyAnswer}
 use Rattle.record.proofs.Formats.{within, then-stop, then-got}
 use borrow.Author.Needs.{needs}
@@ -32,13 +31,13 @@ chunk-at-requires c κs =
     (c .before .before .before .before .before .pre .0, within (key (a .d) (a .kind)) _ _ _ _ (c .before .before .before .before .before .pre .1) (sym (c .before .before .before .key-at .ensures) ∙ ap (λ (x : KeyAnswer). gotKey x (c .before .before .before .before .before .args .body + 10)) (c .before .k .given .1)) .inside)
 
 returns : tie.Need-returns
-unfolding masked
+unfolding maskedItem
 returns c =
     let a = c .before .before .before .before .before .args in
     then-stop (key (a .d) (a .kind)) (chunk (a .kind) (a .width)) _ _ _ (sym (ap (λ (x : KeyAnswer). gotKey x (c .before .before .before .before .before .args .body + 10)) (c .before .a .given .1)) ∙ c .before .before .before .key-at .ensures)
 
 returns-2 : tie.Need-returns-2
-unfolding masked
+unfolding maskedItem
 returns-2 c =
     let a = c .before .before .before .before .before .before .args in
     c .chunk-at .ensures ∙ then-got (key (a .d) (a .kind)) (chunk (a .kind) (a .width)) _ _ _ _ (sym (ap (λ (x : KeyAnswer). gotKey x (c .before .before .before .before .before .before .args .body + 10)) (c .before .before .k .given .1)) ∙ c .before .before .before .before .key-at .ensures)

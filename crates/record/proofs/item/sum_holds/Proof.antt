@@ -1,5 +1,4 @@
 -- `sum_holds` meets its contract: the end tag's byte goes into the checksum too. Assumes nothing.
-use mathlib.Core.Path.{_≡_, refl, sym, ap, _∙_}
 use borrow.Author.Tests.{not-true, not-false}
 use Rattle.record.specs.Record.{sumHolds}
 use borrow.Author.Needs.{needs}

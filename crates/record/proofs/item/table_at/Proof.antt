@@ -1,7 +1,6 @@
 -- `table_at` meets its contract. Assumes nothing.
-use mathlib.Core.Path.{_≡_, refl, sym, ap, _∙_}
-use Rattle.directory.specs.declared.directory.Found.{Found}
-use Rattle.record.proofs.Parts.{tableIn, table-short, table-met}
+use mathlib.Core.Path.{sym, _∙_}
+use Rattle.record.proofs.Parts.{table-short, table-met}
 use borrow.Author.Needs.{needs}
 use Rattle.record.proofs.item.table_at.Statement.{statement}
 use Rattle.record.proofs.item.table_at.Tie as tie

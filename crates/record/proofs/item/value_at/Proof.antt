@@ -1,8 +1,5 @@
 -- `value_at` meets its contract. Assumes nothing.
-use Rattle.record.specs.Format.{got}
-use Rattle.record.specs.declared.action.LogAction.{LogAction}
-use Rattle.record.specs.Record.{Item}
-use mathlib.Core.Path.{_≡_, refl, sym, ap, _∙_}
+use mathlib.Core.Path.{sym}
 use Rattle.record.proofs.Parts.{value-short, value-met}
 use borrow.Author.Needs.{needs}
 use Rattle.record.proofs.item.value_at.Statement.{statement}
@@ -10,21 +7,22 @@ use Rattle.record.proofs.item.value_at.Tie as tie
 use Rattle.record.proofs.item.value_at.Reads as reads
 use Rattle.record.proofs.item.value_at.Lts as lts
 use Rattle.record.proofs.action.LogAction.insert.Reads as insert-reads
+use Rattle.record.proofs.item.value_length.Reads as value-length-reads
 
-cast-length : tie.Need-cast-length
-cast-length c = search needs
+value-length-requires : tie.Need-value-length-requires
+value-length-requires c κs = search needs
 
 sub-if1 : tie.Need-sub-if1
 sub-if1 c = search needs
 
 returns : tie.Need-returns
-returns c = sym (value-short _ _ _ (c .if1 .taken))
+returns c = sym (value-short _ _ _ (rw (c .before .value-length .ensures) at (c .if1 .taken)))
 
 insert-requires : tie.Need-insert-requires
 insert-requires c κs = search needs
 
 returns-2 : tie.Need-returns-2
-returns-2 c = rw (c .insert .ensures) (sym (value-met _ _ _ (c .before .if1 .left)))
+returns-2 c = rw (c .insert .ensures, c .before .before .value-length .ensures) (sym (value-met _ _ _ (rw (c .before .before .value-length .ensures) at (c .before .if1 .left))))
 
 pub value-at-spec : {M : Type 1} → statement M
-value-at-spec = tie.close (tie.spec cast-length sub-if1 returns insert-requires returns-2)
+value-at-spec = tie.close (tie.spec value-length-requires sub-if1 returns insert-requires returns-2)

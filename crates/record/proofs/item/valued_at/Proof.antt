@@ -1,10 +1,9 @@
 -- `valued_at` meets its contract. Assumes nothing.
 use Prim.Native.Nat.{_+_}
-use mathlib.Core.Path.{_≡_, refl, sym, ap, _∙_}
-use native.Mathlib.Omega.{arith}
+use mathlib.Core.Path.{sym, ap, _∙_}
 use Rattle.directory.specs.declared.table.TableKind.the-variants.{Value}
-use Rattle.record.specs.Parts.{gotKey}
-use Rattle.record.specs.Record.{key, value, valued}
+use Rattle.record.specs.Inner.{gotKey}
+use Rattle.record.specs.Record.{key, value, valuedItem}
 use Rattle.record.specs.declared.item.KeyAnswer.{KeyAnswer}
 use Rattle.record.proofs.Formats.{within, then-stop, then-got}
 use borrow.Author.Needs.{needs}
@@ -33,13 +32,13 @@ value-at-requires c κs =
     within (key (a .d) Value) _ _ _ _ (c .before .before .before .before .before .pre) (sym (c .before .before .before .key-at .ensures) ∙ ap (λ (x : KeyAnswer). gotKey x (c .before .before .before .before .before .args .body + 10)) (c .before .k .given .1)) .inside
 
 returns : tie.Need-returns
-unfolding valued
+unfolding valuedItem
 returns c =
     let a = c .before .before .before .before .before .args in
     then-stop (key (a .d) Value) value _ _ _ (sym (ap (λ (x : KeyAnswer). gotKey x (c .before .before .before .before .before .args .body + 10)) (c .before .a .given .1)) ∙ c .before .before .before .key-at .ensures)
 
 returns-2 : tie.Need-returns-2
-unfolding valued
+unfolding valuedItem
 returns-2 c =
     let a = c .before .before .before .before .before .before .args in
     c .value-at .ensures ∙ then-got (key (a .d) Value) value _ _ _ _ (sym (ap (λ (x : KeyAnswer). gotKey x (c .before .before .before .before .before .before .args .body + 10)) (c .before .before .k .given .1)) ∙ c .before .before .before .before .key-at .ensures)

@@ -1,5 +1,5 @@
 -- `begun_at` meets its contract. Assumes nothing.
-use mathlib.Core.Path.{_≡_, refl, sym, ap, _∙_}
+use mathlib.Core.Path.{sym}
 use Rattle.record.proofs.Parts.{begun-short, begun-met}
 use borrow.Author.Needs.{needs}
 use Rattle.record.proofs.opening.begun_at.Statement.{statement}

@@ -1,5 +1,5 @@
 -- `early_at` meets its contract. Assumes nothing.
-use mathlib.Core.Path.{_≡_, refl, sym, ap, _∙_}
+use mathlib.Core.Path.{sym}
 use Rattle.record.proofs.Parts.{early-short, early-met}
 use borrow.Author.Needs.{needs}
 use Rattle.record.proofs.opening.early_at.Statement.{statement}

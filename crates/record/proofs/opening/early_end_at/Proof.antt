@@ -1,7 +1,7 @@
 -- `early_end_at` meets its contract. Assumes nothing.
-use mathlib.Core.Path.{_≡_, refl, sym, ap, _∙_}
+use mathlib.Core.Path.{sym, _∙_}
 use borrow.Author.Tests.{not-true, not-false, eq-eqb, ne-eqb}
-use Rattle.record.proofs.Parts.{tested, early-end-short, early-end-met}
+use Rattle.record.proofs.Parts.{early-end-short, early-end-met}
 use borrow.Author.Needs.{needs}
 use Rattle.record.proofs.opening.early_end_at.Statement.{statement}
 use Rattle.record.proofs.opening.early_end_at.Tie as tie

@@ -1,8 +1,5 @@
 -- `opening_at` meets its contract: one line a tag. Assumes nothing.
-use mathlib.Core.Path.{_≡_, refl, sym, ap, _∙_}
-use Prim.Native.Nat.{_+_}
-use native.Mathlib.Omega.{arith}
-use Rattle.record.specs.Format.{readAt}
+use mathlib.Core.Path.{refl, sym, _∙_}
 use Rattle.record.specs.Record.{openingBy}
 use Rattle.answer.specs.declared.answer.Answer.the-variants.{UnknownTag}
 use Rattle.record.proofs.Formats.{read-refuse}

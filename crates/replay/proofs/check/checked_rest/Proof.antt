@@ -1,14 +1,14 @@
 -- `checked_rest` meets its contract. Assumes nothing.
-use mathlib.Core.Path.{_≡_, refl, sym, ap, _∙_}
-use Prim.Native.Nat.{suc, _+_, _-_}
+use mathlib.Core.Path.{_≡_, sym, ap, _∙_}
+use Prim.Native.Nat.{suc}
 use native.Mathlib.Omega.{arith}
 use borrow.Author.Tests.{eq-eqb, ne-eqb}
 use lib.ListN.{length}
 use denote.Ref.{now}
 use Rattle.record.specs.declared.reader.LogReader.{LogReader}
-use Rattle.replay.specs.Parts.{endIn, plain}
-use Rattle.replay.specs.Replay.{restOf}
-use Rattle.replay.specs.declared.check.EndAnswer.the-variants.{Ended}
+use Rattle.record.specs.Next.{plain}
+use Rattle.replay.specs.Replay.{restOf, endIn}
+use Rattle.replay.specs.declared.check.EndAnswer.the-variants.{Ended, NotEnded}
 use Rattle.replay.proofs.Places.{EndsIn}
 use Rattle.replay.proofs.Checked.{checked-no, checked-yes, checked-wrong, checked-place}
 use borrow.Author.Needs.{needs}
@@ -16,19 +16,20 @@ use Rattle.replay.proofs.check.checked_rest.Statement.{statement}
 use Rattle.replay.proofs.check.checked_rest.Tie as tie
 use Rattle.replay.proofs.check.checked_rest.Reads as reads
 use Rattle.replay.proofs.check.checked_rest.Lts as lts
+use Rattle.answer.proofs.answer.Refusal.new.Reads as new-reads
 use Rattle.checksum.proofs.checksum.Reads as checksum-reads
 use Rattle.replay.proofs.check.end_of.Reads as end-of-reads
-use Rattle.replay.proofs.check.unvalidated.Reads as unvalidated-reads
+use Rattle.record.proofs.reader.LogReader.unvalidated.Reads as unvalidated-reads
 use Rattle.words.proofs.u32_at.Reads as u32-at-reads
 
 unvalidated-requires : tie.Need-unvalidated-requires
 unvalidated-requires c κs = search needs
 
 end-of-requires : tie.Need-end-of-requires
-end-of-requires c κs = search needs
+end-of-requires c κs = c .before .before .pre .0
 
-enum-known-a : tie.Need-enum-known-a
-enum-known-a c = search needs
+enum-known-x : tie.Need-enum-known-x
+enum-known-x c = search needs
 
 enum-known-end : tie.Need-enum-known-end
 enum-known-end c = search needs
@@ -45,7 +46,7 @@ plainly u =
 place : (u : tie.After-known-told2) → EndsIn (now (u .before .before .before .before .before .before .args .log)) (u .before .before .before .before .before .before .args .opened) (u .before .end .given .0 .0)
 place u =
     let s = u .before .before .before .before .before .before in
-    checked-place (s .args .d) (now (s .args .log)) (s .args .at) (s .args .opened) (s .pre) _ (plainly u)
+    checked-place (s .args .d) (now (s .args .log)) (s .args .at) (s .args .opened) (s .pre .1) _ (plainly u)
 
 sub-tail : tie.Need-sub-tail
 sub-tail c = omega (arith, place c .five)
@@ -54,10 +55,10 @@ u32-at-requires : tie.Need-u32-at-requires
 u32-at-requires c κs = omega (arith, place c .five, place c .inside)
 
 sub-checksum : tie.Need-sub-checksum
-sub-checksum c = let s = c .before .before .before .before .before .before .before in omega (arith, place (c .before) .five, s .pre .behind)
+sub-checksum c = let s = c .before .before .before .before .before .before .before in omega (arith, place (c .before) .five, s .pre .1 .behind)
 
 part-checksum-start : tie.Need-part-checksum-start
-part-checksum-start c = let s = c .before .before .before .before .before .before .before in omega (arith, place (c .before) .five, s .pre .behind)
+part-checksum-start c = let s = c .before .before .before .before .before .before .before in omega (arith, place (c .before) .five, s .pre .1 .behind)
 
 part-checksum-end : tie.Need-part-checksum-end
 part-checksum-end c = omega (arith, place (c .before) .five, place (c .before) .inside)
@@ -65,25 +66,29 @@ part-checksum-end c = omega (arith, place (c .before) .five, place (c .before) .
 checksum-requires : tie.Need-checksum-requires
 checksum-requires c κs = search needs
 
+new-requires : tie.Need-new-requires
+new-requires c κs = search needs
+
 returns : tie.Need-returns
 returns c =
     let a = c .before .before .before .before .before .before .args in
-    checked-no (a .d) (now (a .log)) (a .at) (a .opened) (c .before .before .before .before .before .before .pre) _
-    (sym (c .before .a .given .1) ∙ c .before .before .before .end-of .ensures ∙ ap (λ (x : LogReader). endIn (restOf (suc (length (now (a .log)))) (a .d) (now (a .log)) x)) (c .before .before .before .before .unvalidated .ensures))
+    checked-no (a .d) (now (a .log)) (a .at) (a .opened) (c .before .before .before .before .before .before .pre .1) _
+    (sym (c .before .x .given .1) ∙ c .before .before .before .end-of .ensures ∙ ap (λ (x : LogReader). endIn (restOf (suc (length (now (a .log)))) (a .d) (now (a .log)) x)) (c .before .before .before .before .unvalidated .ensures))
 
 returns-2 : tie.Need-returns-2
 returns-2 c =
     let u = c .before .before .before .before in
     let a = c .before .before .before .before .before .before .before .before .before .before .args in
-    checked-yes (a .d) (now (a .log)) (a .at) (a .opened) (c .before .before .before .before .before .before .before .before .before .before .pre) _ (plainly u)
+    checked-yes (a .d) (now (a .log)) (a .at) (a .opened) (c .before .before .before .before .before .before .before .before .before .before .pre .1) _ (plainly u)
     (eq-eqb _ _ (sym (c .before .before .before .u32-at .ensures) ∙ c .if1 .taken ∙ c .before .checksum .ensures))
 
 returns-3 : tie.Need-returns-3
 returns-3 c =
-    let u = c .before .before .before .before in
-    let a = c .before .before .before .before .before .before .before .before .before .before .args in
-    checked-wrong (a .d) (now (a .log)) (a .at) (a .opened) (c .before .before .before .before .before .before .before .before .before .before .pre) _ (plainly u)
-    (ne-eqb _ _ (λ e. c .if1 .left (c .before .before .before .u32-at .ensures ∙ e ∙ sym (c .before .checksum .ensures))))
+    let u = c .before .before .before .before .before in
+    let s = u .before .before .before .before .before .before in
+    ap NotEnded (c .new .ensures)
+    ∙ checked-wrong (s .args .d) (now (s .args .log)) (s .args .at) (s .args .opened) (s .pre .1) _ (plainly u)
+    (ne-eqb _ _ (λ e. c .before .if1 .left (c .before .before .before .before .u32-at .ensures ∙ e ∙ sym (c .before .before .checksum .ensures))))
 
 pub checked-rest-spec : {M : Type 1} → statement M
 checked-rest-spec =
@@ -91,7 +96,7 @@ checked-rest-spec =
     (tie.spec
     unvalidated-requires
     end-of-requires
-    enum-known-a
+    enum-known-x
     enum-known-end
     sub-tail
     u32-at-requires
@@ -99,6 +104,7 @@ checked-rest-spec =
     part-checksum-start
     part-checksum-end
     checksum-requires
+    new-requires
     returns
     returns-2
     returns-3)

@@ -1,5 +1,5 @@
 -- `tables_kept` meets its contract. Assumes nothing.
-use mathlib.Core.Path.{_≡_, refl, sym, ap, _∙_}
+use mathlib.Core.Path.{sym, _∙_}
 use Rattle.replay.specs.Replay.{tablesKept}
 use borrow.Author.Needs.{needs}
 use Rattle.replay.proofs.one_record.tables_kept.Statement.{statement}

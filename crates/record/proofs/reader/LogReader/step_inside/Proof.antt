@@ -1,15 +1,13 @@
 -- `LogReader::step_inside` meets its contract: what was read lies within the log. Assumes nothing.
 use Rattle.record.proofs.Parts.{item-step}
 use denote.Ref.{now}
-use mathlib.Core.Path.{_≡_, refl, sym, ap, _∙_}
-use Prim.Native.Nat.{ℕ, _+_}
+use mathlib.Core.Path.{sym, ap, _∙_}
 use native.Mathlib.Omega.{arith}
-use Rattle.record.specs.Format.{Got, got, readAt}
-use Rattle.record.specs.Parts.{gotItem}
+use Rattle.record.specs.Format.{Got}
+use Rattle.record.specs.Inner.{gotItem}
 use Rattle.record.specs.Next.{stepped}
 use Rattle.record.specs.Record.{Item, inside}
-use Rattle.record.specs.declared.item.ItemAnswer.{ItemAnswer}
-use Rattle.record.proofs.Formats.{Within, within}
+use Rattle.record.proofs.Formats.{within}
 use borrow.Author.Needs.{needs}
 use Rattle.record.proofs.reader.LogReader.step_inside.Statement.{statement}
 use Rattle.record.proofs.reader.LogReader.step_inside.Tie as tie

@@ -1,14 +1,13 @@
 -- `LogReader::step_opening` meets its contract: the opening lies within the log. Assumes nothing.
 use denote.Ref.{now}
-use mathlib.Core.Path.{_≡_, refl, sym, ap, _∙_}
+use mathlib.Core.Path.{sym, ap, _∙_}
 use Prim.Native.Nat.{ℕ, _+_}
-use native.Mathlib.Omega.{arith}
-use Rattle.record.specs.Format.{Got, got, readAt}
-use Rattle.record.specs.Parts.{gotId}
+use Rattle.record.specs.Format.{Got}
+use Rattle.record.specs.Inner.{gotId}
 use Rattle.record.specs.Next.{opened}
 use Rattle.record.specs.Record.{opening}
 use Rattle.record.specs.declared.opening.IdAnswer.{IdAnswer}
-use Rattle.record.proofs.Formats.{Within, within}
+use Rattle.record.proofs.Formats.{within}
 use borrow.Author.Needs.{needs}
 use Rattle.record.proofs.reader.LogReader.step_opening.Statement.{statement}
 use Rattle.record.proofs.reader.LogReader.step_opening.Tie as tie

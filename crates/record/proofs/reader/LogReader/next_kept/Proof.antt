@@ -1,0 +1,43 @@
+-- `LogReader::next_kept` meets its contract. Assumes nothing.
+use borrow.Author.Tests.{lt-ltb, le-ltb}
+use Rattle.record.specs.Next.{stepOf}
+use borrow.Author.Needs.{needs}
+use Rattle.record.proofs.reader.LogReader.next_kept.Statement.{statement}
+use Rattle.record.proofs.reader.LogReader.next_kept.Tie as tie
+use Rattle.record.proofs.reader.LogReader.next_kept.Reads as reads
+use Rattle.record.proofs.reader.LogReader.next_kept.Lts as lts
+use Rattle.record.proofs.reader.LogReader.step_inside.Reads as step-inside-reads
+use Rattle.record.proofs.reader.LogReader.step_opening.Reads as step-opening-reads
+use Rattle.record.proofs.reader.refuse.Reads as refuse-reads
+
+refuse-requires : tie.Need-refuse-requires
+refuse-requires c κs = search needs
+
+returns : tie.Need-returns
+unfolding stepOf
+returns c = rw (lt-ltb _ _ (c .before .if1 .taken)) (c .refuse .ensures)
+
+step-inside-requires : tie.Need-step-inside-requires
+step-inside-requires c κs = search needs
+
+step-opening-requires : tie.Need-step-opening-requires
+step-opening-requires c κs = search needs
+
+returns-2 : tie.Need-returns-2
+unfolding stepOf
+returns-2 c = rw (le-ltb _ _ (c .before .before .if1 .left), ← c .step-inside .ensures, c .before .if2 .taken)
+
+returns-3 : tie.Need-returns-3
+unfolding stepOf
+returns-3 c = rw (le-ltb _ _ (c .before .before .if1 .left), ← c .step-opening .ensures, c .before .if2 .left)
+
+pub next-kept-spec : {M : Type 1} → statement M
+next-kept-spec =
+    tie.close
+    (tie.spec
+    refuse-requires
+    returns
+    step-inside-requires
+    step-opening-requires
+    returns-2
+    returns-3)

@@ -1,0 +1,23 @@
+-- What the inner functions of replay ask for. Nothing here has to be believed: `Replay` and `Run` say what the public calls answer.
+use mathlib.Core.Bool.{Bool, true, false}
+use mathlib.Core.Path.{_≡_}
+use mathlib.Core.List.{List}
+use Prim.Native.Nat.{ℕ, _-_, _≤_}
+use lib.ListN.{length, take, drop}
+use Rattle.checksum.specs.Checksum.{allOnes, updated}
+use Rattle.record.specs.declared.reader.LogReader.{LogReader}
+use Rattle.effect.specs.Effect.{Written}
+use Rattle.replay.specs.Replay.{Walked, fault, walked}
+
+-- a walk that met no fault
+abbrev pub isWalked : Walked (List Written) → Bool
+isWalked (fault x) = false
+isWalked (walked ws end) = true
+
+-- a reader inside a record that began at `at`: it validates, and its checksum has taken all the bytes since
+pub record Opened (log : List ℕ) (at : ℕ) (r : LogReader) : Type 0 where
+  pub inside : r .inside ≡ true
+  pub validates : r .validate ≡ true
+  pub behind : at ≤ r .position
+  pub within : r .position ≤ length log
+  pub sum : r .crc32 ≡ updated allOnes (take (r .position - at) (drop at log))
