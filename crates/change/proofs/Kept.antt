@@ -1,230 +1,178 @@
 -- A list that keeps its rules keeps them after every call. Document 01: "Rules of a state: room kept, no key twice, no mask 0".
 -- Assumes nothing.
-use mathlib.Core.Path.{_≡_, refl, sym, _∙_, subst}
-use mathlib.Core.Bool.{Bool, true, false, _&&_}
+use mathlib.Core.Path.{_≡_, refl, sym, ap, _∙_, subst}
+use mathlib.Core.Bool.{Bool, true, false}
 use mathlib.Core.List.{List, [], _∷_, _++_}
 use Prim.Native.Nat.{ℕ, _+_, _*_, _≤_, _<_}
 use native.Mathlib.Omega.{arith}
 use native.Mathlib.Numerals.{add-one}
-use lib.Dec.{leb, eqb}
+use lib.Dec.{leb}
 use lib.ListN.{length, getD, take}
-use lib.Seq.{length-paste, take-suc-set}
-use borrow.Author.Tests.{lt-ltb, le-leb, leb-false, eqb-true, eqb-false}
+use lib.Seq.{take-suc-set}
+use borrow.Author.Tests.{lt-ltb, leb-false}
+use Rattle.words.specs.Choice.{if_then_else_}
+use Rattle.words.proofs.Choices.{if-true}
+use Rattle.answer.specs.declared.answer.Answer.the-variants.{BadState}
 use Rattle.directory.specs.Directory.{tablesOf, findTable, stands, directoryKept}
+use Rattle.directory.specs.Table.{sameKind}
 use Rattle.directory.specs.declared.table.TableKind.{TableKind}
 use Rattle.directory.specs.declared.table.TableKind.the-variants.{Index, Value, RefCount}
 use Rattle.directory.specs.declared.directory.Directory.{Directory}
-use Rattle.keys.specs.Keys.{rank, keysOf, markAt, rowPut, every, ruled, spot, holds, putIn}
-use Rattle.keys.proofs.Places.{both, left-of, right-of, rule-under}
-use Rattle.keys.proofs.Kept.{table-here, index-here, mark-here, word-other, every-same, every-put, put-places, over-ruled, next-ruled}
-use Rattle.change.specs.Room.{roomOf, dropRoom, slotAt, markOf, localLength}
-use Rattle.change.specs.Listed.{newList, localOf, keysIn, tableOf, keyFits, rowFits, localKept, dropsKept, listKept, stateKept}
-use Rattle.change.specs.Insert.{roomFor, planOf, keyOver, keyNext, withLocal, listBy, memoryBy, inserted, localAfter}
-use Rattle.change.specs.Drop.{dropped, droppedIn, tableDropped, countTableDropped}
-use Rattle.change.specs.declared.overlay.LogOverlayLocal.{LogOverlayLocal}
-use Rattle.change.specs.declared.overlay.Plan.{Plan}
-use Rattle.change.specs.declared.overlay.Plan.the-variants.{Refuse, Replace, Append}
+use Rattle.keys.specs.Keys.{rank, markAt, rowPut, every}
+use Rattle.keys.proofs.Places.{both, left-of, right-of}
+use Rattle.keys.proofs.Kept.{table-here, index-here, mark-here, word-other}
+use Rattle.overlay.specs.Rules.{Overlay, overlayKept}
+use Rattle.overlay.specs.Overlay.{standsIn, putOver}
+use Rattle.memory.specs.declared.span.Holder.the-variants as holder
+use Rattle.memory.specs.Parts.{Parts, spanOf, wordsAll, bytesAll, ofKind, putInto}
+use Rattle.memory.proofs.Spans.{all-shows, into-kept, put-of}
+use Rattle.memory.proofs.Empty.{empty-kept}
 use Rattle.change.specs.declared.drops.Drops.{Drops}
-use Rattle.change.specs.declared.change.LogChange.{LogChange}
-use Rattle.change.proofs.Plans.{room-most}
-use Rattle.change.proofs.Accepted.{Accepted, accepted, no-replace, no-append, over, next, mark-kept, local-kept, local-room, local-ruled, state-list, replace-shows, append-shows}
-
--- what the types say of a list's arrays
-pub record Shaped (l : LogChange) : Type 0 where
-  pub rows : (kind : TableKind) → length (localOf kind l .rows) ≡ 128
-  pub orders : (kind : TableKind) → length (localOf kind l .order) ≡ 32
-  pub drops : length (l .«dropped_tables» .tables) ≡ 16
-  pub count-drops : length (l .«dropped_ref_count_tables» .tables) ≡ 16
+use Rattle.change.specs.declared.plans.Plan.{Plan}
+use Rattle.change.specs.declared.plans.Plan.the-variants.{Refuse, Go}
+use Rattle.change.specs.Change.{Change, changeOf, newList, withParts, withDrops, withCountDrops, dropRoom, changeRuled, keyFits, entryFits, entriesFit, dropsFit, changeKept}
+use Rattle.change.specs.Insert.{Made, notMade, markOf, planIn, madeBy, insertedKept, inserted}
+use Rattle.change.specs.Drop.{droppedIn, tableDroppedKept, tableDropped, countTableDroppedKept, countTableDropped}
+use Rattle.change.proofs.Rules.{RuledList, ruled-shows, ruled-makes, FitList, kept-directory, kept-ruled, kept-parts, kept-fits, kept-makes}
+use Rattle.change.proofs.Accepted.{same-kind, Accepted, accepted}
+use Rattle.change.proofs.EachPut.{each-put}
+use Rattle.change.proofs.Meaning.{mark-good, mark-right}
 
 -- a row that an insert writes fits the directory; every other is as it was
 module _ (kind : TableKind) (d : Directory) (rows : List ℕ) (p number index id mark : ℕ) (fits : 4 * p + 4 ≤ length rows) where
-  row-other : (q : ℕ) → (q ≡ p → ⊥) → rowFits d kind (rowPut rows p number index id mark) q ≡ rowFits d kind rows q
-  unfolding rowFits
+  row-here : keyFits kind (findTable d kind number) index mark ≡ true
+      → keyFits kind (findTable d kind (getD (rowPut rows p number index id mark) (4 * p) 0)) (getD (rowPut rows p number index id mark) (4 * p + 1) 0) (markAt (rowPut rows p number index id mark) p) ≡ true
+  row-here h = rw (table-here rows p number index id mark fits, index-here rows p number index id mark fits, mark-here rows p number index id mark fits) h
+
+  row-other : (q : ℕ) → (q ≡ p → ⊥)
+      → keyFits kind (findTable d kind (getD (rowPut rows p number index id mark) (4 * q) 0)) (getD (rowPut rows p number index id mark) (4 * q + 1) 0) (markAt (rowPut rows p number index id mark) q)
+      ≡ keyFits kind (findTable d kind (getD rows (4 * q) 0)) (getD rows (4 * q + 1) 0) (markAt rows q)
   row-other q ne =
       rw (word-other rows p number index id mark fits q (4 * q) ne (omega arith) (omega arith), word-other rows p number index id mark fits q (4 * q + 1) ne (omega arith) (omega arith), word-other rows p number index id mark fits q (4 * q + 3) ne (omega arith) (omega arith))
 
-  row-here : keyFits kind (findTable d kind number) index mark ≡ true → number < 65536 → rowFits d kind (rowPut rows p number index id mark) p ≡ true
-  unfolding rowFits tableOf
-  row-here h n =
-      rw (table-here rows p number index id mark fits, index-here rows p number index id mark fits, mark-here rows p number index id mark fits, lt-ltb number 65536 n) h
+put-fits : (kind : TableKind) (d : Directory) (o : Overlay) (room : ℕ) → overlayKept kind room o ≡ true → (number index id mark : ℕ) (src : List ℕ)
+    → (standsIn o (rank number index) ≡ false → o .count < room) → keyFits kind (findTable d kind number) index mark ≡ true
+    → entriesFit d kind o ≡ true → entriesFit d kind (putOver kind o number index id mark src) ≡ true
+unfolding entriesFit entryFits
+put-fits kind d o room ok number index id mark src free new e =
+    each-put kind room o ok number index id mark src free
+    (λ (rows : List ℕ) (p : ℕ). keyFits kind (findTable d kind (getD rows (4 * p) 0)) (getD rows (4 * p + 1) 0) (markAt rows p))
+    (λ p low. row-here kind d (o .rows) p number index id mark low new) (λ p q low ne. row-other kind d (o .rows) p number index id mark low q ne) e
 
--- a key whose insert is refused nothing fits the directory
-key-fits : (kind : TableKind) (d : Directory) (l : LogChange) (room number index sub len old : ℕ) (z : Plan)
-    → Accepted kind d l room number index sub len z → keyFits kind (findTable d kind number) index (markOf kind old sub len) ≡ true
-key-fits kind d l room number index sub len old z a =
-    rw (a .found) (both (lt-ltb index (a .table .count) (a .below)) (mark-kept kind old sub len (a .table .length) (a .size)))
+-- the one put of an insert
+module _ (kind : TableKind) (d : Directory) (l : Change) (number index sub : ℕ) (bytes : List ℕ) (old : ℕ) (small : number < 65536)
+    (a : Accepted kind d (l .parts) number index sub bytes old) where
+  abbrev mark : ℕ
+  mark = markOf kind old sub bytes
 
--- the rules of one kind's keys after a key is written over or added
-module _ (kind : TableKind) (d : Directory) (k : LogOverlayLocal) (number index id sub len : ℕ) (rows : length (k .rows) ≡ 128) (order : length (k .order) ≡ 32)
-    (ok : localKept d kind k ≡ true) (new : (old : ℕ) → keyFits kind (findTable d kind number) index (markOf kind old sub len) ≡ true) (small : number < 65536) where
-  all : every (rowFits d kind (k .rows)) (take (k .count) (k .order)) ≡ true
-  unfolding localKept
-  all = right-of (ruled (k .rows) (k .order) (k .count)) _ (right-of (leb (k .count) (roomOf kind)) _ ok)
+  abbrev after : Change
+  after = withParts l (putInto kind (l .parts) number index (l .id) mark bytes)
 
-  room : k .count ≤ roomOf kind
-  room = local-room d kind k ok
+  new-fits : keyFits kind (findTable d kind number) index mark ≡ true
+  new-fits = rw (a .found) (both (lt-ltb index (a .table .count) (a .below)) (mark-right kind old sub (a .table) bytes (a .whole)))
 
-  rule : ruled (k .rows) (k .order) (k .count) ≡ true
-  rule = local-ruled d kind k ok
+  after-ruled : changeRuled l ≡ true → changeRuled after ≡ true
+  after-ruled e =
+      let r = ruled-shows l e in
+      ruled-makes after
+      (record {
+        parts = into-kept holder.List (l .parts) (r .parts) kind number index (l .id) mark bytes (a .fits) (a .takes) small (mark-good kind old sub (a .table .length) bytes (a .size) (a .whole));
+        drops = r .drops;
+        count-drops = r .count-drops;
+      })
 
-  pub over-kept : (p : ℕ) → roomFor kind k (rank number index) ≡ Replace p → localKept d kind (keyOver kind k p number index id sub len) ≡ true
-  unfolding localKept
-  over-kept p e =
-      both (le-leb (k .count) (roomOf kind) room)
-      (both (subst (λ (q : ℕ). ruled (rowPut (k .rows) q number index id (markOf kind (markAt (k .rows) p) sub len)) (k .order) (k .count) ≡ true) (sym (o .0)) whole)
-      (every-same _ _ (k .count) (take (k .count) (k .order)) (rule-under (k .rows) (k .order) (k .count) rule) (λ q i h. by q h (eqb q p) refl) all))
+  own-fits : changeRuled l ≡ true → FitList d l → entriesFit d kind (putOver kind (ofKind kind (l .parts)) number index (l .id) mark bytes) ≡ true
+  own-fits e f =
+      put-fits kind d (ofKind kind (l .parts)) (spanOf holder.List kind .room) (all-shows holder.List (l .parts) (ruled-shows l e .parts) .each kind) number index (l .id) mark bytes (a .takes) new-fits (f .each kind)
+
+  after-fits : changeRuled l ≡ true → FitList d l → FitList d after
+  after-fits e f = record { each = each; drops = f .drops; count-drops = f .count-drops }
     where
-      o : (p ≡ getD (k .order) (spot (rank number index) (keysIn k)) 0) × (holds (rank number index) (spot (rank number index) (keysIn k)) (keysIn k) ≡ true) × (p < k .count)
-      o = over kind k (rank number index) order room rule p e
+      by : (other : TableKind) (b : Bool) → sameKind kind other ≡ b
+          → entriesFit d other (if b then putOver other (ofKind other (l .parts)) number index (l .id) mark bytes else ofKind other (l .parts)) ≡ true
+      by other true q =
+          subst (λ (k : TableKind). entriesFit d k (putOver k (ofKind k (l .parts)) number index (l .id) mark bytes) ≡ true) (same-kind kind other q) (own-fits e f)
+      by other false q = f .each other
 
-      mark : ℕ
-      mark = markOf kind (markAt (k .rows) p) sub len
+      each : (other : TableKind) → entriesFit d other (ofKind other (after .parts)) ≡ true
+      each other = rw (put-of kind other (l .parts) number index (l .id) mark bytes) (by other (sameKind kind other) refl)
 
-      within : 4 * p + 4 ≤ length (k .rows)
-      within = omega (arith, o .2, room, room-most kind)
+-- an insert of any kind keeps the rules
+module _ (kind : TableKind) (d : Directory) (l : Change) (ok : changeKept d l ≡ true) (number index sub : ℕ) (bytes : List ℕ) (small : number < 65536) where
+  abbrev Keeps : Made → Type 0
+  Keeps m = changeKept d (m .change) ≡ true
 
-      whole : ruled (rowPut (k .rows) (getD (k .order) (spot (rank number index) (keysIn k)) 0) number index id mark) (k .order) (k .count) ≡ true
-      whole =
-          over-ruled (k .rows) (k .order) (k .count) number index id mark rule (spot (rank number index) (keysIn k)) (omega (arith, room, room-most kind))
-          (subst (λ (q : ℕ). 4 * q + 4 ≤ length (k .rows)) (o .0) within) (o .1)
+  kept-by : (q : Plan) → planIn kind (ofKind kind (l .parts)) (findTable d kind number) number index sub bytes ≡ q → Keeps (madeBy q kind l number index sub bytes)
+  kept-by (Refuse answer) e = ok
+  kept-by (Go old) e =
+      let a = accepted kind d (l .parts) number index sub bytes old (kept-directory d l ok) (kept-parts d l ok) e in
+      let r = kept-ruled d l ok in
+      kept-makes d (madeBy (Go old) kind l number index sub bytes .change) (kept-directory d l ok) (after-ruled kind d l number index sub bytes old small a r)
+      (after-fits kind d l number index sub bytes old small a r (kept-fits d l ok))
 
-      by : (q : ℕ) → rowFits d kind (k .rows) q ≡ true → (b : Bool) → eqb q p ≡ b → rowFits d kind (rowPut (k .rows) p number index id mark) q ≡ true
-      by q h true i = let z : q ≡ p = eqb-true q p i in rw z (row-here kind d (k .rows) p number index id mark within (new (markAt (k .rows) p)) small)
-      by q h false i = row-other kind d (k .rows) p number index id mark within q (eqb-false q p i) ∙ h
+  pub insert-kept : changeKept d (inserted kind d l number index sub bytes .change) ≡ true
+  unfolding inserted insertedKept
+  insert-kept =
+      subst Keeps (sym (if-true (changeKept d l) (insertedKept kind d l number index sub bytes) (notMade BadState l) ok))
+      (kept-by (planIn kind (ofKind kind (l .parts)) (findTable d kind number) number index sub bytes) refl)
 
-  pub next-kept : (j : ℕ) → roomFor kind k (rank number index) ≡ Append j → localKept d kind (keyNext kind k j number index id sub len) ≡ true
-  unfolding localKept
-  next-kept j e =
-      both (le-leb (k .count + 1) (roomOf kind) (omega (arith, o .2)))
-      (both
-      (subst (λ (i : ℕ). ruled (rowPut (k .rows) (k .count) number index id mark) (putIn i (k .count) (k .count) (k .order)) (k .count + 1) ≡ true) (sym (o .0))
-      (next-ruled (k .rows) (k .order) (k .count) number index id mark rule (omega (arith, o .2, room-most kind)) within (o .1)))
-      (rw (put-places j (k .count) (k .count) (k .order) (o .3) (omega (arith, o .2, room-most kind)))
-      (every-put (rowFits d kind (rowPut (k .rows) (k .count) number index id mark)) j (k .count) (take (k .count) (k .order))
-      (row-here kind d (k .rows) (k .count) number index id mark within (new 0) small)
-      (every-same _ _ (k .count) (take (k .count) (k .order)) (rule-under (k .rows) (k .order) (k .count) rule)
-      (λ q i h. row-other kind d (k .rows) (k .count) number index id mark within q (λ z. omega arith) ∙ h) all))))
-    where
-      o : (j ≡ spot (rank number index) (keysIn k)) × (holds (rank number index) (spot (rank number index) (keysIn k)) (keysIn k) ≡ false) × (k .count < roomOf kind) × (j ≤ k .count)
-      o = next kind k (rank number index) order room rule j e
-
-      mark : ℕ
-      mark = markOf kind 0 sub len
-
-      within : 4 * k .count + 4 ≤ length (k .rows)
-      within = omega (arith, o .2, room-most kind)
-
--- one kind's keys are changed, the others stay
-with-kept : (kind : TableKind) (d : Directory) (l : LogChange) (k : LogOverlayLocal) → listKept d l ≡ true → localKept d kind k ≡ true → listKept d (withLocal kind l k) ≡ true
-unfolding listKept
-with-kept Index d l k e h = both h (right-of (localKept d Index (l .«local_index»)) _ e)
-with-kept Value d l k e h =
-    let r = right-of (localKept d Index (l .«local_index»)) _ e in
-    both (left-of (localKept d Index (l .«local_index»)) _ e) (both h (right-of (localKept d Value (l .«local_values»)) _ r))
-with-kept RefCount d l k e h =
-    let r = right-of (localKept d Index (l .«local_index»)) _ e in
-    let s = right-of (localKept d Value (l .«local_values»)) _ r in
-    both (left-of (localKept d Index (l .«local_index»)) _ e)
-    (both (left-of (localKept d Value (l .«local_values»)) _ r) (both h (right-of (localKept d RefCount (l .«local_ref_count»)) _ s)))
-
--- the same directory and memory, another list
-state-with : (d : Directory) (l after : LogChange) (m n : ℕ) → n ≡ m → stateKept d l m ≡ true → listKept d after ≡ true → stateKept d after n ≡ true
-unfolding stateKept
-state-with d l after m n e ok h =
-    both (left-of (directoryKept d) _ ok)
-    (both (subst (λ (i : ℕ). eqb i localLength ≡ true) (sym e) (left-of (eqb m localLength) _ (right-of (directoryKept d) _ ok))) h)
-
--- "A list holds 32 index keys, 32 value keys, 16 reference count keys ..": an insert of any kind keeps the rules
-module _ (kind : TableKind) (d : Directory) (l : LogChange) (local : List ℕ) (number index sub : ℕ) (bytes : List ℕ) (shaped : Shaped l) (small : number < 65536) where
-  pub insert-kept : listKept d l ≡ true → listKept d (inserted kind d l local number index sub bytes .list) ≡ true
-  unfolding listBy
-  insert-kept ok = by (planOf kind d l (length local) number index sub (length bytes)) refl
-    where
-      by : (z : Plan) → planOf kind d l (length local) number index sub (length bytes) ≡ z → listKept d (listBy z kind l number index sub (length bytes)) ≡ true
-      by (Refuse a) e = ok
-      by (Replace p) e =
-          let a = accepted kind d l (length local) number index sub (length bytes) (Replace p) (no-replace p) e in
-          with-kept kind d l _ ok
-          (over-kept kind d (localOf kind l) number index (l .«record_id») sub (length bytes) (shaped .rows kind) (shaped .orders kind) (local-kept kind d l ok)
-          (λ old. key-fits kind d l (length local) number index sub (length bytes) old (Replace p) a) small p (a .plan))
-      by (Append j) e =
-          let a = accepted kind d l (length local) number index sub (length bytes) (Append j) (no-append j) e in
-          with-kept kind d l _ ok
-          (next-kept kind d (localOf kind l) number index (l .«record_id») sub (length bytes) (shaped .rows kind) (shaped .orders kind) (local-kept kind d l ok)
-          (λ old. key-fits kind d l (length local) number index sub (length bytes) old (Append j) a) small j (a .plan))
-
-  -- the local memory keeps its length
-  pub insert-length : length (localAfter kind d l local number index sub bytes) ≡ length local
-  unfolding memoryBy
-  insert-length = by (planOf kind d l (length local) number index sub (length bytes)) refl
-    where
-      by : (z : Plan) → planOf kind d l (length local) number index sub (length bytes) ≡ z → length (memoryBy z kind (localOf kind l) local bytes) ≡ length local
-      by (Refuse a) e = refl
-      by (Replace p) e =
-          length-paste local (slotAt kind p) bytes (length bytes) (replace-shows kind d l (length local) number index sub (length bytes) (shaped .orders kind) p e .2) (omega arith)
-      by (Append j) e =
-          length-paste local (slotAt kind (localOf kind l .count)) bytes (length bytes)
-          (append-shows kind d l (length local) number index sub (length bytes) (shaped .orders kind) j e .3) (omega arith)
-
-  pub insert-state : stateKept d l (length local) ≡ true
-      → stateKept d (inserted kind d l local number index sub bytes .list) (length (localAfter kind d l local number index sub bytes)) ≡ true
-  insert-state ok = state-with d l _ (length local) _ insert-length ok (insert-kept (state-list d l (length local) ok))
+  -- what an insert accepts no lookup refuses with 13
+  pub insert-ruled : changeRuled (inserted kind d l number index sub bytes .change) ≡ true
+  insert-ruled = kept-ruled d (inserted kind d l number index sub bytes .change) insert-kept
 
 -- drops
 every-end : (f : ℕ → Bool) (l : List ℕ) (v : ℕ) → every f l ≡ true → f v ≡ true → every f (l ++ (v ∷ [])) ≡ true
 every-end f [] v e h = both h refl
 every-end f (p ∷ l) v e h = both (left-of (f p) _ e) (every-end f l v (right-of (f p) _ e) h)
 
-dropped-kept : (d : Directory) (l : LogChange) (room : ℕ) (kind : TableKind) (s : Drops) (number : ℕ) → length (s .tables) ≡ 16 → dropsKept d kind s ≡ true
-    → dropsKept d kind (droppedIn d l room kind s number .drops) ≡ true
-unfolding dropsKept dropped droppedIn
-dropped-kept d l room kind s number long ok = by (stateKept d l room) refl (stands (tablesOf d) kind number) refl (leb dropRoom (s .count)) refl
+dropped-kept : (d : Directory) (kind : TableKind) (s : Drops) (number : ℕ) → length (s .tables) ≡ 16 → s .count ≤ dropRoom → dropsFit d kind s ≡ true
+    → (droppedIn d kind s number .drops .count ≤ dropRoom) × (dropsFit d kind (droppedIn d kind s number .drops) ≡ true)
+unfolding dropsFit droppedIn
+dropped-kept d kind s number long few ok = by (stands (tablesOf d) kind number) refl (leb dropRoom (s .count)) refl
   where
-    by : (a : Bool) → stateKept d l room ≡ a → (b : Bool) → stands (tablesOf d) kind number ≡ b → (f : Bool) → leb dropRoom (s .count) ≡ f
-        → dropsKept d kind (droppedIn d l room kind s number .drops) ≡ true
-    by false q b e f g = rw q ok
-    by true q false e f g = rw (q, e) ok
-    by true q true e true g = rw (q, e, g) ok
-    by true q true e false g =
+    by : (b : Bool) → stands (tablesOf d) kind number ≡ b → (f : Bool) → leb dropRoom (s .count) ≡ f
+        → (droppedIn d kind s number .drops .count ≤ dropRoom) × (dropsFit d kind (droppedIn d kind s number .drops) ≡ true)
+    by false e f g = rw e (few, ok)
+    by true e true g = rw (e, g) (few, ok)
+    by true e false g =
         let h = leb-false dropRoom (s .count) g in
-        rw (q, e, g)
-        (both (le-leb (s .count + 1) dropRoom (omega arith))
-        (rw (add-one (s .count), take-suc-set (s .tables) (s .count) number (omega arith))
-        (every-end (stands (tablesOf d) kind) (take (s .count) (s .tables)) number (right-of (leb (s .count) dropRoom) _ ok) e)))
+        rw (e, g)
+        (omega arith, rw (add-one (s .count), take-suc-set (s .tables) (s .count) number (omega arith)) (every-end (stands (tablesOf d) kind) (take (s .count) (s .tables)) number ok e))
 
--- other drops, the keys stay
-drops-with : (d : Directory) (l : LogChange) (s t : Drops) → listKept d l ≡ true → dropsKept d Index s ≡ true → dropsKept d RefCount t ≡ true
-    → listKept d (record { «local_index» = l .«local_index»; «local_values» = l .«local_values»; «local_ref_count» = l .«local_ref_count»; «record_id» = l .«record_id»; «dropped_tables» = s; «dropped_ref_count_tables» = t }) ≡ true
-unfolding listKept
-drops-with d l s t ok h i = both (local-kept Index d l ok) (both (local-kept Value d l ok) (both (local-kept RefCount d l ok) (both h i)))
+-- `long` is what the type says of the drops' array
+module _ (d : Directory) (l : Change) (ok : changeKept d l ≡ true) (number : ℕ) where
+  rules : RuledList l
+  rules = ruled-shows l (kept-ruled d l ok)
 
-module _ (d : Directory) (l : LogChange) (room number : ℕ) (shaped : Shaped l) (ok : listKept d l ≡ true) where
-  rest : (dropsKept d Index (l .«dropped_tables») && dropsKept d RefCount (l .«dropped_ref_count_tables»)) ≡ true
-  unfolding listKept
-  rest =
-      right-of (localKept d RefCount (l .«local_ref_count»)) _
-      (right-of (localKept d Value (l .«local_values»)) _ (right-of (localKept d Index (l .«local_index»)) _ ok))
+  fit : FitList d l
+  fit = kept-fits d l ok
 
-  here : dropsKept d Index (l .«dropped_tables») ≡ true
-  here = left-of (dropsKept d Index (l .«dropped_tables»)) _ rest
+  pub drop-kept : length (l .drops .tables) ≡ 16 → changeKept d (tableDropped d l number .change) ≡ true
+  unfolding tableDropped tableDroppedKept
+  drop-kept long =
+      let k = dropped-kept d Index (l .drops) number long (rules .drops) (fit .drops) in
+      let after = withDrops l (droppedIn d Index (l .drops) number .drops) in
+      subst (λ (m : Made). changeKept d (m .change) ≡ true) (sym (if-true (changeKept d l) (tableDroppedKept d l number) (notMade BadState l) ok))
+      (kept-makes d after (kept-directory d l ok) (ruled-makes after (record { parts = rules .parts; drops = k .0; count-drops = rules .count-drops })) (record { each = fit .each; drops = k .1; count-drops = fit .count-drops }))
 
-  there : dropsKept d RefCount (l .«dropped_ref_count_tables») ≡ true
-  there = right-of (dropsKept d Index (l .«dropped_tables»)) _ rest
+  pub count-drop-kept : length (l .countDrops .tables) ≡ 16 → changeKept d (countTableDropped d l number .change) ≡ true
+  unfolding countTableDropped countTableDroppedKept
+  count-drop-kept long =
+      let k = dropped-kept d RefCount (l .countDrops) number long (rules .count-drops) (fit .count-drops) in
+      let after = withCountDrops l (droppedIn d RefCount (l .countDrops) number .drops) in
+      subst (λ (m : Made). changeKept d (m .change) ≡ true) (sym (if-true (changeKept d l) (countTableDroppedKept d l number) (notMade BadState l) ok))
+      (kept-makes d after (kept-directory d l ok) (ruled-makes after (record { parts = rules .parts; drops = rules .drops; count-drops = k .0 })) (record { each = fit .each; drops = fit .drops; count-drops = k .1 }))
 
-  pub drop-kept : listKept d (tableDropped d l room number .list) ≡ true
-  drop-kept = drops-with d l _ _ ok (dropped-kept d l room Index (l .«dropped_tables») number (shaped .drops) here) there
+-- a new list keeps the rules, whatever the memories hold
+module _ (id : ℕ) (words bytes : List ℕ) (wl : length words ≡ wordsAll holder.List) (bl : length bytes ≡ bytesAll holder.List) where
+  pub new-ruled : changeRuled (changeOf (newList id) words bytes) ≡ true
+  new-ruled = ruled-makes (changeOf (newList id) words bytes) (record { parts = empty-kept holder.List words bytes wl bl; drops = omega arith; count-drops = omega arith })
 
-  pub count-drop-kept : listKept d (countTableDropped d l room number .list) ≡ true
-  count-drop-kept = drops-with d l _ _ ok here (dropped-kept d l room RefCount (l .«dropped_ref_count_tables») number (shaped .count-drops) there)
-
-module _ (d : Directory) (l : LogChange) (room number : ℕ) (shaped : Shaped l) (ok : stateKept d l room ≡ true) where
-  pub drop-state : stateKept d (tableDropped d l room number .list) room ≡ true
-  drop-state = state-with d l _ room room refl ok (drop-kept d l room number shaped (state-list d l room ok))
-
-  pub count-drop-state : stateKept d (countTableDropped d l room number .list) room ≡ true
-  count-drop-state = state-with d l _ room room refl ok (count-drop-kept d l room number shaped (state-list d l room ok))
-
--- a new list keeps the rules under every directory
-pub new-kept : (d : Directory) (id : ℕ) → listKept d (newList id) ≡ true
-unfolding listKept localKept dropsKept ruled keysOf
-new-kept d id = refl
+  pub new-kept : (d : Directory) → directoryKept d ≡ true → changeKept d (changeOf (newList id) words bytes) ≡ true
+  unfolding entriesFit dropsFit
+  new-kept d ok = kept-makes d (changeOf (newList id) words bytes) ok new-ruled (record { each = none; drops = refl; count-drops = refl })
+    where
+      none : (kind : TableKind) → entriesFit d kind (ofKind kind (changeOf (newList id) words bytes .parts)) ≡ true
+      none Index = refl
+      none Value = refl
+      none RefCount = refl

@@ -22,8 +22,8 @@ use Rattle.overlay.specs.Overlay.{standsIn, placeIn}
 use Rattle.memory.specs.Parts.{spanOf, ofKind, putInto}
 use Rattle.memory.specs.declared.span.Holder.the-variants as holder
 use Rattle.change.specs.Change.{Change, changeOf, withParts, changeKept}
-use Rattle.change.specs.declared.inserts.Plan.{Plan}
-use Rattle.change.specs.declared.inserts.Plan.the-variants.{Refuse, Go}
+use Rattle.change.specs.declared.plans.Plan.{Plan}
+use Rattle.change.specs.declared.plans.Plan.the-variants.{Refuse, Go}
 use Rattle.change.specs.declared.change.Changed.{Changed}
 
 -- what a call on a list comes to: its answer, and the list afterwards

@@ -3,7 +3,7 @@ ghost use mathlib.Core.Path.{_≡_};
 ghost use Prim.Native.Nat.{_<_, _≤_};
 ghost use Rattle.directory.specs.Directory.{tablesOf, stands};
 ghost use Rattle.change.specs.Change.{noDrops, dropsFit};
-ghost use Rattle.change.specs.Drop.{dropsWith, dropAnswer};
+ghost use Rattle.change.specs.Drop.{dropsWith, droppedIn};
 use answer::Answer;
 use directory::Directory;
 use directory::Found;
@@ -12,6 +12,12 @@ use directory::TableKind;
 pub struct Drops {
     pub tables: [u16; 16],
     pub count: usize,
+}
+
+// An answer, with the drops as they then are.
+pub struct Dropped {
+    pub answer: Answer,
+    pub drops: Drops,
 }
 
 fn is_there(directory: Directory, kind: TableKind, number: u16) -> bool
@@ -50,7 +56,7 @@ impl Drops {
     }
 
     // One more.
-    pub(crate) fn with(self, number: u16) -> Drops
+    fn with(self, number: u16) -> Drops
         requires { ⌜ self .count < 16 ⌝ }
         ensures { λ r. ⌜ r ≡ dropsWith self number ⌝ }
     {
@@ -61,15 +67,25 @@ impl Drops {
         s
     }
 
-    pub(crate) fn answer(self, directory: Directory, kind: TableKind, number: u16) -> Answer
-        ensures { λ r. ⌜ r ≡ dropAnswer directory kind self number ⌝ }
+    // 6, 9.
+    pub(crate) fn dropped(self, directory: Directory, kind: TableKind, number: u16) -> Dropped
+        ensures { λ r. ⌜ r ≡ droppedIn directory kind self number ⌝ }
     {
         if !is_there(directory, kind, number) {
-            return Answer::NoTable;
+            return Dropped {
+                answer: Answer::NoTable,
+                drops: self,
+            };
         }
         if 16 <= self.count {
-            return Answer::NoRoom;
+            return Dropped {
+                answer: Answer::NoRoom,
+                drops: self,
+            };
         }
-        Answer::Done
+        Dropped {
+            answer: Answer::Done,
+            drops: self.with(number),
+        }
     }
 }

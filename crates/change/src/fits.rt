@@ -1,12 +1,12 @@
 // Whether what is listed fits the directory.
 ghost use mathlib.Core.Path.{_≡_};
 ghost use mathlib.Core.Bool.{true};
+ghost use mathlib.Core.List.{[]};
 ghost use Prim.Native.Nat.{_*_, _≤_};
-ghost use lib.ListN.{length, take};
+ghost use lib.ListN.{length};
 ghost use Rattle.directory.specs.Directory.{findTable};
-ghost use Rattle.keys.specs.Keys.{every};
-ghost use Rattle.overlay.specs.Rules.{keysRuled, listsOf, overlayOf, overlayKept};
-ghost use Rattle.change.specs.Change.{markFits, keyFits, entryFits, entriesFit};
+ghost use Rattle.overlay.specs.Rules.{keysRuled, listsOf, rowsOf, orderOf, overlayOf};
+ghost use Rattle.change.specs.Change.{markFits, keyFits, entriesFit};
 use directory::Directory;
 use directory::Found;
 use directory::TableDescription;
@@ -36,12 +36,12 @@ fn key_fits(kind: TableKind, found: Found, index: u64, mark: u64) -> bool
     }
 }
 
-// The table of a number, where the one found last is at hand: keys in order have few changes of the table. `last` is 65536 at first.
-fn table_after(directory: Directory, kind: TableKind, last: u64, found: Found, table: u16) -> Found
+// The table of a number, where the one found last is at hand: keys in order have few changes of the table.
+fn table_after(directory: Directory, kind: TableKind, last: u16, found: Found, table: u16) -> Found
     requires { ⌜ found ≡ findTable directory kind last ⌝ }
     ensures { λ r. ⌜ r ≡ findTable directory kind table ⌝ }
 {
-    if table as u64 == last {
+    if table == last {
         return found;
     }
     directory.find(kind, table)
@@ -56,15 +56,15 @@ fn all_fit<'a>(
     n: usize,
 ) -> bool
     requires { ⌜ (4 * room ≤ length (now rows)) × (room ≤ length (now order)) × (keysRuled kind room (now rows) (now order) n ≡ true) ⌝ }
-    ensures { λ r. ⌜ r ≡ entriesFit directory kind (Rattle.overlay.specs.Rules.listsOf (now (rows .entry)) (now (order .entry)) [] n) ⌝ }
+    ensures { λ r. ⌜ r ≡ entriesFit directory kind (listsOf (now (rows .entry)) (now (order .entry)) [] n) ⌝ }
 {
-    let mut last: u64 = 65536;
-    let mut found = Found::Nothing;
+    let mut last: u16 = 0;
+    let mut found = directory.find(kind, last);
     let mut j: usize = 0;
     while j < n {
         let p = order[j] as usize;
-        let table = rows[4 * p];
-        found = table_after(directory, kind, last, found, table as u16);
+        let table = rows[4 * p] as u16;
+        found = table_after(directory, kind, last, found, table);
         last = table;
         if !key_fits(kind, found, rows[4 * p + 1], rows[4 * p + 3]) {
             return false;
@@ -82,7 +82,7 @@ pub(crate) fn entries_fit(
     words: &[u64],
     n: usize,
 ) -> bool
-    requires { ⌜ (length (now words) ≡ 5 * room) × (keysRuled kind room (take (4 * room) (now words)) (drop (4 * room) (now words)) n ≡ true) ⌝ }
+    requires { ⌜ (length (now words) ≡ 5 * room) × (keysRuled kind room (rowsOf room (now words)) (orderOf room (now words)) n ≡ true) ⌝ }
     ensures { λ r. ⌜ r ≡ entriesFit directory kind (overlayOf room (now (words .entry)) [] n) ⌝ }
 {
     let cut = 4 * room;

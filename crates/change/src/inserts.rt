@@ -1,77 +1,275 @@
-// An insert: the slot's bit is added to the mask that is there, and the whole new chunk is taken. log.rs lines 480 to 515.
+// The inserts: each takes the list by value and hands back the new one. log.rs lines 480 to 515.
 ghost use mathlib.Core.Path.{_≡_};
 ghost use mathlib.Core.Bool.{true};
-ghost use mathlib.Core.List.{[]};
-ghost use Prim.Native.Nat.{_*_, _≤_};
-ghost use lib.ListN.{length};
-ghost use Rattle.keys.specs.Keys.{rank, ruled};
-ghost use Rattle.overlay.specs.Rules.{rowsOf, orderOf, overlayOf};
-ghost use Rattle.memory.specs.Parts.{spanOf};
+ghost use Rattle.directory.specs.Directory.{findTable};
+ghost use Rattle.directory.specs.declared.table.TableKind.the-variants.{Index, Value, RefCount};
+ghost use Rattle.memory.specs.Parts.{partOf};
 ghost use Rattle.memory.specs.declared.span.Holder.the-variants.{List};
-ghost use Rattle.change.specs.Insert.{bytesFit, roomFor, planIn};
+ghost use Rattle.change.specs.Change.{changeOf, changeKept};
+ghost use Rattle.change.specs.Insert.{madeOf, planIn, insertedKept, inserted};
+use super::change::Changed;
+use super::change::LogChange;
+use super::marks::mark;
+use super::plans::Plan;
+use super::plans::plan_for;
 use answer::Answer;
-use directory::Found;
-use directory::TableDescription;
+use directory::Directory;
+use directory::IndexTableId;
+use directory::RefCountTableId;
 use directory::TableKind;
-use overlay::Seat;
+use directory::ValueTableId;
+use memory::Holder;
 
-// What an insert is to do: refuse, or put over a key of that mark (0 if there is none).
-pub enum Plan {
-    Refuse(Answer),
-    Go(u64),
-}
+impl LogChange {
+    // What an insert is to do.
+    fn planned(
+        self,
+        directory: Directory,
+        words: &[u64],
+        bytes: &[u8],
+        kind: TableKind,
+        number: u16,
+        index: u64,
+        sub: u8,
+        data: &[u8],
+    ) -> Plan
+        requires { ⌜ changeKept directory (changeOf self (now words) (now bytes)) ≡ true ⌝ }
+        ensures { λ r. ⌜ r ≡ planIn kind (partOf List kind (self .counts) (now (words .entry)) (now (bytes .entry))) (findTable directory kind number) number index sub (now («data» .entry)) ⌝ }
+    {
+        let s = memory::span_of(Holder::List, kind);
+        let a = s.words_at;
+        let e = s.words_end;
+        let counts = self.counts;
+        let found = directory.find(kind, number);
+        plan_for(
+            kind,
+            s.room,
+            &words[a..e],
+            counts.of(kind),
+            found,
+            number,
+            index,
+            sub,
+            data,
+        )
+    }
 
-fn bytes_fit(kind: TableKind, t: TableDescription, data: &[u8]) -> bool
-    ensures { λ r. ⌜ r ≡ bytesFit kind t (now («data» .entry)) ⌝ }
-{
-    data.len() == kind.unit(t.length)
-}
-
-// A key that is listed is replaced, so a full list takes it.
-fn room_for(room: usize, words: &[u64], n: usize, number: u16, index: u64) -> Plan
-    requires { ⌜ (length (now words) ≡ 5 * room) × (n ≤ room) × (ruled (rowsOf room (now words)) (orderOf room (now words)) n ≡ true) ⌝ }
-    ensures { λ r. ⌜ r ≡ roomFor room (overlayOf room (now (words .entry)) [] n) (rank number index) ⌝ }
-{
-    match overlay::seat_of(room, words, n, number as u64, index) {
-        Seat::Over(p) => Plan::Go(words[4 * p + 3]),
-        Seat::Next(_) => {
-            if room <= n {
-                return Plan::Refuse(Answer::NoRoom);
+    // The one path of the inserts, behind 13.
+    fn insert_kept(
+        self,
+        directory: Directory,
+        words: &mut [u64],
+        bytes: &mut [u8],
+        kind: TableKind,
+        number: u16,
+        index: u64,
+        sub: u8,
+        data: &[u8],
+    ) -> Changed
+        requires { ⌜ changeKept directory (changeOf self (now words) (now bytes)) ≡ true ⌝ }
+        ensures { λ r. ⌜ madeOf r (now (words .exit)) (now (bytes .exit))
+            ≡ insertedKept kind directory (changeOf self (now (words .entry)) (now (bytes .entry))) number index sub (now («data» .entry)) ⌝ }
+    {
+        match self.planned(directory, words, bytes, kind, number, index, sub, data) {
+            Plan::Refuse(answer) => Changed { answer, list: self },
+            Plan::Go(old) => {
+                let m = mark(kind, old, sub, data);
+                let counts = self.counts;
+                let id = self.record_id;
+                let now = memory::put_in(
+                    Holder::List,
+                    kind,
+                    counts,
+                    words,
+                    bytes,
+                    number,
+                    index,
+                    id,
+                    m,
+                    data,
+                );
+                let mut list = self;
+                list.counts = now;
+                Changed {
+                    answer: Answer::Done,
+                    list,
+                }
             }
-            Plan::Go(0)
         }
     }
-}
 
-// What an insert is to do at a list that keeps its rules, by what the directory has under the number: 6, 7, 14, 9. The words are the kind's part.
-pub(crate) fn plan(
-    kind: TableKind,
-    room: usize,
-    words: &[u64],
-    n: usize,
-    found: Found,
-    number: u16,
-    index: u64,
-    sub: u8,
-    data: &[u8],
-) -> Plan
-    requires { ⌜ (room ≡ spanOf List kind .room) × (length (now words) ≡ 5 * room) × (n ≤ room)
-        × (ruled (rowsOf room (now words)) (orderOf room (now words)) n ≡ true) ⌝ }
-    ensures { λ r. ⌜ r ≡ planIn kind (overlayOf room (now (words .entry)) [] n) found number index sub (now («data» .entry)) ⌝ }
-{
-    match found {
-        Found::At(_, t) => {
-            if t.count as u64 <= index {
-                return Plan::Refuse(Answer::NoIndex);
-            }
-            if 63 < sub {
-                return Plan::Refuse(Answer::BadArgument);
-            }
-            if !bytes_fit(kind, t, data) {
-                return Plan::Refuse(Answer::BadArgument);
-            }
-            room_for(room, words, n, number, index)
+    fn insert(
+        self,
+        directory: Directory,
+        words: &mut [u64],
+        bytes: &mut [u8],
+        kind: TableKind,
+        number: u16,
+        index: u64,
+        sub: u8,
+        data: &[u8],
+    ) -> Changed
+        ensures { λ r. ⌜ madeOf r (now (words .exit)) (now (bytes .exit))
+            ≡ inserted kind directory (changeOf self (now (words .entry)) (now (bytes .entry))) number index sub (now («data» .entry)) ⌝ }
+    {
+        if !self.kept(directory, words, bytes) {
+            return Changed {
+                answer: Answer::BadState,
+                list: self,
+            };
         }
-        Found::Nothing => Plan::Refuse(Answer::NoTable),
+        self.insert_kept(directory, words, bytes, kind, number, index, sub, data)
+    }
+
+    pub fn insert_index(
+        self,
+        directory: Directory,
+        words: &mut [u64],
+        bytes: &mut [u8],
+        table: IndexTableId,
+        index: u64,
+        sub: u8,
+        data: &[u8],
+    ) -> Changed
+        ensures { λ r. ⌜ madeOf r (now (words .exit)) (now (bytes .exit))
+            ≡ inserted Index directory (changeOf self (now (words .entry)) (now (bytes .entry))) (table .0) index sub (now («data» .entry)) ⌝ }
+    {
+        self.insert(
+            directory,
+            words,
+            bytes,
+            TableKind::Index,
+            table.0,
+            index,
+            sub,
+            data,
+        )
+    }
+
+    pub fn insert_index_kept(
+        self,
+        directory: Directory,
+        words: &mut [u64],
+        bytes: &mut [u8],
+        table: IndexTableId,
+        index: u64,
+        sub: u8,
+        data: &[u8],
+    ) -> Changed
+        requires { ⌜ changeKept directory (changeOf self (now words) (now bytes)) ≡ true ⌝ }
+        ensures { λ r. ⌜ madeOf r (now (words .exit)) (now (bytes .exit))
+            ≡ insertedKept Index directory (changeOf self (now (words .entry)) (now (bytes .entry))) (table .0) index sub (now («data» .entry)) ⌝ }
+    {
+        self.insert_kept(
+            directory,
+            words,
+            bytes,
+            TableKind::Index,
+            table.0,
+            index,
+            sub,
+            data,
+        )
+    }
+
+    // A value has no slot: it is put in as if at slot 0, which no test of it sees.
+    pub fn insert_value(
+        self,
+        directory: Directory,
+        words: &mut [u64],
+        bytes: &mut [u8],
+        table: ValueTableId,
+        index: u64,
+        data: &[u8],
+    ) -> Changed
+        ensures { λ r. ⌜ madeOf r (now (words .exit)) (now (bytes .exit))
+            ≡ inserted Value directory (changeOf self (now (words .entry)) (now (bytes .entry))) (table .0) index 0 (now («data» .entry)) ⌝ }
+    {
+        self.insert(
+            directory,
+            words,
+            bytes,
+            TableKind::Value,
+            table.0,
+            index,
+            0,
+            data,
+        )
+    }
+
+    pub fn insert_value_kept(
+        self,
+        directory: Directory,
+        words: &mut [u64],
+        bytes: &mut [u8],
+        table: ValueTableId,
+        index: u64,
+        data: &[u8],
+    ) -> Changed
+        requires { ⌜ changeKept directory (changeOf self (now words) (now bytes)) ≡ true ⌝ }
+        ensures { λ r. ⌜ madeOf r (now (words .exit)) (now (bytes .exit))
+            ≡ insertedKept Value directory (changeOf self (now (words .entry)) (now (bytes .entry))) (table .0) index 0 (now («data» .entry)) ⌝ }
+    {
+        self.insert_kept(
+            directory,
+            words,
+            bytes,
+            TableKind::Value,
+            table.0,
+            index,
+            0,
+            data,
+        )
+    }
+
+    pub fn insert_ref_count(
+        self,
+        directory: Directory,
+        words: &mut [u64],
+        bytes: &mut [u8],
+        table: RefCountTableId,
+        index: u64,
+        sub: u8,
+        data: &[u8],
+    ) -> Changed
+        ensures { λ r. ⌜ madeOf r (now (words .exit)) (now (bytes .exit))
+            ≡ inserted RefCount directory (changeOf self (now (words .entry)) (now (bytes .entry))) (table .0) index sub (now («data» .entry)) ⌝ }
+    {
+        self.insert(
+            directory,
+            words,
+            bytes,
+            TableKind::RefCount,
+            table.0,
+            index,
+            sub,
+            data,
+        )
+    }
+
+    pub fn insert_ref_count_kept(
+        self,
+        directory: Directory,
+        words: &mut [u64],
+        bytes: &mut [u8],
+        table: RefCountTableId,
+        index: u64,
+        sub: u8,
+        data: &[u8],
+    ) -> Changed
+        requires { ⌜ changeKept directory (changeOf self (now words) (now bytes)) ≡ true ⌝ }
+        ensures { λ r. ⌜ madeOf r (now (words .exit)) (now (bytes .exit))
+            ≡ insertedKept RefCount directory (changeOf self (now (words .entry)) (now (bytes .entry))) (table .0) index sub (now («data» .entry)) ⌝ }
+    {
+        self.insert_kept(
+            directory,
+            words,
+            bytes,
+            TableKind::RefCount,
+            table.0,
+            index,
+            sub,
+            data,
+        )
     }
 }

@@ -1,7 +1,7 @@
 -- `is_there` meets its contract: a search finds a table exactly where one stands. Assumes nothing.
 use mathlib.Core.Path.{sym, ap, _∙_}
 use Rattle.directory.proofs.Tables.{isFound}
-use Rattle.change.proofs.Fits.{there}
+use Rattle.change.proofs.Fitting.{there}
 use borrow.Author.Needs.{needs}
 use Rattle.change.proofs.drops.is_there.Statement.{statement}
 use Rattle.change.proofs.drops.is_there.Tie as tie
