@@ -1,38 +1,37 @@
--- The answers of `record_size` and `flush_to_file` and the output they leave, a return of the code at a time. Assumes nothing.
-use mathlib.Core.Path.{_≡_}
+-- What `flush_to_file` and its second door come to, a return of the code at a time. Assumes nothing.
+use mathlib.Core.Path.{_≡_, ap}
 use mathlib.Core.Bool.{true, false}
 use mathlib.Core.List.{List}
 use Prim.Native.Nat.{ℕ, _≤_, _<_}
 use lib.ListN.{length}
 use borrow.Author.Tests.{lt-ltb, le-ltb}
-use Rattle.answer.specs.declared.answer.Answer.the-variants.{Done, ShortOutput, BadState}
+use Rattle.answer.specs.declared.answer.Answer.the-variants.{ShortOutput, BadState}
 use Rattle.directory.specs.declared.directory.Directory.{Directory}
-use Rattle.change.specs.Listed.{stateKept}
-use Rattle.change.specs.declared.change.LogChange.{LogChange}
+use Rattle.change.specs.Change.{Change, changeKept}
+use Rattle.change.specs.Size.{recordSize, sizedKept}
+use Rattle.change.specs.declared.size.Sized.{Sized}
 use Rattle.output.specs.Put.{put}
 use Rattle.writer.specs.Bytes.{recordOf}
-use Rattle.writer.specs.Flush.{sized, flushed, outputAfter}
-use Rattle.writer.specs.Size.{recordSize}
+use Rattle.writer.specs.Flush.{flushedOf, unwritten, flushToFileKept, flushToFile}
 
-module _ (d : Directory) (l : LogChange) (room : ℕ) where
-  pub sized-13 : stateKept d l room ≡ false → record { answer = BadState; length = 0 } ≡ sized d l room
-  unfolding sized
-  sized-13 e = rw e
+module _ (l : Change) (out : List ℕ) (s : Sized) (e : s ≡ sizedKept l) where
+  pub too-short : length out < s .length → unwritten ShortOutput out ≡ flushToFileKept l out
+  unfolding flushToFileKept
+  too-short h =
+      let n : s .length ≡ recordSize l = ap (λ (x : Sized). x .length) e in
+      rw (lt-ltb (length out) (recordSize l) (rw n at h))
 
-  pub sized-0 : (n : ℕ) → stateKept d l room ≡ true → n ≡ recordSize l → record { answer = Done; length = n } ≡ sized d l room
-  unfolding sized
-  sized-0 n e h = rw (e, h)
+  pub flushes : s .length ≤ length out → (new : List ℕ) → new ≡ put out 0 (recordOf l) → flushedOf s new ≡ flushToFileKept l out
+  unfolding flushToFileKept
+  flushes h new q =
+      let n : s .length ≡ recordSize l = ap (λ (x : Sized). x .length) e in
+      rw (le-ltb (length out) (recordSize l) (rw n at h), e, q)
 
-module _ (d : Directory) (l : LogChange) (local out : List ℕ) where
-  pub flushed-13 : stateKept d l (length local) ≡ false → (record { answer = BadState; length = 0 } ≡ flushed d l (length local) (length out)) × (out ≡ outputAfter d l local out)
-  unfolding flushed outputAfter
-  flushed-13 e = (rw e, rw e)
+module _ (d : Directory) (l : Change) (out : List ℕ) where
+  pub bad-state : changeKept d l ≡ false → unwritten BadState out ≡ flushToFile d l out
+  unfolding flushToFile
+  bad-state e = rw e
 
-  module _ (n : ℕ) (e : stateKept d l (length local) ≡ true) (size : n ≡ recordSize l) where
-    pub flushed-10 : length out < n → (record { answer = ShortOutput; length = 0 } ≡ flushed d l (length local) (length out)) × (out ≡ outputAfter d l local out)
-    unfolding flushed outputAfter
-    flushed-10 h = (rw (e, ← size, lt-ltb (length out) n h), rw (e, ← size, lt-ltb (length out) n h))
-
-    pub flushed-0 : n ≤ length out → (record { answer = Done; length = n } ≡ flushed d l (length local) (length out)) × (put out 0 (recordOf l local) ≡ outputAfter d l local out)
-    unfolding flushed outputAfter
-    flushed-0 h = (rw (e, ← size, le-ltb (length out) n h), rw (e, ← size, le-ltb (length out) n h))
+  pub as-kept : changeKept d l ≡ true → flushToFileKept l out ≡ flushToFile d l out
+  unfolding flushToFile
+  as-kept e = rw e

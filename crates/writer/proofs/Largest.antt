@@ -1,85 +1,37 @@
--- "the largest record is 50,526 bytes": no list passes it, and one reaches it. Assumes nothing.
-use mathlib.Core.Path.{_≡_, refl, sym, _∙_, subst}
+-- "the largest record is 50,526 bytes": no list passes it (`record-size-max`, crate change), and this one reaches it. Assumes nothing.
+use mathlib.Core.Path.{_≡_, refl, _∙_}
 use mathlib.Core.Bool.{true}
-use mathlib.Core.List.{List, [], _∷_}
-use Prim.Native.Nat.{ℕ, zero, suc, _+_, _*_, _≤_, _<_, suc-le-suc}
-use native.Mathlib.Nat.{suc-mul, mul-le-mul-right, le-trans, zero-lt-suc}
+use mathlib.Core.List.{List, [], _∷_, _++_}
+use Prim.Native.Nat.{ℕ, zero, suc, _+_, _<_}
 use native.Mathlib.Omega.{arith}
-use lib.Count.{ones-le, ones-ones}
-use lib.Dec.{ltb, leb}
-use lib.ListN.{length, take, getD, replicate}
-use lib.Seq.{getD-take, length-take-le}
-use borrow.Author.Tests.{ltb-true, leb-true, eqb-true}
-use Rattle.directory.specs.Table.{isTable, tableKept}
+use lib.Count.{ones-ones}
+use lib.Dec.{ltb}
+use lib.ListN.{length, replicate}
+use borrow.Author.Tests.{ltb-true}
+use Rattle.directory.specs.Table.{isTable, tableKept, description}
 use Rattle.directory.specs.Directory.{findFrom, findTable, stands, eachKept, apart, directoryKept}
-use Rattle.directory.specs.declared.table.TableKind.{TableKind}
 use Rattle.directory.specs.declared.table.TableKind.the-variants.{Index, Value, RefCount}
 use Rattle.directory.specs.declared.directory.Directory.{Directory}
-use Rattle.keys.specs.Keys.{markAt, keysOf, allUnder, ruled}
+use Rattle.keys.specs.Keys.{keysOf, allUnder, ruled}
 use Rattle.keys.proofs.Places.{left-of, right-of}
-use Rattle.change.specs.Room.{roomOf}
-use Rattle.change.specs.Listed.{tableOf, rowFits, localOf, localKept, dropsKept, listKept, stateKept}
-use Rattle.change.specs.declared.overlay.LogOverlayLocal.{LogOverlayLocal}
+use Rattle.overlay.specs.Rules.{rowRuled, keysRuled, overlayKept}
+use Rattle.memory.specs.Parts.{partsKept}
+use Rattle.change.specs.Change.{Change, changeOf, changeRuled, entryFits, entriesFit, dropsFit, changeFits, changeKept}
+use Rattle.change.specs.Size.{placesSize, entriesSize, recordSize}
 use Rattle.change.specs.declared.change.LogChange.{LogChange}
-use Rattle.change.proofs.Accepted.{state-directory, state-list, local-kept, local-room}
-use Rattle.change.proofs.Plans.{room-most}
+use Rattle.change.proofs.Rules.{kept-ruled}
 use Rattle.writer.specs.Bytes.{recordOf}
-use Rattle.writer.specs.Size.{entrySize, sizes, entriesSize, recordSize}
-use Rattle.writer.proofs.Rules.{Typed, Fitted, key-fitted, list-ready}
+use Rattle.writer.specs.Typed.{Typed}
 use Rattle.writer.proofs.Sizes.{length-record}
-
--- the largest entry of a kind
-abbrev most : TableKind → ℕ
-most Index = 531
-most Value = 523
-most RefCount = 1043
-
-mark-most : (kind : TableKind) (rows : List ℕ) (p : ℕ) → Fitted kind rows p → markAt rows p < 18446744073709551616 → entrySize kind (markAt rows p) ≤ most kind
-mark-most Index rows p f h = omega (arith, ones-le 64 (markAt rows p) h)
-mark-most Value rows p f h = omega (arith, eqb-true (markAt rows p) (f .len) (f .mark), leb-true (f .len) 512 (right-of (leb 1 (f .len)) _ (f .fits)))
-mark-most RefCount rows p f h = omega (arith, ones-le 64 (markAt rows p) h)
-
-sizes-most : (kind : TableKind) (rows : List ℕ) (m : ℕ) (ps : List ℕ) → ((j : ℕ) → j < length ps → entrySize kind (markAt rows (getD ps j 0)) ≤ m) → sizes kind rows ps ≤ length ps * m
-unfolding sizes
-sizes-most kind rows m [] h = omega arith
-sizes-most kind rows m (p ∷ ps) h =
-    let e : entrySize kind (markAt rows p) ≤ m = h zero (zero-lt-suc (length ps)) in
-    omega (arith, suc-mul (length ps) m, sizes-most kind rows m ps (λ j i. h (suc j) (suc-le-suc i)))
-
-module _ (d : Directory) (kind : TableKind) (k : LogOverlayLocal) (dir : directoryKept d ≡ true) (ok : localKept d kind k ≡ true) (long : length (k .order) ≡ 32)
-    (words : (i : ℕ) → getD (k .rows) i 0 < 18446744073709551616) where
-  entries-most : entriesSize kind k ≤ roomOf kind * most kind
-  unfolding entriesSize
-  entries-most =
-      let fits = local-room d kind k ok in
-      let within : k .count ≤ length (k .order) = omega (arith, room-most kind) in
-      let size = length-take-le (k .count) (k .order) within in
-      le-trans (sizes-most kind (k .rows) (most kind) (take (k .count) (k .order)) (λ j h. each within j (rw size at h))) (rw size (mul-le-mul-right (most kind) fits))
-    where
-      each : k .count ≤ length (k .order) → (j : ℕ) → j < k .count → entrySize kind (markAt (k .rows) (getD (take (k .count) (k .order)) j 0)) ≤ most kind
-      each within j h =
-          rw (getD-take (k .count) (k .order) j 0 h)
-          (mark-most kind (k .rows) (getD (k .order) j 0) (key-fitted d kind k dir ok j within h) (words (4 * getD (k .order) j 0 + 3)))
-
-module _ (d : Directory) (l : LogChange) (room : ℕ) (t : Typed l) (e : stateKept d l room ≡ true) where
-  part : (kind : TableKind) → entriesSize kind (localOf kind l) ≤ roomOf kind * most kind
-  part kind = entries-most d kind (localOf kind l) (state-directory d l room e) (local-kept kind d l (state-list d l room e)) (t .shaped .orders kind) (t .words kind)
-
-  pub record-size-max : recordSize l ≤ 50526
-  unfolding recordSize
-  record-size-max = omega (arith, part Index, part Value, part RefCount, list-ready d l room t e)
+use Rattle.writer.proofs.Words.{Below, typed}
 
 -- a list that is full: 32 index keys with every slot set, 32 values of 512 bytes, 16 reference count keys with every slot set, 16 drops of each kind
 abbrev directory : Directory
-directory =
-    record {
-      tables =
-          record { kind = Index; number = 1; column = 0; count = 32; length = 0 }
-          ∷ record { kind = Value; number = 1; column = 0; count = 32; length = 512 }
-          ∷ record { kind = RefCount; number = 1; column = 0; count = 32; length = 0 }
-          ∷ replicate 13 (record { kind = Index; number = 0; column = 0; count = 0; length = 0 });
-      count = 3;
-    }
+directory = record {
+  tables =
+      description Index 1 0 32 0 ∷ description Value 1 0 32 512 ∷ description RefCount 1 0 32 0 ∷ replicate 13 (description Index 0 0 0 0);
+  count = 3;
+}
 
 -- n rows of table 1 with one mark, from an index on, and their places
 abbrev rowsFrom : ℕ → ℕ → ℕ → List ℕ
@@ -90,51 +42,41 @@ abbrev upFrom : ℕ → ℕ → List ℕ
 upFrom zero i = []
 upFrom (suc n) i = i ∷ upFrom n (suc i)
 
-abbrev fullKeys : ℕ → ℕ → LogOverlayLocal
-fullKeys n mark = record { rows = rowsFrom 32 0 mark; order = upFrom 32 0; count = n }
+abbrev keysFrom : ℕ → ℕ → List ℕ
+keysFrom n mark = rowsFrom n 0 mark ++ upFrom n 0
 
-abbrev full : LogChange
-full =
-    record {
-      «local_index» = fullKeys 32 18446744073709551615;
-      «local_values» = fullKeys 32 512;
-      «local_ref_count» = fullKeys 16 18446744073709551615;
-      «record_id» = 1;
-      «dropped_tables» = record { tables = replicate 16 1; count = 16 };
-      «dropped_ref_count_tables» = record { tables = replicate 16 1; count = 16 };
-    }
+abbrev fullWords : List ℕ
+fullWords = keysFrom 32 18446744073709551615 ++ keysFrom 32 512 ++ keysFrom 16 18446744073709551615
 
-pub full-kept : stateKept directory full 49152 ≡ true
-unfolding stateKept directoryKept eachKept tableKept apart stands isTable listKept localKept ruled keysOf dropsKept rowFits tableOf findTable findFrom
+abbrev fullList : LogChange
+fullList = record {
+  «record_id» = 1;
+  counts = record { index = 32; value = 32; «ref_count» = 16 };
+  «dropped_tables» = record { tables = replicate 16 1; count = 16 };
+  «dropped_ref_count_tables» = record { tables = replicate 16 1; count = 16 };
+}
+
+abbrev pub full : Change
+full = changeOf fullList fullWords (replicate 49152 0)
+
+pub full-kept : changeKept directory full ≡ true
+unfolding changeKept directoryKept eachKept tableKept apart stands isTable changeRuled partsKept overlayKept keysRuled ruled keysOf rowRuled changeFits entriesFit entryFits dropsFit findTable findFrom
 full-kept = refl
 
 pub largest : recordSize full ≡ 50526
-unfolding recordSize entriesSize sizes
+unfolding recordSize entriesSize placesSize
 largest = rw (ones-ones 64)
 
 -- it is a list that the types admit, so its record has that many bytes
-under : (n : ℕ) → 0 < n → (l : List ℕ) → allUnder n l ≡ true → (i : ℕ) → getD l i 0 < n
-under n z [] e i = z
-under n z (a ∷ l) e zero = ltb-true a n (left-of (ltb a n) (allUnder n l) e)
-under n z (a ∷ l) e (suc i) = under n z l (right-of (ltb a n) (allUnder n l) e) i
-
-full-words : (kind : TableKind) (i : ℕ) → getD (localOf kind full .rows) i 0 < 18446744073709551616
-full-words Index = under 18446744073709551616 (omega arith) (rowsFrom 32 0 18446744073709551615) refl
-full-words Value = under 18446744073709551616 (omega arith) (rowsFrom 32 0 512) refl
-full-words RefCount = under 18446744073709551616 (omega arith) (rowsFrom 32 0 18446744073709551615) refl
-
-full-rows : (kind : TableKind) → length (localOf kind full .rows) ≡ 128
-full-rows Index = refl
-full-rows Value = refl
-full-rows RefCount = refl
-
-full-orders : (kind : TableKind) → length (localOf kind full .order) ≡ 32
-full-orders Index = refl
-full-orders Value = refl
-full-orders RefCount = refl
+below : (n : ℕ) → 0 < n → (l : List ℕ) → allUnder n l ≡ true → Below n l
+below n z [] e i = z
+below n z (a ∷ l) e zero = ltb-true a n (left-of (ltb a n) (allUnder n l) e)
+below n z (a ∷ l) e (suc i) = below n z l (right-of (ltb a n) (allUnder n l) e) i
 
 pub full-typed : Typed full
-full-typed = record { shaped = record { rows = full-rows; orders = full-orders; drops = refl; count-drops = refl }; words = full-words }
+full-typed =
+    let z : 0 < 65536 = omega arith in
+    typed fullList fullWords (replicate 49152 0) (below 18446744073709551616 (omega arith) fullWords refl) (omega arith) (below 65536 z (replicate 16 1) refl) (below 65536 z (replicate 16 1) refl) refl refl
 
-pub largest-record : (local : List ℕ) → length local ≡ 49152 → length (recordOf full local) ≡ 50526
-largest-record local long = length-record directory full local full-typed (subst (λ (n : ℕ). stateKept directory full n ≡ true) (sym long) full-kept) ∙ largest
+pub largest-record : length (recordOf full) ≡ 50526
+largest-record = length-record full (kept-ruled directory full full-kept) full-typed ∙ largest

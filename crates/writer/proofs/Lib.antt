@@ -5,3 +5,4 @@ pub mod Largest
 pub mod Masks
 pub mod Rules
 pub mod Sizes
+pub mod Words

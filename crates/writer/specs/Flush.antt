@@ -1,31 +1,38 @@
--- `flush_to_file` (document 01: "Ending a record writes it at the output's front, the rest staying"; log.rs lines 380 to 448): answer and output.
+-- `flush_to_file` (document 01: "Ending a record writes it at the output's front, the rest staying"; log.rs lines 380 to 454): answer, length and
+-- output.
 use mathlib.Core.List.{List}
 use Prim.Native.Nat.{ℕ}
 use lib.Dec.{ltb}
 use lib.ListN.{length}
 use Rattle.words.specs.Choice.{if_then_else_}
-use Rattle.answer.specs.declared.answer.Answer.the-variants.{Done, ShortOutput, BadState}
+use Rattle.answer.specs.declared.answer.Answer.{Answer}
+use Rattle.answer.specs.declared.answer.Answer.the-variants.{ShortOutput, BadState}
 use Rattle.directory.specs.declared.directory.Directory.{Directory}
-use Rattle.change.specs.Listed.{stateKept}
-use Rattle.change.specs.declared.change.LogChange.{LogChange}
+use Rattle.change.specs.Change.{Change, changeKept}
+use Rattle.change.specs.Size.{recordSize, sizedKept}
+use Rattle.change.specs.declared.size.Sized.{Sized}
 use Rattle.output.specs.Put.{put}
 use Rattle.writer.specs.Bytes.{recordOf}
-use Rattle.writer.specs.Size.{recordSize}
-use Rattle.writer.specs.declared.size.Sized.{Sized}
 
--- the length by itself; 13 for a list that breaks a rule. `room` is the local memory's length
-unfoldable pub sized : Directory → LogChange → ℕ → Sized
-sized d l room =
-    if stateKept d l room then record { answer = Done; length = recordSize l } else record { answer = BadState; length = 0 }
+-- what the call comes to: its answer with the record's length (`FlushedLog::bytes`, line 446), and the output afterwards
+pub record FlushedLog : Type 0 where
+  pub sized : Sized
+  pub output : List ℕ
 
--- 13, then 10: "output too short", compared before a byte is written
-unfoldable pub flushed : Directory → LogChange → ℕ → ℕ → Sized
-flushed d l room out =
-    if stateKept d l room
-    then if ltb out (recordSize l) then record { answer = ShortOutput; length = 0 } else record { answer = Done; length = recordSize l }
-    else record { answer = BadState; length = 0 }
+-- as the call hands it back
+abbrev pub flushedOf : Sized → List ℕ → FlushedLog
+flushedOf r out = record { sized = r; output = out }
 
--- the output: the record at its front, the rest staying; a refusal leaves it as it was
-unfoldable pub outputAfter : Directory → LogChange → List ℕ → List ℕ → List ℕ
-outputAfter d l local out =
-    if stateKept d l (length local) then if ltb (length out) (recordSize l) then out else put out 0 (recordOf l local) else out
+-- a refusal leaves the output as it was
+abbrev pub unwritten : Answer → List ℕ → FlushedLog
+unwritten answer out = flushedOf (record { answer = answer; length = 0 }) out
+
+-- at a list that keeps its rules: 10, compared before a byte is written; else the record at the front
+unfoldable pub flushToFileKept : Change → List ℕ → FlushedLog
+flushToFileKept l out =
+    if ltb (length out) (recordSize l) then unwritten ShortOutput out else  -- 10: "output too short"
+    flushedOf (sizedKept l) (put out 0 (recordOf l))
+
+-- "Order in every call: 13", then as above
+unfoldable pub flushToFile : Directory → Change → List ℕ → FlushedLog
+flushToFile d l out = if changeKept d l then flushToFileKept l out else unwritten BadState out  -- 13

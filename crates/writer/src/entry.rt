@@ -1,16 +1,15 @@
-// The entries of a record: one path for the three kinds. log.rs lines 391 to 434.
+// An entry of a record: one path for the three kinds. log.rs lines 394 to 432.
 ghost use mathlib.Core.Path.{_≡_};
+ghost use mathlib.Core.List.{[]};
 ghost use Prim.Native.Nat.{_+_, _≤_};
 ghost use lib.ListN.{length};
 ghost use Rattle.directory.specs.Table.{unitOf};
-ghost use Rattle.change.specs.Room.{localLength};
+ghost use Rattle.overlay.specs.Rules.{listsOf};
 ghost use Rattle.output.specs.Put.{Wrote};
-ghost use Rattle.writer.specs.Bytes.{insertTag, payloadOf, entry, entryAt, entries};
-ghost use Rattle.writer.specs.Ready.{Ready, KeysReady};
+ghost use Rattle.writer.specs.Bytes.{insertTag, payloadOf, entryBytes, entryBytesAt};
+ghost use Rattle.writer.specs.Inner.{Writable};
 use super::slots::put_masked;
 use answer::Tag;
-use change::LogOverlayLocal;
-use change::slot_at;
 use directory::TableKind;
 
 fn insert_tag(kind: TableKind) -> Tag
@@ -46,8 +45,8 @@ fn put_entry(
     mark: u64,
     bytes: &[u8],
 ) -> usize
-    requires { ⌜ (unitOf kind mark ≤ length (now bytes)) × (at + length (entry kind table index mark (now bytes)) ≤ length (now out)) ⌝ }
-    ensures { λ r. ⌜ Wrote (now (out .entry)) at (entry kind table index mark (now (bytes .entry))) (now (out .exit)) r ⌝ }
+    requires { ⌜ (unitOf kind mark ≤ length (now bytes)) × (at + length (entryBytes kind table index mark (now bytes)) ≤ length (now out)) ⌝ }
+    ensures { λ r. ⌜ Wrote (now (out .entry)) at (entryBytes kind table index mark (now (bytes .entry))) (now (out .exit)) r ⌝ }
 {
     let tag = insert_tag(kind);
     let a = output::put_u8(out, at, tag.0);
@@ -57,44 +56,20 @@ fn put_entry(
 }
 
 // The key in place p.
-fn put_key(
+pub(crate) fn put_key(
     out: &mut [u8],
     at: usize,
     kind: TableKind,
     rows: &[u64],
     p: usize,
-    local: &[u8],
+    bytes: &[u8],
 ) -> usize
-    requires { ⌜ (length (now rows) ≡ 128) × (length (now local) ≡ localLength) × Ready kind (now rows) p ⌝ }
-    requires { ⌜ at + length (entryAt kind (now rows) (now local) p) ≤ length (now out) ⌝ }
-    ensures { λ r. ⌜ Wrote (now (out .entry)) at (entryAt kind (now (rows .entry)) (now (local .entry)) p) (now (out .exit)) r ⌝ }
+    requires { ⌜ Writable kind (now rows) (now bytes) p × (at + length (entryBytesAt kind (listsOf (now rows) [] (now bytes) 0) p) ≤ length (now out)) ⌝ }
+    ensures { λ r. ⌜ Wrote (now (out .entry)) at (entryBytesAt kind (listsOf (now (rows .entry)) [] (now (bytes .entry)) 0) p) (now (out .exit)) r ⌝ }
 {
-    let s = slot_at(kind, p);
+    let s = overlay::slot_size(kind) * p;
     let table = rows[4 * p] as u16;
     let index = rows[4 * p + 1];
     let mark = rows[4 * p + 3];
-    put_entry(out, at, kind, table, index, mark, &local[s..])
-}
-
-// The keys of a kind, as their order has them.
-pub(crate) fn put_entries(
-    out: &mut [u8],
-    at: usize,
-    kind: TableKind,
-    k: LogOverlayLocal,
-    local: &[u8],
-) -> usize
-    requires { ⌜ KeysReady kind k × (length (now local) ≡ localLength) ⌝ }
-    requires { ⌜ at + length (entries kind k (now local)) ≤ length (now out) ⌝ }
-    ensures { λ r. ⌜ Wrote (now (out .entry)) at (entries kind k (now (local .entry))) (now (out .exit)) r ⌝ }
-{
-    let n = k.count;
-    let mut o = at;
-    let mut i: usize = 0;
-    while i < n {
-        let p = k.order[i] as usize;
-        o = put_key(out, o, kind, &k.rows, p, local);
-        i += 1;
-    }
-    o
+    put_entry(out, at, kind, table, index, mark, &bytes[s..])
 }

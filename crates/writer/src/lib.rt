@@ -2,9 +2,8 @@
 mod drops;
 mod entry;
 mod flush;
-mod size;
+mod kinds;
 mod slots;
 
 pub use flush::flush_to_file;
-pub use size::Sized;
-pub use size::record_size;
+pub use flush::flush_to_file_kept;

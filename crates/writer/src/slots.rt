@@ -1,11 +1,11 @@
-// The slots of a chunk that a mask names. log.rs lines 397 to 403 and 425 to 431.
+// The slots of a chunk that a mask names. log.rs lines 400 to 405 and 422 to 430.
 ghost use Prim.Native.Nat.{_+_, _*_, _%_, _≤_};
 ghost use mathlib.Core.List.{[]};
 ghost use lib.Dec.{eqb};
 ghost use lib.ListN.{length};
 ghost use Rattle.words.specs.Choice.{if_then_else_};
 ghost use Rattle.output.specs.Put.{Wrote};
-ghost use Rattle.writer.specs.Bytes.{slots, masked};
+ghost use Rattle.writer.specs.Bytes.{setSlots, maskedBytes};
 
 // src where the bit is set.
 fn put_when(out: &mut [u8], at: usize, bit: u64, src: &[u8]) -> usize
@@ -19,8 +19,8 @@ fn put_when(out: &mut [u8], at: usize, bit: u64, src: &[u8]) -> usize
 }
 
 fn put_slots(out: &mut [u8], at: usize, width: usize, mask: u64, chunk: &[u8]) -> usize
-    requires { ⌜ (64 * width ≤ length (now chunk)) × (at + length (slots 64 width mask (now chunk)) ≤ length (now out)) ⌝ }
-    ensures { λ r. ⌜ Wrote (now (out .entry)) at (slots 64 width mask (now (chunk .entry))) (now (out .exit)) r ⌝ }
+    requires { ⌜ (64 * width ≤ length (now chunk)) × (at + length (setSlots 64 width mask (now chunk)) ≤ length (now out)) ⌝ }
+    ensures { λ r. ⌜ Wrote (now (out .entry)) at (setSlots 64 width mask (now (chunk .entry))) (now (out .exit)) r ⌝ }
 {
     let mut o = at;
     let mut m = mask;
@@ -37,8 +37,8 @@ fn put_slots(out: &mut [u8], at: usize, width: usize, mask: u64, chunk: &[u8]) -
 }
 
 pub(crate) fn put_masked(out: &mut [u8], at: usize, width: usize, mask: u64, chunk: &[u8]) -> usize
-    requires { ⌜ (64 * width ≤ length (now chunk)) × (at + length (masked width mask (now chunk)) ≤ length (now out)) ⌝ }
-    ensures { λ r. ⌜ Wrote (now (out .entry)) at (masked width mask (now (chunk .entry))) (now (out .exit)) r ⌝ }
+    requires { ⌜ (64 * width ≤ length (now chunk)) × (at + length (maskedBytes width mask (now chunk)) ≤ length (now out)) ⌝ }
+    ensures { λ r. ⌜ Wrote (now (out .entry)) at (maskedBytes width mask (now (chunk .entry))) (now (out .exit)) r ⌝ }
 {
     let a = output::put_u64(out, at, mask);
     put_slots(out, a, width, mask, chunk)

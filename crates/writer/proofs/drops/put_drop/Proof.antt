@@ -2,13 +2,10 @@
 use native.Mathlib.Omega.{arith}
 use Rattle.output.specs.Put.{le}
 use Rattle.output.proofs.Laws.{_⨾_}
-use Rattle.writer.specs.Bytes.{dropEntry}
+use Rattle.writer.specs.Bytes.{dropBytes}
 use borrow.Author.Needs.{needs}
 use Rattle.writer.proofs.drops.put_drop.Statement.{statement}
 use Rattle.writer.proofs.drops.put_drop.Tie as tie
-
-drop-tag-requires : tie.Need-drop-tag-requires
-drop-tag-requires c κs = search needs
 
 put-u8-requires : tie.Need-put-u8-requires
 put-u8-requires c κs = search needs
@@ -21,12 +18,12 @@ same-length : tie.Need-same-length
 same-length c = search needs
 
 returns : tie.Need-returns
-unfolding dropEntry
+unfolding dropBytes
 returns c =
     let b = c .before .before in
     let a = b .before .before .before .before in
-    (rw (a .before .before .drop-tag .ensures) at (a .put-u8 .ensures)) ⨾ b .put-u16 .ensures
+    a .put-u8 .ensures ⨾ b .put-u16 .ensures
 
 pub put-drop-spec : {M : Type 1} → statement M
 put-drop-spec =
-    tie.close (tie.spec drop-tag-requires put-u8-requires put-u16-requires same-length returns)
+    tie.close (tie.spec put-u8-requires put-u16-requires same-length returns)

@@ -5,7 +5,7 @@ use lib.ListN.{length}
 use borrow.Author.Needs.{needs}
 use Rattle.output.specs.Put.{le}
 use Rattle.output.proofs.Laws.{_⨾_}
-use Rattle.writer.specs.Bytes.{payloadOf, entry}
+use Rattle.writer.specs.Bytes.{payloadOf, entryBytes}
 use Rattle.writer.proofs.Masks.{length-entry}
 use Rattle.writer.proofs.entry.put_entry.Statement.{statement}
 use Rattle.writer.proofs.entry.put_entry.Tie as tie
@@ -36,7 +36,7 @@ same-length : tie.Need-same-length
 same-length c = search needs
 
 returns : tie.Need-returns
-unfolding entry
+unfolding entryBytes
 returns c =
     let e = c .before .before in
     let d = e .before .before .before .before in

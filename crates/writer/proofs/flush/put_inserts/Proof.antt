@@ -1,4 +1,6 @@
 -- `put_inserts` meets its contract: five calls, one behind the other. Assumes nothing.
+use mathlib.Core.Path.{_≡_}
+use mathlib.Core.Bool.{true}
 use mathlib.Core.List.{List}
 use Prim.Native.Nat.{ℕ, _+_, _≤_}
 use native.Mathlib.Omega.{arith}
@@ -6,54 +8,59 @@ use lib.ListN.{length, length-append}
 use borrow.Author.Needs.{needs}
 use Rattle.directory.specs.declared.table.TableKind.{TableKind}
 use Rattle.directory.specs.declared.table.TableKind.the-variants.{Index, Value, RefCount}
-use Rattle.change.specs.Listed.{localOf}
+use Rattle.memory.specs.Parts.{partOf, partsOf, partsKept}
+use Rattle.memory.specs.declared.span.Holder.the-variants as holder
+use Rattle.change.specs.Change.{changeOf}
+use Rattle.change.proofs.Rules.{ruled-parts}
 use Rattle.output.specs.Put.{le}
 use Rattle.output.proofs.Laws.{_⨾_, length-le}
-use Rattle.writer.specs.Bytes.{entries, body}
+use Rattle.writer.specs.Bytes.{entries}
 use Rattle.writer.proofs.flush.put_inserts.Statement.{statement}
 use Rattle.writer.proofs.flush.put_inserts.Tie as tie
 
 abbrev E : tie.Start → TableKind → List ℕ
-E s kind = entries kind (localOf kind (s .args .list)) (s .args .local .now)
+E s kind = entries kind (partOf holder.List kind (s .args .list .counts) (s .args .words .now) (s .args .bytes .now))
 
 -- the whole has room
 fits : (s : tie.Start) → 9 + length (E s Index) + length (E s Value) + length (E s RefCount) ≤ length (s .args .out .now)
-unfolding body
-fits s = omega (arith, simp (length-append, length-le) at (s .pre .2))
+fits s = omega (arith, simp (length-append, length-le) at (s .pre .1))
+
+kept : (s : tie.Start) → partsKept holder.List (partsOf holder.List (s .args .list .counts) (s .args .words .now) (s .args .bytes .now)) ≡ true
+kept s = ruled-parts (changeOf (s .args .list) (s .args .words .now) (s .args .bytes .now)) (s .pre .0)
 
 put-u8-requires : tie.Need-put-u8-requires
-put-u8-requires c κs = omega (arith, fits (c .before .before .before .before .before .before))
+put-u8-requires c κs = omega (arith, fits (c .before .before .before .before .before))
 
 put-u64-requires : tie.Need-put-u64-requires
 unfolding le
-put-u64-requires c κs = omega (arith, fits (c .before .before .before .before .before .before .before .before .before .before))
+put-u64-requires c κs = omega (arith, fits (c .before .before .before .before .before .before .before .before .before))
 
-put-entries-requires : tie.Need-put-entries-requires
+put-kind-requires : tie.Need-put-kind-requires
 unfolding le
-put-entries-requires c κs =
+put-kind-requires c κs =
     let b = c .before .before .before in
     let a = b .before .before .before .before in
-    let s = a .before .before .before .before .before .before .before in
-    ((s .pre .0 .keys Index, s .pre .1), omega (arith, fits s, b .put-u64 .ensures .next, b .put-u64 .kept .0, a .put-u8 .ensures .next, a .put-u8 .kept .0))
+    let s = a .before .before .before .before .before .before in
+    (kept s, omega (arith, fits s, b .put-u64 .ensures .next, b .put-u64 .kept .0, a .put-u8 .ensures .next, a .put-u8 .kept .0))
 
-put-entries-requires-2 : tie.Need-put-entries-requires-2
+put-kind-requires-2 : tie.Need-put-kind-requires-2
 unfolding le
-put-entries-requires-2 c κs =
+put-kind-requires-2 c κs =
     let d = c .before .before .before in
     let b = d .before .before .before .before in
     let a = b .before .before .before .before in
-    let s = a .before .before .before .before .before .before .before in
-    ((s .pre .0 .keys Value, s .pre .1), omega (arith, fits s, d .put-entries .ensures .next, d .put-entries .kept .0, b .put-u64 .ensures .next, b .put-u64 .kept .0, a .put-u8 .ensures .next, a .put-u8 .kept .0))
+    let s = a .before .before .before .before .before .before in
+    (kept s, omega (arith, fits s, d .put-kind .ensures .next, d .put-kind .kept .0, b .put-u64 .ensures .next, b .put-u64 .kept .0, a .put-u8 .ensures .next, a .put-u8 .kept .0))
 
-put-entries-requires-3 : tie.Need-put-entries-requires-3
+put-kind-requires-3 : tie.Need-put-kind-requires-3
 unfolding le
-put-entries-requires-3 c κs =
+put-kind-requires-3 c κs =
     let e = c .before .before .before in
     let d = e .before .before .before .before in
     let b = d .before .before .before .before in
     let a = b .before .before .before .before in
-    let s = a .before .before .before .before .before .before .before in
-    ((s .pre .0 .keys RefCount, s .pre .1), omega (arith, fits s, e .put-entries2 .ensures .next, e .put-entries2 .kept .0, d .put-entries .ensures .next, d .put-entries .kept .0, b .put-u64 .ensures .next, b .put-u64 .kept .0, a .put-u8 .ensures .next, a .put-u8 .kept .0))
+    let s = a .before .before .before .before .before .before in
+    (kept s, omega (arith, fits s, e .put-kind2 .ensures .next, e .put-kind2 .kept .0, d .put-kind .ensures .next, d .put-kind .kept .0, b .put-u64 .ensures .next, b .put-u64 .kept .0, a .put-u8 .ensures .next, a .put-u8 .kept .0))
 
 same-length : tie.Need-same-length
 same-length c = search needs
@@ -65,7 +72,7 @@ returns c =
     let d = e .before .before .before .before in
     let b = d .before .before .before .before in
     let a = b .before .before .before .before in
-    a .put-u8 .ensures ⨾ b .put-u64 .ensures ⨾ d .put-entries .ensures ⨾ e .put-entries2 .ensures ⨾ f .put-entries3 .ensures
+    a .put-u8 .ensures ⨾ b .put-u64 .ensures ⨾ d .put-kind .ensures ⨾ e .put-kind2 .ensures ⨾ f .put-kind3 .ensures
 
 pub put-inserts-spec : {M : Type 1} → statement M
 put-inserts-spec =
@@ -73,8 +80,8 @@ put-inserts-spec =
     (tie.spec
     put-u8-requires
     put-u64-requires
-    put-entries-requires
-    put-entries-requires-2
-    put-entries-requires-3
+    put-kind-requires
+    put-kind-requires-2
+    put-kind-requires-3
     same-length
     returns)

@@ -8,7 +8,7 @@ use borrow.Author.Needs.{needs}
 use lib.ListN.{length, drop}
 use Rattle.output.specs.Put.{put, Wrote}
 use Rattle.output.proofs.Laws.{all-left}
-use Rattle.writer.specs.Bytes.{slots}
+use Rattle.writer.specs.Bytes.{setSlots}
 use Rattle.writer.proofs.Masks.{slot-in, slot-next, slots-room, slots-rest, slots-done}
 use Rattle.writer.proofs.slots.put_slots.Statement.{statement}
 use Rattle.writer.proofs.slots.put_slots.Tie as tie
@@ -16,7 +16,7 @@ use Rattle.writer.proofs.slots.put_slots.Tie as tie
 abbrev Inv-loop : tie.InvT-loop
 Inv-loop out₀ at width mask chunk o₀ m₀ i₀ a₀ out o m i a =
     (i ≤ 64) × (length out ≡ length out₀) × (a ≡ i * width)
-    × Wrote out o (slots (64 - i) width m (drop a chunk)) (put out₀ at (slots 64 width mask chunk)) (at + length (slots 64 width mask chunk))
+    × Wrote out o (setSlots (64 - i) width m (drop a chunk)) (put out₀ at (setSlots 64 width mask chunk)) (at + length (setSlots 64 width mask chunk))
 
 abbrev μ-loop : tie.MeasureT-loop
 μ-loop out₀ at width mask chunk o₀ m₀ i₀ a₀ out o m i a = 64 - i
