@@ -1,59 +1,90 @@
 -- `clean_logs` keeps the rules, and what it doesn't keep it removes. Assumes nothing.
 use Prim.Native.Nat.{ℕ, _+_, _-_, _≤_}
 use mathlib.Core.Bool.{true}
+use mathlib.Core.List.{List}
 use mathlib.Core.Path.{_≡_, refl, sym, ap, _∙_}
 use native.Mathlib.Omega.{arith}
-use lib.ListN.{take, drop, take-append-drop, length-drop}
-use Rattle.words.proofs.Cut.{drop-take}
-use Rattle.numbers.specs.Numbers.{times, ascends, least}
-use Rattle.numbers.proofs.Laws.{least-le, over-front}
+use lib.ListN.{length, take, drop, take-append-drop}
+use Rattle.numbers.specs.Numbers.{times, ascends, insertAll, least}
+use Rattle.numbers.specs.Queue.{listOf, firstOf, withoutFirst}
+use Rattle.numbers.proofs.Laws.{least-le, least-rest}
+use Rattle.numbers.proofs.QueueLists.{first-list, without-list, all-sorted-count, all-sorted-list, all-sorted-length}
 use Rattle.numbers.proofs.Sort.{times-append, times-all, times-lacks, has-times, times-distinct, distinct-times, all-ascends, ascends-take}
 use Rattle.files.specs.Queues.{poolOf, cleanupOf, sizeOf, filesOf}
-use Rattle.files.specs.Calls.{pooled, cleaned}
+use Rattle.files.specs.Calls.{pooled, cleanupPooled}
 use Rattle.files.specs.declared.queues.Queues.{Queues}
 use Rattle.files.proofs.Rule.{Sized, Kept, whole, still-kept}
-use Rattle.files.proofs.Clean.{pooled-length, drop-room}
+use Rattle.files.proofs.Clean.{moved-count, moved-length}
 
-module _ (q : Queues) (m : ℕ) (s : Sized q) (k : Kept q) (h : m ≤ q .«cleanup_count») where
+module _ (q : Queues) (n : ℕ) (s : Sized q) (k : Kept q) where
   -- what is moved and what is left in cleanup
-  parts : (v : ℕ) → times v (cleanupOf q) ≡ times v (take m (cleanupOf q)) + times v (drop m (cleanupOf q))
-  parts v = ap (times v) (sym (take-append-drop m (cleanupOf q))) ∙ times-append v (take m (cleanupOf q)) (drop m (cleanupOf q))
+  moved : List ℕ
+  moved = take n (cleanupOf q)
 
-  -- "sorts by number"
-  pub pooled-rises : ascends (pooled q m) ≡ true
+  moved-is : listOf (firstOf n (q .«cleanup_queue»)) ≡ moved
+  unfolding moved
+  moved-is = first-list (q .«cleanup_queue») n
+
+  parts : (v : ℕ) → times v (cleanupOf q) ≡ times v moved + times v (drop n (cleanupOf q))
+  unfolding moved
+  parts v = ap (times v) (sym (take-append-drop n (cleanupOf q))) ∙ times-append v (take n (cleanupOf q)) (drop n (cleanupOf q))
+
+  fits : q .«log_pool» .count + length (listOf (firstOf n (q .«cleanup_queue»))) ≤ length (q .«log_pool» .numbers)
+  fits = omega (arith, moved-length q n s (k .room), moved-count q n, k .room .all, s .pool)
+
+  -- "into the pool, sorts by number"
+  pub pooled-list : listOf (pooled q n) ≡ insertAll (poolOf q) (take n (cleanupOf q))
+  unfolding pooled moved
+  pooled-list = all-sorted-list (q .«log_pool») (listOf (firstOf n (q .«cleanup_queue»))) fits ∙ ap (insertAll (poolOf q)) moved-is
+
+  pub pooled-size : pooled q n .count ≡ q .«log_pool» .count + firstOf n (q .«cleanup_queue») .count
   unfolding pooled
+  pooled-size = all-sorted-count (q .«log_pool») (listOf (firstOf n (q .«cleanup_queue»))) ∙ ap (λ (m : ℕ). q .«log_pool» .count + m) (moved-length q n s (k .room))
+
+  pooled-fits : pooled q n .count ≤ length (pooled q n .numbers)
+  unfolding pooled
+  pooled-fits =
+      let l = all-sorted-length (q .«log_pool») (listOf (firstOf n (q .«cleanup_queue»))) fits in
+      let m = all-sorted-count (q .«log_pool») (listOf (firstOf n (q .«cleanup_queue»))) in
+      omega (arith, l, m, fits)
+
+  pub pooled-rises : ascends (listOf (pooled q n)) ≡ true
+  unfolding moved
   pooled-rises =
-      all-ascends (poolOf q) (take m (cleanupOf q)) (k .pool)
-      (times-distinct (take m (cleanupOf q)) (λ v. omega (arith, whole v q, parts v, distinct-times v (filesOf q) (k .once))))
-      (λ v e. times-lacks v (poolOf q) (omega (arith, whole v q, parts v, distinct-times v (filesOf q) (k .once), has-times v (take m (cleanupOf q)) e)))
+      ap ascends pooled-list
+      ∙ all-ascends (poolOf q) moved (k .pool)
+      (times-distinct moved (λ v. omega (arith, whole v q, parts v, distinct-times v (filesOf q) (k .once))))
+      (λ v e. times-lacks v (poolOf q) (omega (arith, whole v q, parts v, distinct-times v (filesOf q) (k .once), has-times v moved e)))
 
-  -- "keeps the lowest 16"
-  pub new-pool : poolOf (cleaned q m) ≡ take (least (q .«pool_count» + m) 16) (pooled q m)
-  new-pool =
-      let l = least-le (q .«pool_count» + m) 16 (least (q .«pool_count» + m) 16) refl in
-      over-front (q .«log_pool») (pooled q m) (least (q .«pool_count» + m) 16) (omega (arith, l .1, s .pool)) (omega (arith, l .0, pooled-length q m s (k .room) h))
+  -- "keeps the lowest 16", and what is removed
+  pub new-pool : poolOf (cleanupPooled q n) ≡ take 16 (listOf (pooled q n))
+  unfolding cleanupPooled
+  new-pool = first-list (pooled q n) 16
 
-  pub new-cleanup : cleanupOf (cleaned q m) ≡ drop m (cleanupOf q)
-  new-cleanup =
-      over-front (q .«cleanup_queue») (drop m (q .«cleanup_queue»)) (q .«cleanup_count» - m) (omega (arith, k .room .cleanup, s .cleanup)) (rw length-drop (omega (arith, k .room .cleanup, s .cleanup)))
-      ∙ sym (drop-take m (q .«cleanup_count») (q .«cleanup_queue»))
+  pub new-cleanup : cleanupOf (cleanupPooled q n) ≡ drop n (cleanupOf q)
+  unfolding cleanupPooled
+  new-cleanup = without-list (q .«cleanup_queue») n (omega (arith, s .cleanup, k .room .cleanup))
 
-  pub cleaned-times : (v : ℕ) → times v (filesOf (cleaned q m)) + times v (drop 16 (pooled q m)) ≡ times v (filesOf q)
-  unfolding pooled
+  pub removed-list : listOf (withoutFirst 16 (pooled q n)) ≡ drop 16 (listOf (pooled q n))
+  removed-list = without-list (pooled q n) 16 pooled-fits
+
+  pub cleaned-times : (v : ℕ) → times v (filesOf (cleanupPooled q n)) + times v (listOf (withoutFirst 16 (pooled q n))) ≡ times v (filesOf q)
+  unfolding cleanupPooled moved
   cleaned-times v =
-      let n = least (q .«pool_count» + m) 16 in
-      let w = pooled q m in
-      let a : times v (poolOf (cleaned q m)) ≡ times v (take n w) = ap (times v) new-pool in
-      let b : times v (cleanupOf (cleaned q m)) ≡ times v (drop m (cleanupOf q)) = ap (times v) new-cleanup in
-      let d : times v w ≡ times v (take n w) + times v (drop n w) = ap (times v) (sym (take-append-drop n w)) ∙ times-append v (take n w) (drop n w) in
-      let e : times v (drop n w) ≡ times v (drop 16 w) = ap (times v) (drop-room q m s (k .room) h) in
-      omega (arith, whole v q, whole v (cleaned q m), parts v, a, b, d, e, times-all v (poolOf q) (take m (cleanupOf q)))
+      let w = listOf (pooled q n) in
+      let a : times v (poolOf (cleanupPooled q n)) ≡ times v (take 16 w) = ap (times v) new-pool in
+      let b : times v (cleanupOf (cleanupPooled q n)) ≡ times v (drop n (cleanupOf q)) = ap (times v) new-cleanup in
+      let d : times v w ≡ times v (take 16 w) + times v (drop 16 w) = ap (times v) (sym (take-append-drop 16 w)) ∙ times-append v (take 16 w) (drop 16 w) in
+      let e : times v (listOf (withoutFirst 16 (pooled q n))) ≡ times v (drop 16 w) = ap (times v) removed-list in
+      let f : times v w ≡ times v moved + times v (poolOf q) = ap (times v) pooled-list ∙ times-all v (poolOf q) moved in
+      omega (arith, whole v q, whole v (cleanupPooled q n), parts v, a, b, d, e, f)
 
-  pub cleaned-kept : Kept (cleaned q m)
-  unfolding sizeOf
+  pub cleaned-kept : Kept (cleanupPooled q n)
+  unfolding cleanupPooled sizeOf
   cleaned-kept =
-      let l = least-le (q .«pool_count» + m) 16 (least (q .«pool_count» + m) 16) refl in
-      still-kept q (cleaned q m) k
-      (record { read = k .room .read; cleanup = omega (arith, k .room .cleanup); pool = l .1; replay = k .room .replay; all = omega (arith, k .room .all, l .0) })
+      let l = least-le 16 (pooled q n .count) (least 16 (pooled q n .count)) refl in
+      let m = least-rest n (q .«cleanup_queue» .count) in
+      still-kept q (cleanupPooled q n) k
+      (record { read = k .room .read; cleanup = omega (arith, k .room .cleanup); pool = l .0; replay = k .room .replay; all = omega (arith, k .room .all, l .1, pooled-size, m) })
       refl (λ v. omega (arith, cleaned-times v))
-      (ap ascends new-pool ∙ ascends-take (least (q .«pool_count» + m) 16) (pooled q m) pooled-rises) (k .size)
+      (ap ascends new-pool ∙ ascends-take 16 (listOf (pooled q n)) pooled-rises) (k .size)

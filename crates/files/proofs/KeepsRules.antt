@@ -5,17 +5,20 @@ use Prim.Native.Nat.{ℕ, _+_, _<_}
 use mathlib.Core.Bool.{Bool, true, false, _&&_}
 use mathlib.Core.Path.{_≡_, refl, _∙_}
 use native.Mathlib.Omega.{arith}
-use lib.ListN.{length}
-use lib.Dec.{eqb, leb, ltb}
-use borrow.Author.Tests.{ltb-true, eqb-false, leb-false}
-use Rattle.numbers.specs.Numbers.{least}
-use Rattle.numbers.proofs.Laws.{least-le}
+use lib.Dec.{eqb}
+use borrow.Author.Tests.{ltb-true, eqb-false}
 use Rattle.files.specs.Queues.{sizeOf, filesOf, fileCount, roomKept, queuesKept}
 use Rattle.files.specs.Moves.{withDirty, readingCleaned, replayCleaned}
-use Rattle.files.specs.Calls.{flushes, flushOne, replayNext, clearReplayLogs, cleanLogs, killLogs, needsNew, takenBy, takeFile}
+use Rattle.files.specs.Calls.{flushes, flushOneKept, flushOne, replayNextKept, replayNext, clearReplayLogsKept, clearReplayLogs, cleanLogsKept, cleanLogs, killLogsKept, killLogs, needsNew, fileSetFull, filesUsedUp, takenBy, takeFileKept, takeFile}
 use Rattle.files.specs.declared.queues.Queues.{Queues}
-use Rattle.files.proofs.Rule.{Sized, Kept, kept-facts, kept-makes, sized-appending}
-use Rattle.files.proofs.Kept.{flushed-kept, reading-kept, reading-sized, replayed-kept, replay-kept, killed-kept, goes-kept, pool-kept, made-kept}
+use Rattle.files.specs.declared.reading.ReplayNext.{ReplayNext}
+use Rattle.files.specs.declared.reading.ReplayCleared.{ReplayCleared}
+use Rattle.files.specs.declared.writing.Flushed.{Flushed}
+use Rattle.files.specs.declared.writing.Taken.{Taken}
+use Rattle.files.specs.declared.cleaning.Cleaned.{Cleaned}
+use Rattle.files.specs.declared.cleaning.Killed.{Killed}
+use Rattle.files.proofs.Rule.{Sized, Kept, kept-facts, kept-makes, sized-appending, size-low, behind-door}
+use Rattle.files.proofs.Kept.{queued-kept, reading-kept, reading-sized, replayed-kept, replay-kept, killed-kept, goes-kept, pool-kept, made-kept}
 use Rattle.files.proofs.CleanKept.{cleaned-kept}
 
 and-right : (a b : Bool) → a ≡ true → (a && b) ≡ false → b ≡ false
@@ -30,65 +33,82 @@ module _ (q : Queues) (s : Sized q) (ok : queuesKept q ≡ true) where
   k : Kept q
   k = kept-facts q ok
 
-  pub flush-one : (min : ℕ) → queuesKept (flushOne q min .queues) ≡ true
-  unfolding flushOne flushes
-  flush-one min = by (ltb min (sizeOf q)) refl
+  pub flush-one-kept : (min : ℕ) → queuesKept (flushOneKept q min .queues) ≡ true
+  unfolding flushOneKept flushes
+  flush-one-kept min = by (flushes q min) refl
     where
-      by : (b : Bool) → ltb min (sizeOf q) ≡ b → queuesKept (flushOne q min .queues) ≡ true
-      by true e = rw (ok, e) (kept-makes _ (flushed-kept q s k (sized-appending q min (ltb-true min (sizeOf q) e))))
-      by false e = rw (ok, e) ok
+      by : (b : Bool) → flushes q min ≡ b → queuesKept (flushOneKept q min .queues) ≡ true
+      by true e = rw e (kept-makes _ (queued-kept q s k (sized-appending q min (ltb-true min (sizeOf q) e))))
+      by false e = rw e ok
+
+  pub flush-one : (min : ℕ) → queuesKept (flushOne q min .queues) ≡ true
+  unfolding flushOne
+  flush-one min = behind-door (λ (r : Flushed). queuesKept (r .queues) ≡ true) _ (queuesKept q) ok (flush-one-kept min)
 
   cleaned-first : Kept (readingCleaned q)
   cleaned-first = reading-kept q s k
 
-  pub replay-next : queuesKept (replayNext q .queues) ≡ true
-  unfolding replayNext readingCleaned
-  replay-next = by (eqb (q .«replay_count») 0) refl
+  pub replay-next-kept : queuesKept (replayNextKept q .queues) ≡ true
+  unfolding replayNextKept readingCleaned
+  replay-next-kept = by (eqb (q .«replay_queue» .count) 0) refl
     where
-      by : (b : Bool) → eqb (q .«replay_count») 0 ≡ b → queuesKept (replayNext q .queues) ≡ true
-      by true e = rw (ok, e) (kept-makes _ cleaned-first)
+      by : (b : Bool) → eqb (q .«replay_queue» .count) 0 ≡ b → queuesKept (replayNextKept q .queues) ≡ true
+      by true e = rw e (kept-makes _ cleaned-first)
       by false e =
-          rw (ok, e)
-          (kept-makes _ (replayed-kept (readingCleaned q) (reading-sized q s k) cleaned-first refl (omega (arith, eqb-false (q .«replay_count») 0 e))))
+          rw e (kept-makes _ (replayed-kept (readingCleaned q) (reading-sized q s k) cleaned-first refl (omega (arith, eqb-false (q .«replay_queue» .count) 0 e))))
+
+  pub replay-next : queuesKept (replayNext q .queues) ≡ true
+  unfolding replayNext
+  replay-next = behind-door (λ (r : ReplayNext). queuesKept (r .queues) ≡ true) _ (queuesKept q) ok replay-next-kept
+
+  pub clear-replay-logs-kept : queuesKept (clearReplayLogsKept q .queues) ≡ true
+  clear-replay-logs-kept = dirty-same (replayCleaned (readingCleaned q)) false ∙ kept-makes _ (replay-kept (readingCleaned q) (reading-sized q s k) cleaned-first)
 
   pub clear-replay-logs : queuesKept (clearReplayLogs q .queues) ≡ true
   unfolding clearReplayLogs
-  clear-replay-logs =
-      rw ok (dirty-same (replayCleaned (readingCleaned q)) false ∙ kept-makes _ (replay-kept (readingCleaned q) (reading-sized q s k) cleaned-first))
+  clear-replay-logs = behind-door (λ (r : ReplayCleared). queuesKept (r .queues) ≡ true) _ (queuesKept q) ok clear-replay-logs-kept
+
+  pub clean-logs-kept : (n : ℕ) → queuesKept (cleanLogsKept q n .queues) ≡ true
+  unfolding cleanLogsKept
+  clean-logs-kept n = kept-makes _ (cleaned-kept q n s k)
 
   pub clean-logs : (n : ℕ) → queuesKept (cleanLogs q n .queues) ≡ true
   unfolding cleanLogs
-  clean-logs n = rw ok (kept-makes _ (cleaned-kept q (least n (q .«cleanup_count»)) s k (least-le n (q .«cleanup_count») (least n (q .«cleanup_count»)) refl .1)))
+  clean-logs n = behind-door (λ (r : Cleaned). queuesKept (r .queues) ≡ true) _ (queuesKept q) ok (clean-logs-kept n)
+
+  pub kill-logs-kept : queuesKept (killLogsKept q .queues) ≡ true
+  kill-logs-kept = kept-makes _ (killed-kept q s k)
 
   pub kill-logs : queuesKept (killLogs q .queues) ≡ true
   unfolding killLogs
-  kill-logs = rw ok (kept-makes _ (killed-kept q s k))
+  kill-logs = behind-door (λ (r : Killed). queuesKept (r .queues) ≡ true) _ (queuesKept q) ok kill-logs-kept
 
   -- a file that is new finds room
-  module _ (size : ℕ) (low : size < 9223372036854775808) (room : (needsNew q && eqb (fileCount q) 64) ≡ false) where
-    fewer : q .appending ≡ false → eqb (q .«pool_count») 0 ≡ true → fileCount q < 64
-    unfolding needsNew fileCount
+  module _ (size : ℕ) (low : size < 9223372036854775808) (room : fileSetFull q ≡ false) where
+    fewer : q .appending .some ≡ false → eqb (q .«log_pool» .count) 0 ≡ true → fileCount q < 64
+    unfolding needsNew fileSetFull fileCount
     fewer n z =
         let w : needsNew q ≡ true = rw (n, z) in
         omega (arith, k .room .all, eqb-false (fileCount q) 64 (and-right (needsNew q) (eqb (fileCount q) 64) w room))
 
     taken : queuesKept (takenBy q size .queues) ≡ true
     unfolding takenBy fileCount
-    taken = by (q .appending) refl (eqb (q .«pool_count») 0) refl
+    taken = by (q .appending .some) refl (eqb (q .«log_pool» .count) 0) refl
       where
-        by : (b : Bool) → q .appending ≡ b → (d : Bool) → eqb (q .«pool_count») 0 ≡ d → queuesKept (takenBy q size .queues) ≡ true
+        by : (b : Bool) → q .appending .some ≡ b → (d : Bool) → eqb (q .«log_pool» .count) 0 ≡ d → queuesKept (takenBy q size .queues) ≡ true
         by true a d e = rw a (kept-makes _ (goes-kept q s k size a low))
         by false n true e = rw (n, e) (kept-makes _ (made-kept q s k size n low (fewer n e)))
-        by false n false e = rw (n, e) (kept-makes _ (pool-kept q s k size n (omega (arith, eqb-false (q .«pool_count») 0 e)) low))
+        by false n false e = rw (n, e) (kept-makes _ (pool-kept q s k size n (omega (arith, eqb-false (q .«log_pool» .count) 0 e)) low))
+
+  pub take-file-kept : (length : ℕ) → queuesKept (takeFileKept q length .queues) ≡ true
+  unfolding takeFileKept
+  take-file-kept length = by (fileSetFull q) refl (filesUsedUp q length) refl
+    where
+      by : (a : Bool) → fileSetFull q ≡ a → (b : Bool) → filesUsedUp q length ≡ b → queuesKept (takeFileKept q length .queues) ≡ true
+      by true e b f = rw e ok
+      by false e true f = rw (e, f) ok
+      by false e false f = rw (e, f) (taken (sizeOf q + length) (size-low q length f) e)
 
   pub take-file : (length : ℕ) → queuesKept (takeFile q length .queues) ≡ true
   unfolding takeFile
-  take-file length =
-      by (needsNew q && eqb (fileCount q) 64) refl (needsNew q && eqb (q .«next_log_id») 4294967295) refl (leb 9223372036854775808 (sizeOf q + length)) refl
-    where
-      by : (a : Bool) → (needsNew q && eqb (fileCount q) 64) ≡ a → (b : Bool) → (needsNew q && eqb (q .«next_log_id») 4294967295) ≡ b
-          → (d : Bool) → leb 9223372036854775808 (sizeOf q + length) ≡ d → queuesKept (takeFile q length .queues) ≡ true
-      by true e b f d g = rw (ok, e) ok
-      by false e true f d g = rw (ok, e, f) ok
-      by false e false f true g = rw (ok, e, f, g) ok
-      by false e false f false g = rw (ok, e, f, g) (taken (sizeOf q + length) (leb-false _ _ g) e)
+  take-file length = behind-door (λ (r : Taken). queuesKept (r .queues) ≡ true) _ (queuesKept q) ok (take-file-kept length)

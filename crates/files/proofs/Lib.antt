@@ -1,6 +1,5 @@
 -- The laws, for other crates to cite.
 pub mod Rule
-pub mod Parts
 pub mod Gather
 pub mod Clean
 pub mod Kept
@@ -8,5 +7,6 @@ pub mod CleanKept
 pub mod KeepsRules
 pub mod NoneLost
 pub mod Cases
+pub mod ReadOf
 pub mod ReadKept
 pub mod OpenKept

@@ -6,15 +6,16 @@ use mathlib.Core.Bool.{Bool, true, false}
 use mathlib.Core.List.{List, map}
 use mathlib.Core.Path.{_≡_, refl, ap, _∙_}
 use native.Mathlib.Omega.{arith}
-use lib.ListN.{take, length, length-map}
+use lib.ListN.{length, length-map}
 use lib.Dec.{eqb}
 use borrow.Author.Tests.{eqb-false, eqb-true}
 use Rattle.words.specs.Choice.{if_then_else_}
 use Rattle.numbers.specs.Numbers.{times, allBelow, distinct}
+use Rattle.numbers.specs.Queue.{listOf}
 use Rattle.answer.specs.Answer.{numberOf}
 use Rattle.record.specs.Next.{readerAt}
 use Rattle.answer.specs.declared.answer.Answer.{Answer}
-use Rattle.answer.specs.declared.answer.Answer.the-variants.{Done}
+use Rattle.answer.specs.declared.answer.Answer.the-variants.{Done, EndOfLog}
 use Rattle.record.specs.declared.reader.LogReader.{LogReader}
 use Rattle.record.specs.declared.reader.Step.{Step}
 use Rattle.record.specs.declared.reader.Step.the-variants.{Took, Refused}
@@ -27,18 +28,19 @@ use Rattle.found.proofs.Found.{order-times}
 use Rattle.found.proofs.Order.{ordered, count, same-files}
 use Rattle.found.proofs.Answers.{logs-told, logs-all}
 use Rattle.files.specs.Queues.{replayOf, sizeOf, filesOf, queuesKept}
-use Rattle.files.specs.Moves.{readingCleaned}
+use Rattle.files.specs.Moves.{firstIds, readingCleaned}
 use Rattle.files.specs.Open.{openedWith, openLogs}
-use Rattle.files.specs.Read.{hasFile, nowReading, openingAt, readBy, readNext}
+use Rattle.files.specs.Read.{hasFile, nowReading, notRead, openingAt, readBy, readNextKept, readNext}
 use Rattle.files.specs.declared.queues.Queues.{Queues}
 use Rattle.files.specs.declared.read.ReadNext.{ReadNext}
-use Rattle.files.proofs.Rule.{Sized, Kept, kept-facts, kept-makes}
+use Rattle.files.proofs.Rule.{Sized, Kept, kept-facts, kept-makes, behind-door}
 use Rattle.files.proofs.Kept.{reading-kept, reading-times}
-use Rattle.files.proofs.ReadKept.{now-kept, now-sized, now-times, has-reading, has-waiting, next-reading, next-none, next-front}
+use Rattle.files.proofs.ReadOf.{has-reading, has-waiting, next-reading, next-none, next-front}
+use Rattle.files.proofs.ReadKept.{now-kept, now-sized, now-times}
 
 -- the replay queue: each file with its first id
 abbrev pub replayFiles : Queues → List LogFile
-replayFiles q = pairs (replayOf q) (take (q .«replay_count») (q .«replay_ids»))
+replayFiles q = pairs (replayOf q) (listOf (firstIds q))
 
 module _ (answer : Answer) (n : ℕ) (files : List LogFile) where
   opened-files : filesOf (openedWith (answered answer n files)) ≡ map fileNumber files
@@ -110,22 +112,26 @@ module _ (q : Queues) (s : Sized q) (ok : queuesKept q ≡ true) where
         by false = refl
 
   module _ (log : List ℕ) (p : ℕ) (w : Bool) where
-    pub read-next-keeps : queuesKept (readNext q log p w .queues) ≡ true
-    read-next-keeps = by (q .reading) refl (eqb (q .«read_count») 0) refl
+    -- by the file that is read: the one being read, none, or the read queue's front
+    read-cases : (P : ReadNext → Type 0) → ((h : hasFile q ≡ true) (r : LogReader) (step : Step) → P (readBy q r step)) → ((a : Answer) (r : LogReader) → P (notRead a r q)) → P (readNextKept q log p w)
+    read-cases P f g = by (q .reading .some) refl (eqb (q .«read_queue» .count) 0) refl
       where
-        by : (a : Bool) → q .reading ≡ a → (b : Bool) → eqb (q .«read_count») 0 ≡ b → queuesKept (readNext q log p w .queues) ≡ true
-        by true e b f = ap (λ (x : ReadNext). queuesKept (x .queues)) (next-reading q log p w ok e) ∙ by-keeps (has-reading q e) (readerAt p w) (openingAt log p w)
-        by false e true f = ap (λ (x : ReadNext). queuesKept (x .queues)) (next-none q log p w ok e (eqb-true (q .«read_count») 0 f)) ∙ ok
-        by false e false f =
-            let d = eqb-false (q .«read_count») 0 f in
-            ap (λ (x : ReadNext). queuesKept (x .queues)) (next-front q log p w ok e d) ∙ by-keeps (has-waiting q e d) (readerAt p w) (openingAt log 0 w)
+        by : (a : Bool) → q .reading .some ≡ a → (b : Bool) → eqb (q .«read_queue» .count) 0 ≡ b → P (readNextKept q log p w)
+        by true e b z = rw (next-reading q log p w e) (f (has-reading q e) (readerAt p w) (openingAt log (readerAt p w)))
+        by false e true z = rw (next-none q log p w e (eqb-true (q .«read_queue» .count) 0 z)) (g EndOfLog (readerAt p w))
+        by false e false z =
+            let d = eqb-false (q .«read_queue» .count) 0 z in
+            rw (next-front q log p w e d) (f (has-waiting q e d) (readerAt p w) (openingAt log (readerAt 0 w)))
+
+    pub read-next-kept-keeps : queuesKept (readNextKept q log p w .queues) ≡ true
+    read-next-kept-keeps = read-cases (λ (x : ReadNext). queuesKept (x .queues) ≡ true) (λ h r step. by-keeps h r step) (λ a r. ok)
+
+    pub read-next-keeps : queuesKept (readNext q log p w .queues) ≡ true
+    unfolding readNext
+    read-next-keeps = behind-door (λ (x : ReadNext). queuesKept (x .queues) ≡ true) _ (queuesKept q) ok read-next-kept-keeps
 
     pub read-next-loses-none : (v : ℕ) → times v (filesOf (readNext q log p w .queues)) ≡ times v (filesOf q)
-    read-next-loses-none v = by (q .reading) refl (eqb (q .«read_count») 0) refl
-      where
-        by : (a : Bool) → q .reading ≡ a → (b : Bool) → eqb (q .«read_count») 0 ≡ b → times v (filesOf (readNext q log p w .queues)) ≡ times v (filesOf q)
-        by true e b f = ap (λ (x : ReadNext). times v (filesOf (x .queues))) (next-reading q log p w ok e) ∙ by-loses-none (has-reading q e) (readerAt p w) v (openingAt log p w)
-        by false e true f = ap (λ (x : ReadNext). times v (filesOf (x .queues))) (next-none q log p w ok e (eqb-true (q .«read_count») 0 f))
-        by false e false f =
-            let d = eqb-false (q .«read_count») 0 f in
-            ap (λ (x : ReadNext). times v (filesOf (x .queues))) (next-front q log p w ok e d) ∙ by-loses-none (has-waiting q e d) (readerAt p w) v (openingAt log 0 w)
+    unfolding readNext
+    read-next-loses-none v =
+        behind-door (λ (x : ReadNext). times v (filesOf (x .queues)) ≡ times v (filesOf q)) _ (queuesKept q) ok
+        (read-cases (λ (x : ReadNext). times v (filesOf (x .queues)) ≡ times v (filesOf q)) (λ h r step. by-loses-none h r v step) (λ a r. refl))

@@ -1,47 +1,54 @@
 -- The rules of the queues as facts, and how they are put together again. Assumes nothing.
-use Prim.Native.Nat.{ℕ, _+_, _≤_, _<_}
-use mathlib.Core.Bool.{Bool, true, false, _&&_}
+use Prim.Native.Nat.{ℕ, _+_, _-_, _≤_, _<_}
+use mathlib.Core.Bool.{Bool, true, false, _&&_, _||_}
 use mathlib.Core.List.{List, _++_}
 use mathlib.Core.Path.{_≡_, refl, sym, ap, _∙_}
 use native.Mathlib.Omega.{arith}
 use lib.ListN.{length}
 use lib.Dec.{leb, eqb}
-use borrow.Author.Tests.{ltb-true, lt-ltb, le-leb, leb-true, eq-eqb}
+use borrow.Author.Tests.{ltb-true, lt-ltb, le-leb, leb-true, leb-false, lt-leb, eq-eqb}
 use Rattle.words.specs.Choice.{if_then_else_}
-use Rattle.numbers.specs.Numbers.{times, allBelow, distinct, ascends, ones}
-use Rattle.numbers.proofs.Laws.{both, left-of, right-of, ones-true}
+use Rattle.numbers.specs.Numbers.{times, allBelow, distinct, ascends, oneIf}
+use Rattle.numbers.proofs.Laws.{both, left-of, right-of, one-true}
 use Rattle.numbers.proofs.Sort.{times-append, less-distinct, less-under}
 use Rattle.files.specs.Queues.{poolOf, cleanupOf, readQueueOf, replayOf, appendingOf, readingOf, sizeOf, filesOf, fileCount, roomKept, queuesKept}
-use Rattle.files.specs.Calls.{needsNew}
+use Rattle.numbers.specs.Queue.{frontOf, withoutFirst}
+use Rattle.numbers.specs.declared.queue.NumberQueue.{NumberQueue}
+use Rattle.numbers.proofs.QueueLists.{push-if-count}
+use Rattle.answer.specs.declared.answer.Answer.the-variants.{Done}
+use Rattle.files.specs.Moves.{readingFile, withReading, withPool, withReplay, readingCleaned, firstIds, frontReplayed}
+use Rattle.files.specs.Calls.{needsNew, lacksNumber, filesUsedUp, grown, fromPool, tookFrom}
+use Rattle.files.specs.declared.queues.Reading.{Reading}
+use Rattle.files.specs.declared.reading.ReplayNext.{ReplayNext}
+use Rattle.files.specs.declared.writing.FileSource.the-variants.{Pool}
 use Rattle.files.specs.declared.queues.Queues.{Queues}
 
 -- an array of the code has its length; a list of the definitions may have any
 pub record Sized (q : Queues) : Type 0 where
-  pub read : length (q .«read_queue») ≡ 64
-  pub cleanup : length (q .«cleanup_queue») ≡ 64
-  pub pool : length (q .«log_pool») ≡ 16
-  pub replay : length (q .«replay_queue») ≡ 64
-  pub ids : length (q .«replay_ids») ≡ 64
+  pub read : length (q .«read_queue» .numbers) ≡ 64
+  pub cleanup : length (q .«cleanup_queue» .numbers) ≡ 64
+  pub pool : length (q .«log_pool» .numbers) ≡ 64
+  pub replay : length (q .«replay_queue» .numbers) ≡ 64
 
 pub record Room (q : Queues) : Type 0 where
-  pub read : q .«read_count» ≤ 64
-  pub cleanup : q .«cleanup_count» ≤ 64
-  pub pool : q .«pool_count» ≤ 16
-  pub replay : q .«replay_count» ≤ 64
-  pub all : ones (q .appending) + q .«read_count» + ones (q .reading) + q .«cleanup_count» + q .«pool_count» + q .«replay_count» ≤ 64
+  pub read : q .«read_queue» .count ≤ 64
+  pub cleanup : q .«cleanup_queue» .count ≤ 64
+  pub pool : q .«log_pool» .count ≤ 16
+  pub replay : q .«replay_queue» .count ≤ 64
+  pub all : oneIf (q .appending .some) + q .«read_queue» .count + oneIf (q .reading .some) + q .«cleanup_queue» .count + q .«log_pool» .count + q .«replay_queue» .count ≤ 64
 
 pub room-facts : (q : Queues) → roomKept q ≡ true → Room q
 unfolding roomKept fileCount
 room-facts q e =
-    let a = right-of (leb (q .«read_count») 64) _ e in
-    let b = right-of (leb (q .«cleanup_count») 64) _ a in
-    let d = right-of (leb (q .«pool_count») 16) _ b in
+    let a = right-of (leb (q .«read_queue» .count) 64) _ e in
+    let b = right-of (leb (q .«cleanup_queue» .count) 64) _ a in
+    let d = right-of (leb (q .«log_pool» .count) 16) _ b in
     record {
-      read = leb-true (q .«read_count») 64 (left-of (leb (q .«read_count») 64) _ e);
-      cleanup = leb-true (q .«cleanup_count») 64 (left-of (leb (q .«cleanup_count») 64) _ a);
-      pool = leb-true (q .«pool_count») 16 (left-of (leb (q .«pool_count») 16) _ b);
-      replay = leb-true (q .«replay_count») 64 (left-of (leb (q .«replay_count») 64) _ d);
-      all = leb-true _ 64 (right-of (leb (q .«replay_count») 64) _ d);
+      read = leb-true (q .«read_queue» .count) 64 (left-of (leb (q .«read_queue» .count) 64) _ e);
+      cleanup = leb-true (q .«cleanup_queue» .count) 64 (left-of (leb (q .«cleanup_queue» .count) 64) _ a);
+      pool = leb-true (q .«log_pool» .count) 16 (left-of (leb (q .«log_pool» .count) 16) _ b);
+      replay = leb-true (q .«replay_queue» .count) 64 (left-of (leb (q .«replay_queue» .count) 64) _ d);
+      all = leb-true _ 64 (right-of (leb (q .«replay_queue» .count) 64) _ d);
     }
 
 pub room-makes : (q : Queues) → Room q → roomKept q ≡ true
@@ -75,11 +82,11 @@ unfolding queuesKept
 kept-makes q k = both (room-makes q (k .room)) (both (k .below) (both (k .once) (both (k .pool) (lt-ltb _ _ (k .size)))))
 
 -- a file that has a size is appending
-pub sized-appending : (q : Queues) (min : ℕ) → min < sizeOf q → q .appending ≡ true
+pub sized-appending : (q : Queues) (min : ℕ) → min < sizeOf q → q .appending .some ≡ true
 unfolding sizeOf
-sized-appending q min h = by (q .appending) refl h
+sized-appending q min h = by (q .appending .some) refl h
   where
-    by : (b : Bool) → q .appending ≡ b → min < (if b then q .«appending_size» else 0) → b ≡ true
+    by : (b : Bool) → q .appending .some ≡ b → min < (if b then q .appending .size else 0) → b ≡ true
     by true e h = refl
     by false e h = absurd (omega arith)
 
@@ -108,14 +115,71 @@ still-kept q q′ k r e f p s = record {
 }
 
 -- what `flush_one` moves finds room in the read queue
-pub flush-room : (q : Queues) (min : ℕ) → queuesKept q ≡ true → min < sizeOf q → q .«read_count» < 64
-flush-room q min ok h = omega (arith, kept-facts q ok .room .all, ones-true (q .appending) (sized-appending q min h))
+pub flush-room : (q : Queues) (min : ℕ) → queuesKept q ≡ true → min < sizeOf q → q .«read_queue» .count < 64
+flush-room q min ok h = omega (arith, kept-facts q ok .room .all, one-true (q .appending .some) (sized-appending q min h))
 
 -- what the test of all numbers found of a copy of them
 pub below-as : (n n′ : ℕ) (l l′ : List ℕ) (b : Bool) → n′ ≡ n → l′ ≡ l → b ≡ allBelow n′ l′ → allBelow n l ≡ b
 below-as n n′ l l′ b e f g = sym (g ∙ ap (λ (m : ℕ). allBelow m l′) e ∙ ap (allBelow n) f)
 
--- a new number that is needed is there
-pub number-left : (q : Queues) → (needsNew q && eqb (q .«next_log_id») 4294967295) ≡ false → q .appending ≡ false → q .«pool_count» ≡ 0 → q .«next_log_id» ≡ 4294967295 → ⊥
-unfolding needsNew
-number-left q f a p e = let z : true ≡ false = rw (a, p, eq-eqb (q .«next_log_id») 4294967295 e) at f in let w : _≡_ {A = ℕ} 0 1 = cc in omega arith
+-- a new number that is needed is there, and the size stays below its bound
+left-false : (a b : Bool) → (a || b) ≡ false → a ≡ false
+left-false false b e = refl
+left-false true b e = e
+
+right-false : (a b : Bool) → (a || b) ≡ false → b ≡ false
+right-false false b e = e
+right-false true b e = let w : _≡_ {A = ℕ} 0 1 = cc in absurd (omega arith)
+
+module _ (q : Queues) (length : ℕ) (f : filesUsedUp q length ≡ false) where
+  pub number-left : q .appending .some ≡ false → q .«log_pool» .count ≡ 0 → q .«next_log_id» ≡ 4294967295 → ⊥
+  unfolding needsNew lacksNumber filesUsedUp
+  number-left a p e =
+      let g = left-false (lacksNumber q) _ f in
+      let z : true ≡ false = rw (a, p, eq-eqb (q .«next_log_id») 4294967295 e) at g in
+      let w : _≡_ {A = ℕ} 0 1 = cc in omega arith
+
+  pub size-low : sizeOf q + length < 9223372036854775808
+  unfolding filesUsedUp
+  size-low = leb-false _ _ (right-false (lacksNumber q) _ f)
+
+-- the code's test of the size, without a sum that could wrap
+pub leb-moved : (s s′ l : ℕ) → s′ ≡ s → s < 9223372036854775808 → leb (9223372036854775808 - s′) l ≡ leb 9223372036854775808 (s + l)
+leb-moved s s′ l e h = by (leb 9223372036854775808 (s + l)) refl
+  where
+    by : (b : Bool) → leb 9223372036854775808 (s + l) ≡ b → leb (9223372036854775808 - s′) l ≡ b
+    by true f = le-leb (9223372036854775808 - s′) l (omega (arith, leb-true 9223372036854775808 (s + l) f))
+    by false f = lt-leb (9223372036854775808 - s′) l (omega (arith, leb-false 9223372036854775808 (s + l) f))
+
+-- what the file being read leaves as it was when it goes to cleanup
+pub cleaned-replay : (q : Queues) → readingCleaned q .«replay_queue» .count ≡ q .«replay_queue» .count
+unfolding readingCleaned
+cleaned-replay q = refl
+
+pub cleaned-cleanup : (q : Queues) → readingCleaned q .«cleanup_queue» .count ≡ q .«cleanup_queue» .count + oneIf (q .reading .some)
+unfolding readingCleaned
+cleaned-cleanup q = push-if-count (q .«cleanup_queue») (q .reading .some) (q .reading .id)
+
+-- answers made of what the calls before them gave
+pub replayed-as : (q q′ : Queues) (n : ℕ) → n ≡ frontOf (q .«replay_queue») → q′ ≡ frontReplayed (readingCleaned q)
+    → _≡_ {A = ReplayNext} (record { answer = Done; found = true; number = n; queues = q′ }) (record { answer = Done; found = true; number = frontOf (q .«replay_queue»); queues = frontReplayed (readingCleaned q) })
+replayed-as q q′ n e f = rw (e, f)
+
+pub taken-as : (q : Queues) (length id size : ℕ) (l : NumberQueue) (q′ : Queues) → size ≡ sizeOf q → id ≡ frontOf (q .«log_pool») → l ≡ withoutFirst 1 (q .«log_pool»)
+    → q′ ≡ grown (withPool q l) id (size + length) → tookFrom Pool id q′ ≡ tookFrom Pool (frontOf (q .«log_pool»)) (fromPool q (sizeOf q + length))
+taken-as q length id size l q′ e f g h = rw (h, e, f, g)
+
+pub front-as : (q : Queues) (l i : NumberQueue) (n : ℕ) (r : Reading) → l ≡ withoutFirst 1 (q .«replay_queue») → i ≡ withoutFirst 1 (firstIds q)
+    → n ≡ frontOf (q .«replay_queue») → r ≡ readingFile n → withReading (withReplay q l (i .numbers)) r ≡ frontReplayed q
+unfolding frontReplayed
+front-as q l i n r e f g h = rw (h, e, f, g)
+
+-- ---- the two doors of a call: what holds of the answer behind the test, and of the refusal, holds of the call
+module _ {A : Type 0} (P : A → Type 0) {x : A} where
+  pub door : {y : A} (b : Bool) → (b ≡ true → P x) → P y → P (if b then x else y)
+  door true f p = f refl
+  door false f p = p
+
+  pub behind-door : (y : A) (b : Bool) → b ≡ true → P x → P (if b then x else y)
+  behind-door y true e p = p
+  behind-door y false e p = let z : _≡_ {A = ℕ} 0 1 = cc in absurd (omega arith)

@@ -1,197 +1,91 @@
--- The moves that the calls are made of: one place of the queues changed, the others as they were.
-use Prim.Native.Nat.{ℕ, _+_, _-_}
+-- The moves that the calls are made of: a place or two of the queues changed, the others as they were.
+use Prim.Native.Nat.{ℕ}
 use mathlib.Core.Bool.{Bool, true, false}
 use mathlib.Core.List.{List}
-use lib.ListN.{getD, drop}
-use lib.Seq.{paste}
-use Rattle.numbers.specs.Numbers.{ones, putOne, over}
+use lib.ListN.{replicate}
+use Rattle.numbers.specs.Queue.{noNumbers, pushed, pushedIf, appended, frontOf, withoutFirst, emptied}
+use Rattle.numbers.specs.declared.queue.NumberQueue.{NumberQueue}
+use Rattle.files.specs.declared.queues.Appending.{Appending}
+use Rattle.files.specs.declared.queues.Reading.{Reading}
 use Rattle.files.specs.declared.queues.Queues.{Queues}
 
-abbrev pub withAppending : Queues → Bool → ℕ → ℕ → Queues
-withAppending q b id size = record {
-  appending = b;
-  «appending_id» = id;
-  «appending_size» = size;
-  reading = q .reading;
-  «reading_id» = q .«reading_id»;
-  «read_count» = q .«read_count»;
-  «read_queue» = q .«read_queue»;
-  «cleanup_count» = q .«cleanup_count»;
-  «cleanup_queue» = q .«cleanup_queue»;
-  «pool_count» = q .«pool_count»;
-  «log_pool» = q .«log_pool»;
-  «replay_count» = q .«replay_count»;
-  «replay_queue» = q .«replay_queue»;
-  «replay_ids» = q .«replay_ids»;
-  «next_log_id» = q .«next_log_id»;
-  dirty = q .dirty;
-}
-
-abbrev pub withReading : Queues → Bool → ℕ → Queues
-withReading q b id = record {
-  appending = q .appending;
-  «appending_id» = q .«appending_id»;
-  «appending_size» = q .«appending_size»;
-  reading = b;
-  «reading_id» = id;
-  «read_count» = q .«read_count»;
-  «read_queue» = q .«read_queue»;
-  «cleanup_count» = q .«cleanup_count»;
-  «cleanup_queue» = q .«cleanup_queue»;
-  «pool_count» = q .«pool_count»;
-  «log_pool» = q .«log_pool»;
-  «replay_count» = q .«replay_count»;
-  «replay_queue» = q .«replay_queue»;
-  «replay_ids» = q .«replay_ids»;
-  «next_log_id» = q .«next_log_id»;
-  dirty = q .dirty;
-}
-
-abbrev pub withReadQueue : Queues → ℕ → List ℕ → Queues
-withReadQueue q n l = record {
-  appending = q .appending;
-  «appending_id» = q .«appending_id»;
-  «appending_size» = q .«appending_size»;
-  reading = q .reading;
-  «reading_id» = q .«reading_id»;
-  «read_count» = n;
-  «read_queue» = l;
-  «cleanup_count» = q .«cleanup_count»;
-  «cleanup_queue» = q .«cleanup_queue»;
-  «pool_count» = q .«pool_count»;
-  «log_pool» = q .«log_pool»;
-  «replay_count» = q .«replay_count»;
-  «replay_queue» = q .«replay_queue»;
-  «replay_ids» = q .«replay_ids»;
-  «next_log_id» = q .«next_log_id»;
-  dirty = q .dirty;
-}
-
-abbrev pub withCleanup : Queues → ℕ → List ℕ → Queues
-withCleanup q n l = record {
-  appending = q .appending;
-  «appending_id» = q .«appending_id»;
-  «appending_size» = q .«appending_size»;
-  reading = q .reading;
-  «reading_id» = q .«reading_id»;
-  «read_count» = q .«read_count»;
-  «read_queue» = q .«read_queue»;
-  «cleanup_count» = n;
-  «cleanup_queue» = l;
-  «pool_count» = q .«pool_count»;
-  «log_pool» = q .«log_pool»;
-  «replay_count» = q .«replay_count»;
-  «replay_queue» = q .«replay_queue»;
-  «replay_ids» = q .«replay_ids»;
-  «next_log_id» = q .«next_log_id»;
-  dirty = q .dirty;
-}
-
-abbrev pub withPool : Queues → ℕ → List ℕ → Queues
-withPool q n l = record {
-  appending = q .appending;
-  «appending_id» = q .«appending_id»;
-  «appending_size» = q .«appending_size»;
-  reading = q .reading;
-  «reading_id» = q .«reading_id»;
-  «read_count» = q .«read_count»;
-  «read_queue» = q .«read_queue»;
-  «cleanup_count» = q .«cleanup_count»;
-  «cleanup_queue» = q .«cleanup_queue»;
-  «pool_count» = n;
-  «log_pool» = l;
-  «replay_count» = q .«replay_count»;
-  «replay_queue» = q .«replay_queue»;
-  «replay_ids» = q .«replay_ids»;
-  «next_log_id» = q .«next_log_id»;
-  dirty = q .dirty;
-}
-
-abbrev pub withReplay : Queues → ℕ → List ℕ → List ℕ → Queues
-withReplay q n l ids = record {
-  appending = q .appending;
-  «appending_id» = q .«appending_id»;
-  «appending_size» = q .«appending_size»;
-  reading = q .reading;
-  «reading_id» = q .«reading_id»;
-  «read_count» = q .«read_count»;
-  «read_queue» = q .«read_queue»;
-  «cleanup_count» = q .«cleanup_count»;
-  «cleanup_queue» = q .«cleanup_queue»;
-  «pool_count» = q .«pool_count»;
-  «log_pool» = q .«log_pool»;
-  «replay_count» = n;
-  «replay_queue» = l;
+-- the places in document 01's order, then the first ids of the files to replay, the next number, and dirty
+abbrev pub queuesOf : Appending → NumberQueue → Reading → NumberQueue → NumberQueue → NumberQueue → List ℕ → ℕ → Bool → Queues
+queuesOf appending readQueue reading cleanup pool replay ids next dirty = record {
+  appending = appending;
+  «read_queue» = readQueue;
+  reading = reading;
+  «cleanup_queue» = cleanup;
+  «log_pool» = pool;
+  «replay_queue» = replay;
   «replay_ids» = ids;
-  «next_log_id» = q .«next_log_id»;
-  dirty = q .dirty;
+  «next_log_id» = next;
+  dirty = dirty;
 }
+
+abbrev pub noAppending : Appending
+noAppending = record { some = false; id = 0; size = 0 }
+
+abbrev pub appendingFile : ℕ → ℕ → Appending
+appendingFile id size = record { some = true; id = id; size = size }
+
+abbrev pub noReading : Reading
+noReading = record { some = false; id = 0 }
+
+abbrev pub readingFile : ℕ → Reading
+readingFile id = record { some = true; id = id }
+
+-- "dirty, set at open"
+abbrev pub noFiles : Queues
+noFiles = queuesOf noAppending noNumbers noReading noNumbers noNumbers noNumbers (replicate 64 0) 0 true
+
+-- ---- one place changed
+abbrev pub withAppending : Queues → Appending → Queues
+withAppending q a = queuesOf a (q .«read_queue») (q .reading) (q .«cleanup_queue») (q .«log_pool») (q .«replay_queue») (q .«replay_ids») (q .«next_log_id») (q .dirty)
+
+abbrev pub withReadQueue : Queues → NumberQueue → Queues
+withReadQueue q l = queuesOf (q .appending) l (q .reading) (q .«cleanup_queue») (q .«log_pool») (q .«replay_queue») (q .«replay_ids») (q .«next_log_id») (q .dirty)
+
+abbrev pub withReading : Queues → Reading → Queues
+withReading q r = queuesOf (q .appending) (q .«read_queue») r (q .«cleanup_queue») (q .«log_pool») (q .«replay_queue») (q .«replay_ids») (q .«next_log_id») (q .dirty)
+
+abbrev pub withCleanup : Queues → NumberQueue → Queues
+withCleanup q l = queuesOf (q .appending) (q .«read_queue») (q .reading) l (q .«log_pool») (q .«replay_queue») (q .«replay_ids») (q .«next_log_id») (q .dirty)
+
+abbrev pub withPool : Queues → NumberQueue → Queues
+withPool q l = queuesOf (q .appending) (q .«read_queue») (q .reading) (q .«cleanup_queue») l (q .«replay_queue») (q .«replay_ids») (q .«next_log_id») (q .dirty)
+
+abbrev pub withReplay : Queues → NumberQueue → List ℕ → Queues
+withReplay q l ids = queuesOf (q .appending) (q .«read_queue») (q .reading) (q .«cleanup_queue») (q .«log_pool») l ids (q .«next_log_id») (q .dirty)
 
 abbrev pub withNext : Queues → ℕ → Queues
-withNext q n = record {
-  appending = q .appending;
-  «appending_id» = q .«appending_id»;
-  «appending_size» = q .«appending_size»;
-  reading = q .reading;
-  «reading_id» = q .«reading_id»;
-  «read_count» = q .«read_count»;
-  «read_queue» = q .«read_queue»;
-  «cleanup_count» = q .«cleanup_count»;
-  «cleanup_queue» = q .«cleanup_queue»;
-  «pool_count» = q .«pool_count»;
-  «log_pool» = q .«log_pool»;
-  «replay_count» = q .«replay_count»;
-  «replay_queue» = q .«replay_queue»;
-  «replay_ids» = q .«replay_ids»;
-  «next_log_id» = n;
-  dirty = q .dirty;
-}
+withNext q n = queuesOf (q .appending) (q .«read_queue») (q .reading) (q .«cleanup_queue») (q .«log_pool») (q .«replay_queue») (q .«replay_ids») n (q .dirty)
 
 abbrev pub withDirty : Queues → Bool → Queues
-withDirty q b = record {
-  appending = q .appending;
-  «appending_id» = q .«appending_id»;
-  «appending_size» = q .«appending_size»;
-  reading = q .reading;
-  «reading_id» = q .«reading_id»;
-  «read_count» = q .«read_count»;
-  «read_queue» = q .«read_queue»;
-  «cleanup_count» = q .«cleanup_count»;
-  «cleanup_queue» = q .«cleanup_queue»;
-  «pool_count» = q .«pool_count»;
-  «log_pool» = q .«log_pool»;
-  «replay_count» = q .«replay_count»;
-  «replay_queue» = q .«replay_queue»;
-  «replay_ids» = q .«replay_ids»;
-  «next_log_id» = q .«next_log_id»;
-  dirty = b;
-}
+withDirty q b = queuesOf (q .appending) (q .«read_queue») (q .reading) (q .«cleanup_queue») (q .«log_pool») (q .«replay_queue») (q .«replay_ids») (q .«next_log_id») b
 
--- an array without its first: the n - 1 behind it move down, and the last place in use keeps what it has
-abbrev pub shifted : List ℕ → ℕ → List ℕ
-shifted l n = over l (drop 1 l) (n - 1)
+-- ---- the moves
+-- "moves the appending file to the end of the read queue"
+unfoldable pub appendingQueued : Queues → Queues
+appendingQueued q = withReadQueue (withAppending q noAppending) (pushed (q .«read_queue») (q .appending .id))
 
--- the file being read, if there is one, to the end of cleanup
+-- "sends reading .. to cleanup": to its end, if there is one
 unfoldable pub readingCleaned : Queues → Queues
-readingCleaned q =
-    withReading
-    (withCleanup q (q .«cleanup_count» + ones (q .reading)) (putOne (q .«cleanup_queue») (q .«cleanup_count») (q .reading) (q .«reading_id»)))
-    false 0
+readingCleaned q = withReading (withCleanup q (pushedIf (q .«cleanup_queue») (q .reading .some) (q .reading .id))) noReading
 
--- the front of the read queue becomes the file being read
+-- "the read queue's front .. the one being read"
 unfoldable pub frontRead : Queues → Queues
-frontRead q = withReading (withReadQueue q (q .«read_count» - 1) (shifted (q .«read_queue») (q .«read_count»))) true (getD (q .«read_queue») 0 0)
+frontRead q = withReading (withReadQueue q (withoutFirst 1 (q .«read_queue»))) (readingFile (frontOf (q .«read_queue»)))
 
--- the front of the replay queue becomes the file being read
+-- the first ids of the files to replay, as a queue of its own
+abbrev pub firstIds : Queues → NumberQueue
+firstIds q = record { count = q .«replay_queue» .count; numbers = q .«replay_ids» }
+
+-- "takes the front of the replay queue": that file is the one being read
 unfoldable pub frontReplayed : Queues → Queues
 frontReplayed q =
-    withReading
-    (withReplay q (q .«replay_count» - 1) (shifted (q .«replay_queue») (q .«replay_count»)) (shifted (q .«replay_ids») (q .«replay_count»)))
-    true (getD (q .«replay_queue») 0 0)
+    withReading (withReplay q (withoutFirst 1 (q .«replay_queue»)) (withoutFirst 1 (firstIds q) .numbers)) (readingFile (frontOf (q .«replay_queue»)))
 
--- the whole replay queue to the end of cleanup
+-- "the replay queue, to cleanup"
 unfoldable pub replayCleaned : Queues → Queues
-replayCleaned q =
-    withReplay
-    (withCleanup q (q .«cleanup_count» + q .«replay_count») (paste (q .«cleanup_queue») (q .«cleanup_count») (q .«replay_queue») (q .«replay_count»)))
-    0 (q .«replay_queue») (q .«replay_ids»)
+replayCleaned q = withReplay (withCleanup q (appended (q .«cleanup_queue») (q .«replay_queue»))) (emptied (q .«replay_queue»)) (q .«replay_ids»)

@@ -1,37 +1,36 @@
--- The file queues as lists, and the rules of their state (document 01, "File numbers" and "Numbered answers"; `Log`, log.rs 713-726).
--- A queue is an array and a count: what lies behind the count means nothing. Where nothing is appending (`appending` is false), the number
--- and the size beside it mean nothing; so does the number beside a `reading` that is false.
+-- The file queues as lists, and the rules of their state (document 01, "File numbers" and "Numbered answers"; `Log`, log.rs 700-726).
+-- What lies behind a queue's count means nothing; nor does what stands beside a `some` that is false.
 use Prim.Native.Nat.{ℕ, _+_}
 use mathlib.Core.Bool.{Bool, _&&_}
 use mathlib.Core.List.{List, _++_}
-use lib.ListN.{take}
 use lib.Dec.{ltb, leb}
 use Rattle.words.specs.Choice.{if_then_else_}
-use Rattle.numbers.specs.Numbers.{allBelow, distinct, ascends, one, ones}
+use Rattle.numbers.specs.Numbers.{allBelow, distinct, ascends, someOf, oneIf}
+use Rattle.numbers.specs.Queue.{listOf}
 use Rattle.files.specs.declared.queues.Queues.{Queues}
 
-abbrev pub poolOf : Queues → List ℕ
-poolOf q = take (q .«pool_count») (q .«log_pool»)
-
-abbrev pub cleanupOf : Queues → List ℕ
-cleanupOf q = take (q .«cleanup_count») (q .«cleanup_queue»)
+abbrev pub appendingOf : Queues → List ℕ
+appendingOf q = someOf (q .appending .some) (q .appending .id)
 
 abbrev pub readQueueOf : Queues → List ℕ
-readQueueOf q = take (q .«read_count») (q .«read_queue»)
+readQueueOf q = listOf (q .«read_queue»)
+
+abbrev pub readingOf : Queues → List ℕ
+readingOf q = someOf (q .reading .some) (q .reading .id)
+
+abbrev pub cleanupOf : Queues → List ℕ
+cleanupOf q = listOf (q .«cleanup_queue»)
+
+abbrev pub poolOf : Queues → List ℕ
+poolOf q = listOf (q .«log_pool»)
 
 -- beside it, in the same places, the id of each file's first record
 abbrev pub replayOf : Queues → List ℕ
-replayOf q = take (q .«replay_count») (q .«replay_queue»)
-
-abbrev pub appendingOf : Queues → List ℕ
-appendingOf q = one (q .appending) (q .«appending_id»)
-
-abbrev pub readingOf : Queues → List ℕ
-readingOf q = one (q .reading) (q .«reading_id»)
+replayOf q = listOf (q .«replay_queue»)
 
 -- the appending file's size; "none counts as 0"
 unfoldable pub sizeOf : Queues → ℕ
-sizeOf q = if q .appending then q .«appending_size» else 0
+sizeOf q = if q .appending .some then q .appending .size else 0
 
 -- every file, place by place: "appending, read queue, reading, cleanup, pool or replay queue"
 unfoldable pub filesOf : Queues → List ℕ
@@ -39,13 +38,15 @@ filesOf q = appendingOf q ++ readQueueOf q ++ readingOf q ++ cleanupOf q ++ pool
 
 -- how many there are
 unfoldable pub fileCount : Queues → ℕ
-fileCount q = ones (q .appending) + q .«read_count» + ones (q .reading) + q .«cleanup_count» + q .«pool_count» + q .«replay_count»
+fileCount q =
+    oneIf (q .appending .some) + q .«read_queue» .count + oneIf (q .reading .some) + q .«cleanup_queue» .count + q .«log_pool» .count
+    + q .«replay_queue» .count
 
--- "room kept": each queue within its array ("pool .. at most 16"), and "At most 64 files"
+-- "room kept": each queue within its array, "pool .. at most 16", and "At most 64 files"
 unfoldable pub roomKept : Queues → Bool
 roomKept q =
-    leb (q .«read_count») 64 && (leb (q .«cleanup_count») 64 && (leb (q .«pool_count») 16 && (leb (q .«replay_count») 64 &&
-    leb (fileCount q) 64)))
+    leb (q .«read_queue» .count) 64 && (leb (q .«cleanup_queue» .count) 64 && (leb (q .«log_pool» .count) 16 &&
+    (leb (q .«replay_queue» .count) 64 && leb (fileCount q) 64)))
 
 -- "Rules of a state: room kept, .. each file in one place and below the next number, pool ascending and at most 16";
 -- "A file's size stays below 2^63." A call that is handed any other state answers 13

@@ -20,32 +20,35 @@ use Rattle.files.specs.declared.queues.Queues.{Queues}
 use Rattle.files.specs.declared.read.ReadNext.{ReadNext}
 
 -- "tries an opening": 14 for a "position beyond the log's end", and then as "The opening of a record" says
-unfoldable pub openingAt : List ℕ → ℕ → Bool → Step
-openingAt log position validate =
-    if ltb (length log) position then refused BadArgument else
-    opened log (readerAt position validate) (readAt (opening validate) position log)
+unfoldable pub openingAt : List ℕ → LogReader → Step
+openingAt log r =
+    if ltb (length log) (r .position) then refused BadArgument else
+    opened log r (readAt (opening (r .validate)) (r .position) log)
 
 -- the file being read, or the read queue's front
 unfoldable pub hasFile : Queues → Bool
-hasFile q = q .reading || not (eqb (q .«read_count») 0)
+hasFile q = q .reading .some || not (eqb (q .«read_queue» .count) 0)
 
 -- that file is the one being read
 unfoldable pub nowReading : Queues → Queues
-nowReading q = if q .reading then q else frontRead q
+nowReading q = if q .reading .some then q else frontRead q
 
 abbrev pub notRead : Answer → LogReader → Queues → ReadNext
 notRead answer reader q = record { answer = answer; number = 0; reader = reader; queues = q }
 
 -- "0 makes that the one being read, 1 sends the file to cleanup, other answers move nothing (the Rust moves the front: a listed difference)"
 unfoldable pub readBy : Queues → LogReader → Step → ReadNext
-readBy q reader (Took s) = record { answer = Done; number = nowReading q .«reading_id»; reader = s .reader; queues = nowReading q }
+readBy q reader (Took s) = record { answer = Done; number = nowReading q .reading .id; reader = s .reader; queues = nowReading q }
 readBy q reader (Refused f) = notRead (f .answer) reader (if eqb (numberOf (f .answer)) 1 then readingCleaned (nowReading q) else q)
 
 -- "at the host's position in the file being read, or else at 0 of the read queue's front"; "No file gives 1."
 -- Where nothing is opened, the reader stands at the host's position
+unfoldable pub readNextKept : Queues → List ℕ → ℕ → Bool → ReadNext
+readNextKept q log position validate =
+    if q .reading .some then readBy q (readerAt position validate) (openingAt log (readerAt position validate)) else
+    if eqb (q .«read_queue» .count) 0 then notRead EndOfLog (readerAt position validate) q else
+    readBy q (readerAt position validate) (openingAt log (readerAt 0 validate))
+
 unfoldable pub readNext : Queues → List ℕ → ℕ → Bool → ReadNext
 readNext q log position validate =
-    if not (queuesKept q) then notRead BadState (readerAt position validate) q else
-    if q .reading then readBy q (readerAt position validate) (openingAt log position validate) else
-    if eqb (q .«read_count») 0 then notRead EndOfLog (readerAt position validate) q else
-    readBy q (readerAt position validate) (openingAt log 0 validate)
+    if queuesKept q then readNextKept q log position validate else notRead BadState (readerAt position validate) q

@@ -1,15 +1,14 @@
 // The next record of the files that are read.
 ghost use mathlib.Core.Path.{_≡_};
-ghost use mathlib.Core.Bool.{true};
-ghost use Prim.Native.Nat.{_<_};
+ghost use mathlib.Core.Bool.{true, false};
+ghost use Prim.Native.Nat.{_≤_};
 ghost use Rattle.files.specs.Queues.{queuesKept};
 ghost use Rattle.files.specs.Moves.{frontRead};
-ghost use Rattle.files.specs.Read.{openingAt, hasFile, nowReading, notRead, readBy, readNext};
+ghost use Rattle.files.specs.Read.{openingAt, hasFile, nowReading, notRead, readBy, readNextKept, readNext};
 use super::queues::Queues;
+use super::queues::Reading;
 use answer::Answer;
 use directory::Directory;
-use directory::TableDescription;
-use directory::TableKind;
 use record::LogReader;
 use record::Step;
 
@@ -22,24 +21,11 @@ pub struct ReadNext {
 }
 
 // An opening looks at no table.
-fn no_tables() -> Directory {
-    let t = TableDescription {
-        kind: TableKind::Index,
-        number: 0,
-        column: 0,
-        count: 0,
-        length: 0,
-    };
-    Directory {
-        tables: [t; 16],
-        count: 0,
-    }
-}
-
-fn opening_at(log: &[u8], position: usize, validate: bool) -> Step
-    ensures { λ r. ⌜ r ≡ openingAt (now (log .entry)) position validate ⌝ }
+fn opening_at(log: &[u8], reader: LogReader) -> Step
+    requires { ⌜ reader .inside ≡ false ⌝ }
+    ensures { λ r. ⌜ r ≡ openingAt (now (log .entry)) reader ⌝ }
 {
-    LogReader::new(position, validate).step(no_tables(), log)
+    reader.step(Directory::new(), log)
 }
 
 impl Queues {
@@ -55,26 +41,20 @@ impl Queues {
     }
 
     fn front_read(self) -> Queues
-        requires { ⌜ (queuesKept self ≡ true) × (0 < self .«read_count») ⌝ }
+        requires { ⌜ self .«read_queue» .count ≤ 64 ⌝ }
         ensures { λ r. ⌜ r ≡ frontRead self ⌝ }
     {
-        let n = self.read_count;
-        let old = self.read_queue;
-        let mut files = self.read_queue;
-        numbers::copy(&mut files, 0, &old, 1, n - 1);
         let mut q = self;
-        q.read_count = n - 1;
-        q.read_queue = files;
-        q.reading = true;
-        q.reading_id = old[0];
+        q.read_queue = self.read_queue.without_first(1);
+        q.reading = Reading::file(self.read_queue.front());
         q
     }
 
     fn now_reading(self) -> Queues
-        requires { ⌜ (queuesKept self ≡ true) × (hasFile self ≡ true) ⌝ }
+        requires { ⌜ self .«read_queue» .count ≤ 64 ⌝ }
         ensures { λ r. ⌜ r ≡ nowReading self ⌝ }
     {
-        if self.reading {
+        if self.reading.some {
             return self;
         }
         self.front_read()
@@ -91,7 +71,7 @@ impl Queues {
                 let begun = s.reader;
                 ReadNext {
                     answer: Answer::Done,
-                    number: q.reading_id,
+                    number: q.reading.id,
                     reader: begun,
                     queues: q,
                 }
@@ -106,21 +86,28 @@ impl Queues {
         }
     }
 
+    pub fn read_next_kept(self, log: &[u8], position: usize, validate: bool) -> ReadNext
+        requires { ⌜ queuesKept self ≡ true ⌝ }
+        ensures { λ r. ⌜ r ≡ readNextKept self (now (log .entry)) position validate ⌝ }
+    {
+        let reader = LogReader::new(position, validate);
+        if self.reading.some {
+            let step = opening_at(log, reader);
+            return self.read(step, reader);
+        }
+        if self.read_queue.count == 0 {
+            return self.not_read(Answer::EndOfLog, reader);
+        }
+        let step = opening_at(log, LogReader::new(0, validate));
+        self.read(step, reader)
+    }
+
     pub fn read_next(self, log: &[u8], position: usize, validate: bool) -> ReadNext
         ensures { λ r. ⌜ r ≡ readNext self (now (log .entry)) position validate ⌝ }
     {
-        let reader = LogReader::new(position, validate);
         if !self.kept() {
-            return self.not_read(Answer::BadState, reader);
+            return self.not_read(Answer::BadState, LogReader::new(position, validate));
         }
-        if self.reading {
-            let step = opening_at(log, position, validate);
-            return self.read(step, reader);
-        }
-        if self.read_count == 0 {
-            return self.not_read(Answer::EndOfLog, reader);
-        }
-        let step = opening_at(log, 0, validate);
-        self.read(step, reader)
+        self.read_next_kept(log, position, validate)
     }
 }

@@ -1,13 +1,16 @@
 // The files that are read: the replay queue, the read queue, and the one being read.
 ghost use mathlib.Core.Path.{_≡_};
 ghost use mathlib.Core.Bool.{true};
-ghost use Prim.Native.Nat.{_<_};
+ghost use Prim.Native.Nat.{_+_, _≤_};
 ghost use lib.Dec.{ltb};
+ghost use Rattle.numbers.specs.Numbers.{oneIf};
 ghost use Rattle.files.specs.Queues.{queuesKept};
 ghost use Rattle.files.specs.Moves.{readingCleaned, frontReplayed, replayCleaned};
-ghost use Rattle.files.specs.Calls.{replayRecordId, replayNext, clearReplayLogs};
+ghost use Rattle.files.specs.Calls.{replayRecordId, noReplay, replayNextKept, replayNext, clearReplayLogsKept, clearReplayLogs};
 use super::queues::Queues;
+use super::queues::Reading;
 use answer::Answer;
+use numbers::NumberQueue;
 
 pub struct FirstId {
     pub found: bool,
@@ -15,7 +18,7 @@ pub struct FirstId {
 }
 
 // Whether there was a file to replay, and its number.
-pub struct Replayed {
+pub struct ReplayNext {
     pub answer: Answer,
     pub found: bool,
     pub number: u64,
@@ -29,21 +32,21 @@ pub struct ReplayCleared {
 
 impl Queues {
     pub fn num_dirty_logs(self) -> usize
-        ensures { λ r. ⌜ r ≡ self .«cleanup_count» ⌝ }
+        ensures { λ r. ⌜ r ≡ self .«cleanup_queue» .count ⌝ }
     {
-        self.cleanup_count
+        self.cleanup_queue.count
     }
 
     pub fn has_log_files_to_read(self) -> bool
-        ensures { λ r. ⌜ r ≡ ltb 0 (self .«read_count») ⌝ }
+        ensures { λ r. ⌜ r ≡ ltb 0 (self .«read_queue» .count) ⌝ }
     {
-        0 < self.read_count
+        0 < self.read_queue.count
     }
 
     pub fn replay_record_id(self) -> FirstId
         ensures { λ r. ⌜ r ≡ replayRecordId self ⌝ }
     {
-        if self.replay_count == 0 {
+        if self.replay_queue.count == 0 {
             return FirstId {
                 found: false,
                 id: 0,
@@ -57,86 +60,92 @@ impl Queues {
     }
 
     pub(crate) fn reading_cleaned(self) -> Queues
-        requires { ⌜ queuesKept self ≡ true ⌝ }
+        requires { ⌜ self .«cleanup_queue» .count + oneIf (self .reading .some) ≤ 64 ⌝ }
         ensures { λ r. ⌜ r ≡ readingCleaned self ⌝ }
     {
-        let n = self.cleanup_count;
-        let mut cleanup = self.cleanup_queue;
-        let k = numbers::add_one(&mut cleanup, n, self.reading, self.reading_id);
         let mut q = self;
-        q.cleanup_count = k;
-        q.cleanup_queue = cleanup;
-        q.reading = false;
-        q.reading_id = 0;
+        q.cleanup_queue = self.cleanup_queue
+            .push_if(self.reading.some, self.reading.id);
+        q.reading = Reading::none();
         q
     }
 
     fn front_replayed(self) -> Queues
-        requires { ⌜ (queuesKept self ≡ true) × (0 < self .«replay_count») ⌝ }
+        requires { ⌜ self .«replay_queue» .count ≤ 64 ⌝ }
         ensures { λ r. ⌜ r ≡ frontReplayed self ⌝ }
     {
-        let n = self.replay_count;
-        let old = self.replay_queue;
-        let mut files = self.replay_queue;
-        numbers::copy(&mut files, 0, &old, 1, n - 1);
-        let old_ids = self.replay_ids;
-        let mut ids = self.replay_ids;
-        numbers::copy(&mut ids, 0, &old_ids, 1, n - 1);
+        let numbers = self.replay_ids;
+        let ids = NumberQueue {
+            count: self.replay_queue.count,
+            numbers: numbers,
+        };
         let mut q = self;
-        q.replay_count = n - 1;
-        q.replay_queue = files;
-        q.replay_ids = ids;
-        q.reading = true;
-        q.reading_id = old[0];
+        q.replay_queue = self.replay_queue.without_first(1);
+        let rest = ids.without_first(1).numbers;
+        q.replay_ids = rest;
+        q.reading = Reading::file(self.replay_queue.front());
         q
     }
 
-    pub fn replay_next(self) -> Replayed
-        ensures { λ r. ⌜ r ≡ replayNext self ⌝ }
+    fn no_replay(self, answer: Answer) -> ReplayNext
+        ensures { λ r. ⌜ r ≡ noReplay answer self ⌝ }
     {
-        if !self.kept() {
-            return Replayed {
-                answer: Answer::BadState,
-                found: false,
-                number: 0,
-                queues: self,
-            };
+        ReplayNext {
+            answer: answer,
+            found: false,
+            number: 0,
+            queues: self,
         }
+    }
+
+    pub fn replay_next_kept(self) -> ReplayNext
+        requires { ⌜ queuesKept self ≡ true ⌝ }
+        ensures { λ r. ⌜ r ≡ replayNextKept self ⌝ }
+    {
         let q = self.reading_cleaned();
-        if self.replay_count == 0 {
-            return Replayed {
-                answer: Answer::Done,
-                found: false,
-                number: 0,
-                queues: q,
-            };
+        if self.replay_queue.count == 0 {
+            return q.no_replay(Answer::Done);
         }
-        let files = self.replay_queue;
-        Replayed {
+        ReplayNext {
             answer: Answer::Done,
             found: true,
-            number: files[0],
+            number: self.replay_queue.front(),
             queues: q.front_replayed(),
         }
     }
 
+    pub fn replay_next(self) -> ReplayNext
+        ensures { λ r. ⌜ r ≡ replayNext self ⌝ }
+    {
+        if !self.kept() {
+            return self.no_replay(Answer::BadState);
+        }
+        self.replay_next_kept()
+    }
+
     fn replay_cleaned(self) -> Queues
-        requires { ⌜ queuesKept self ≡ true ⌝ }
+        requires { ⌜ self .«cleanup_queue» .count + self .«replay_queue» .count ≤ 64 ⌝ }
         ensures { λ r. ⌜ r ≡ replayCleaned self ⌝ }
     {
-        let n = self.cleanup_count;
-        let m = self.replay_count;
-        let files = self.replay_queue;
-        let mut cleanup = self.cleanup_queue;
-        numbers::copy(&mut cleanup, n, &files, 0, m);
         let mut q = self;
-        q.cleanup_count = n + m;
-        q.cleanup_queue = cleanup;
-        q.replay_count = 0;
+        q.cleanup_queue = self.cleanup_queue.append(self.replay_queue);
+        q.replay_queue = self.replay_queue.clear();
         q
     }
 
     // The queues' part: the overlays are another state.
+    pub fn clear_replay_logs_kept(self) -> ReplayCleared
+        requires { ⌜ queuesKept self ≡ true ⌝ }
+        ensures { λ r. ⌜ r ≡ clearReplayLogsKept self ⌝ }
+    {
+        let mut q = self.reading_cleaned().replay_cleaned();
+        q.dirty = false;
+        ReplayCleared {
+            answer: Answer::Done,
+            queues: q,
+        }
+    }
+
     pub fn clear_replay_logs(self) -> ReplayCleared
         ensures { λ r. ⌜ r ≡ clearReplayLogs self ⌝ }
     {
@@ -146,11 +155,6 @@ impl Queues {
                 queues: self,
             };
         }
-        let mut q = self.reading_cleaned().replay_cleaned();
-        q.dirty = false;
-        ReplayCleared {
-            answer: Answer::Done,
-            queues: q,
-        }
+        self.clear_replay_logs_kept()
     }
 }

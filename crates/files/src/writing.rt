@@ -1,10 +1,11 @@
 // The file that records are appended to: flushed to the read queue, taken from the pool or new.
 ghost use mathlib.Core.Path.{_≡_};
-ghost use mathlib.Core.Bool.{true, false, _&&_};
-ghost use Prim.Native.Nat.{_≤_};
-ghost use lib.Dec.{eqb};
-ghost use Rattle.files.specs.Queues.{fileCount, queuesKept};
-ghost use Rattle.files.specs.Calls.{notFlushed, flushOne, needsNew, tookFrom, takenBy, notTaken, takeFile};
+ghost use mathlib.Core.Bool.{true, false};
+ghost use Prim.Native.Nat.{_+_, _<_};
+ghost use Rattle.files.specs.Queues.{sizeOf, queuesKept};
+ghost use Rattle.files.specs.Moves.{appendingQueued};
+ghost use Rattle.files.specs.Calls.{notFlushed, flushOneKept, flushOne, needsNew, fileSetFull, lacksNumber, filesUsedUp, tookFrom, takenBy, notTaken, takeFileKept, takeFile};
+use super::queues::Appending;
 use super::queues::Queues;
 use super::queues::wide;
 use answer::Answer;
@@ -43,43 +44,52 @@ impl Queues {
         }
     }
 
+    fn appending_queued(self) -> Queues
+        requires { ⌜ self .«read_queue» .count < 64 ⌝ }
+        ensures { λ r. ⌜ r ≡ appendingQueued self ⌝ }
+    {
+        let mut q = self;
+        q.read_queue = self.read_queue.push_back(self.appending.id);
+        q.appending = Appending::none();
+        q
+    }
+
+    pub fn flush_one_kept(self, min: u64) -> Flushed
+        requires { ⌜ queuesKept self ≡ true ⌝ }
+        ensures { λ r. ⌜ r ≡ flushOneKept self min ⌝ }
+    {
+        if self.size() <= min {
+            return self.not_flushed(Answer::Done);
+        }
+        Flushed {
+            answer: Answer::Done,
+            moved: true,
+            number: self.appending.id,
+            queues: self.appending_queued(),
+        }
+    }
+
     pub fn flush_one(self, min: u64) -> Flushed
         ensures { λ r. ⌜ r ≡ flushOne self min ⌝ }
     {
         if !self.kept() {
             return self.not_flushed(Answer::BadState);
         }
-        if self.size() <= min {
-            return self.not_flushed(Answer::Done);
-        }
-        let id = self.appending_id;
-        let n = self.read_count;
-        let mut q = self;
-        q.read_queue[n] = id;
-        q.read_count = n + 1;
-        q.appending = false;
-        q.appending_id = 0;
-        q.appending_size = 0;
-        Flushed {
-            answer: Answer::Done,
-            moved: true,
-            number: id,
-            queues: q,
-        }
+        self.flush_one_kept(min)
     }
 
     fn needs_new(self) -> bool
         ensures { λ r. ⌜ r ≡ needsNew self ⌝ }
     {
-        if self.appending {
+        if self.appending.some {
             return false;
         }
-        self.pool_count == 0
+        self.log_pool.count == 0
     }
 
-    fn lacks_room(self) -> bool
+    pub fn file_set_full(self) -> bool
         requires { ⌜ queuesKept self ≡ true ⌝ }
-        ensures { λ r. ⌜ r ≡ (needsNew self && eqb (fileCount self) 64) ⌝ }
+        ensures { λ r. ⌜ r ≡ fileSetFull self ⌝ }
     {
         if self.needs_new() {
             return self.file_count() == 64;
@@ -88,12 +98,22 @@ impl Queues {
     }
 
     fn lacks_number(self) -> bool
-        ensures { λ r. ⌜ r ≡ (needsNew self && eqb (self .«next_log_id») 4294967295) ⌝ }
+        ensures { λ r. ⌜ r ≡ lacksNumber self ⌝ }
     {
         if self.needs_new() {
             return self.next_log_id == 4294967295;
         }
         false
+    }
+
+    pub fn files_used_up(self, length: u64) -> bool
+        requires { ⌜ queuesKept self ≡ true ⌝ }
+        ensures { λ r. ⌜ r ≡ filesUsedUp self length ⌝ }
+    {
+        if self.lacks_number() {
+            return true;
+        }
+        9223372036854775808 - self.size() <= length
     }
 
     fn took(self, source: FileSource, number: u64) -> Taken
@@ -107,33 +127,35 @@ impl Queues {
         }
     }
 
-    // The file for the record, whose size is then as given.
-    fn taken(self, size: u64) -> Taken
-        requires { ⌜ (queuesKept self ≡ true) × ((needsNew self && eqb (self .«next_log_id») 4294967295) ≡ false) ⌝ }
-        ensures { λ r. ⌜ r ≡ takenBy self size ⌝ }
+    // The file with that number, of that size with the record.
+    fn grown(self, id: u64, size: u64) -> Queues
+        ensures { λ r. ⌜ r ≡ Rattle.files.specs.Calls.grown self id size ⌝ }
     {
         let mut q = self;
-        q.appending = true;
-        q.appending_size = size;
+        q.appending = Appending::file(id, size);
         q.dirty = true;
-        if self.appending {
-            return q.took(FileSource::Appending, self.appending_id);
+        q
+    }
+
+    // The file for a record of that length.
+    fn taken(self, length: u64) -> Taken
+        requires { ⌜ (queuesKept self ≡ true) × (filesUsedUp self length ≡ false) ⌝ }
+        ensures { λ r. ⌜ r ≡ takenBy self (sizeOf self + length) ⌝ }
+    {
+        let size = self.size() + length;
+        if self.appending.some {
+            let id = self.appending.id;
+            return self.grown(id, size).took(FileSource::Appending, id);
         }
-        let n = self.pool_count;
-        if n == 0 {
+        let mut q = self;
+        if self.log_pool.count == 0 {
             let id = wide(self.next_log_id);
-            q.appending_id = id;
             q.next_log_id = self.next_log_id + 1;
-            return q.took(FileSource::New, id);
+            return q.grown(id, size).took(FileSource::New, id);
         }
-        let old = self.log_pool;
-        let id = old[0];
-        let mut pool = self.log_pool;
-        numbers::copy(&mut pool, 0, &old, 1, n - 1);
-        q.appending_id = id;
-        q.log_pool = pool;
-        q.pool_count = n - 1;
-        q.took(FileSource::Pool, id)
+        let id = self.log_pool.front();
+        q.log_pool = self.log_pool.without_first(1);
+        q.grown(id, size).took(FileSource::Pool, id)
     }
 
     fn not_taken(self, answer: Answer) -> Taken
@@ -148,22 +170,25 @@ impl Queues {
     }
 
     // What the end of a record of that length needs of the files.
+    pub fn take_file_kept(self, length: u64) -> Taken
+        requires { ⌜ queuesKept self ≡ true ⌝ }
+        ensures { λ r. ⌜ r ≡ takeFileKept self length ⌝ }
+    {
+        if self.file_set_full() {
+            return self.not_taken(Answer::NoRoom);
+        }
+        if self.files_used_up(length) {
+            return self.not_taken(Answer::UsedUp);
+        }
+        self.taken(length)
+    }
+
     pub fn take_file(self, length: u64) -> Taken
         ensures { λ r. ⌜ r ≡ takeFile self length ⌝ }
     {
         if !self.kept() {
             return self.not_taken(Answer::BadState);
         }
-        if self.lacks_room() {
-            return self.not_taken(Answer::NoRoom);
-        }
-        if self.lacks_number() {
-            return self.not_taken(Answer::UsedUp);
-        }
-        let size = self.size();
-        if 9223372036854775808 - size <= length {
-            return self.not_taken(Answer::UsedUp);
-        }
-        self.taken(size + length)
+        self.take_file_kept(length)
     }
 }

@@ -1,3 +1,4 @@
 -- The laws, for other crates to cite.
 pub mod Laws
 pub mod Sort
+pub mod QueueLists

@@ -1,67 +1,110 @@
 -- `Queues::gather` meets its contract: the list grows by one place after the other. Assumes nothing.
-use borrow.Author.Needs.{needs}
-use mathlib.Core.Path.{sym, _∙_}
 use native.Mathlib.Omega.{arith}
-use denote.Ref.{now}
-use Rattle.files.proofs.Gather.{gathered}
+use mathlib.Core.Path.{_≡_, refl, sym, ap, _∙_}
+use Rattle.files.specs.Queues.{filesOf}
 use Rattle.files.proofs.Rule.{Sized, room-facts}
+use Rattle.files.proofs.Gather.{holds-new, holds-push, holds-append}
+use borrow.Author.Needs.{needs}
 use Rattle.files.proofs.queues.Queues.gather.Statement.{statement}
 use Rattle.files.proofs.queues.Queues.gather.Tie as tie
 use Rattle.files.proofs.queues.Queues.gather.Reads as reads
 use Rattle.files.proofs.queues.Queues.gather.Lts as lts
-use Rattle.numbers.proofs.add.Reads as add-reads
-use Rattle.numbers.proofs.add_one.Reads as add-one-reads
+use Rattle.numbers.proofs.queue.NumberQueue.append.Reads as append-reads
+use Rattle.numbers.proofs.queue.NumberQueue.new.Reads as new-reads
+use Rattle.numbers.proofs.queue.NumberQueue.push_if.Reads as push-if-reads
 
 sized : (s : tie.Start) → Sized (s .args .self)
-sized s = record { read = search needs; cleanup = search needs; pool = search needs; replay = search needs; ids = search needs }
+sized s = record { read = search needs; cleanup = search needs; pool = search needs; replay = search needs }
 
-add-one-requires : tie.Need-add-one-requires
-add-one-requires c κs = let f = room-facts (c .before .before .args .self) (c .before .before .pre .0) in omega (arith, f .all, c .before .before .pre .1)
+new-requires : tie.Need-new-requires
+new-requires c κs = search needs
 
-add-requires : tie.Need-add-requires
-add-requires c κs =
-    let f = room-facts (c .before .before .before .before .before .before .before .before .before .args .self) (c .before .before .before .before .before .before .before .before .before .pre .0) in
-    let l = sized (c .before .before .before .before .before .before .before .before .before) .read in
-    (omega (arith, f .all, c .before .before .before .before .before .before .before .before .before .pre .1, c .before .before .before .before .before .before .add-one .ensures .0), omega (arith, l, f .read))
+push-if-requires : tie.Need-push-if-requires
+push-if-requires c κs =
+    let q = c .before .args .self in
+    let f = room-facts q (c .before .pre) .all in
+    let h0 = holds-new _ (c .new .ensures) in
+    omega (arith, f, h0 .count)
 
-add-one-requires-2 : tie.Need-add-one-requires-2
-add-one-requires-2 c κs = let f = room-facts (c .before .before .before .before .before .before .before .before .before .before .before .before .before .args .self) (c .before .before .before .before .before .before .before .before .before .before .before .before .before .pre .0) in omega (arith, f .all, c .before .before .before .before .before .before .before .before .before .before .before .before .before .pre .1, c .before .before .before .before .before .before .before .before .before .before .add-one .ensures .0, c .before .before .before .add .ensures .0)
+append-requires : tie.Need-append-requires
+append-requires c κs =
+    let q = c .before .before .args .self in
+    let f = room-facts q (c .before .before .pre) .all in
+    let s = sized (c .before .before) in
+    let h0 = holds-new _ (c .before .new .ensures) in
+    let h1 = holds-push _ _ _ _ h0 (q .appending .some) (q .appending .id) (c .push-if .ensures) (omega (arith, f)) in
+    omega (arith, f, h1 .count)
 
-add-requires-2 : tie.Need-add-requires-2
-add-requires-2 c κs =
-    let f = room-facts (c .before .before .before .before .before .before .before .before .before .before .before .before .before .before .before .before .before .before .before .before .args .self) (c .before .before .before .before .before .before .before .before .before .before .before .before .before .before .before .before .before .before .before .before .pre .0) in
-    let l = sized (c .before .before .before .before .before .before .before .before .before .before .before .before .before .before .before .before .before .before .before .before) .cleanup in
-    (omega (arith, f .all, c .before .before .before .before .before .before .before .before .before .before .before .before .before .before .before .before .before .before .before .before .pre .1, c .before .before .before .before .before .before .before .before .before .before .before .before .before .before .before .before .before .add-one .ensures .0, c .before .before .before .before .before .before .before .before .before .before .add .ensures .0, c .before .before .before .before .before .before .add-one2 .ensures .0), omega (arith, l, f .cleanup))
+push-if-requires-2 : tie.Need-push-if-requires-2
+push-if-requires-2 c κs =
+    let q = c .before .before .before .args .self in
+    let f = room-facts q (c .before .before .before .pre) .all in
+    let s = sized (c .before .before .before) in
+    let h0 = holds-new _ (c .before .before .new .ensures) in
+    let h1 = holds-push _ _ _ _ h0 (q .appending .some) (q .appending .id) (c .before .push-if .ensures) (omega (arith, f)) in
+    let h2 = holds-append _ _ _ _ h1 (q .«read_queue») (c .append .ensures) (s .read) (omega (arith, f)) in
+    omega (arith, f, h2 .count)
 
-add-requires-3 : tie.Need-add-requires-3
-add-requires-3 c κs =
-    let f = room-facts (c .before .before .before .before .before .before .before .before .before .before .before .before .before .before .before .before .before .before .before .before .before .before .before .before .before .before .before .args .self) (c .before .before .before .before .before .before .before .before .before .before .before .before .before .before .before .before .before .before .before .before .before .before .before .before .before .before .before .pre .0) in
-    let l = sized (c .before .before .before .before .before .before .before .before .before .before .before .before .before .before .before .before .before .before .before .before .before .before .before .before .before .before .before) .pool in
-    (omega (arith, f .all, c .before .before .before .before .before .before .before .before .before .before .before .before .before .before .before .before .before .before .before .before .before .before .before .before .before .before .before .pre .1, c .before .before .before .before .before .before .before .before .before .before .before .before .before .before .before .before .before .before .before .before .before .before .before .before .add-one .ensures .0, c .before .before .before .before .before .before .before .before .before .before .before .before .before .before .before .before .before .add .ensures .0, c .before .before .before .before .before .before .before .before .before .before .before .before .before .add-one2 .ensures .0, c .before .before .before .before .before .before .add2 .ensures .0), omega (arith, l, f .pool))
+append-requires-2 : tie.Need-append-requires-2
+append-requires-2 c κs =
+    let q = c .before .before .before .before .args .self in
+    let f = room-facts q (c .before .before .before .before .pre) .all in
+    let s = sized (c .before .before .before .before) in
+    let h0 = holds-new _ (c .before .before .before .new .ensures) in
+    let h1 = holds-push _ _ _ _ h0 (q .appending .some) (q .appending .id) (c .before .before .push-if .ensures) (omega (arith, f)) in
+    let h2 = holds-append _ _ _ _ h1 (q .«read_queue») (c .before .append .ensures) (s .read) (omega (arith, f)) in
+    let h3 = holds-push _ _ _ _ h2 (q .reading .some) (q .reading .id) (c .push-if2 .ensures) (omega (arith, f)) in
+    omega (arith, f, h3 .count)
 
-add-requires-4 : tie.Need-add-requires-4
-add-requires-4 c κs =
-    let f = room-facts (c .before .before .before .before .before .before .before .before .before .before .before .before .before .before .before .before .before .before .before .before .before .before .before .before .before .before .before .before .before .before .before .before .before .before .args .self) (c .before .before .before .before .before .before .before .before .before .before .before .before .before .before .before .before .before .before .before .before .before .before .before .before .before .before .before .before .before .before .before .before .before .before .pre .0) in
-    let l = sized (c .before .before .before .before .before .before .before .before .before .before .before .before .before .before .before .before .before .before .before .before .before .before .before .before .before .before .before .before .before .before .before .before .before .before) .replay in
-    (omega (arith, f .all, c .before .before .before .before .before .before .before .before .before .before .before .before .before .before .before .before .before .before .before .before .before .before .before .before .before .before .before .before .before .before .before .before .before .before .pre .1, c .before .before .before .before .before .before .before .before .before .before .before .before .before .before .before .before .before .before .before .before .before .before .before .before .before .before .before .before .before .before .before .add-one .ensures .0, c .before .before .before .before .before .before .before .before .before .before .before .before .before .before .before .before .before .before .before .before .before .before .before .before .add .ensures .0, c .before .before .before .before .before .before .before .before .before .before .before .before .before .before .before .before .before .before .before .before .add-one2 .ensures .0, c .before .before .before .before .before .before .before .before .before .before .before .before .before .add2 .ensures .0, c .before .before .before .before .before .before .add3 .ensures .0), omega (arith, l, f .replay))
+append-requires-3 : tie.Need-append-requires-3
+append-requires-3 c κs =
+    let q = c .before .before .before .before .before .args .self in
+    let f = room-facts q (c .before .before .before .before .before .pre) .all in
+    let s = sized (c .before .before .before .before .before) in
+    let h0 = holds-new _ (c .before .before .before .before .new .ensures) in
+    let h1 = holds-push _ _ _ _ h0 (q .appending .some) (q .appending .id) (c .before .before .before .push-if .ensures) (omega (arith, f)) in
+    let h2 = holds-append _ _ _ _ h1 (q .«read_queue») (c .before .before .append .ensures) (s .read) (omega (arith, f)) in
+    let h3 = holds-push _ _ _ _ h2 (q .reading .some) (q .reading .id) (c .before .push-if2 .ensures) (omega (arith, f)) in
+    let h4 = holds-append _ _ _ _ h3 (q .«cleanup_queue») (c .append2 .ensures) (s .cleanup) (omega (arith, f)) in
+    omega (arith, f, h4 .count)
 
-same-length : tie.Need-same-length
-same-length c = gathered (c .before .before .before .before .before .before .before .before .before .before .before .before .before .before .before .before .before .before .before .before .before .before .before .before .before .before .before .before .before .before .before .before .before .before .before .before .before .args .self) (sized (c .before .before .before .before .before .before .before .before .before .before .before .before .before .before .before .before .before .before .before .before .before .before .before .before .before .before .before .before .before .before .before .before .before .before .before .before .before)) (room-facts (c .before .before .before .before .before .before .before .before .before .before .before .before .before .before .before .before .before .before .before .before .before .before .before .before .before .before .before .before .before .before .before .before .before .before .before .before .before .args .self) (c .before .before .before .before .before .before .before .before .before .before .before .before .before .before .before .before .before .before .before .before .before .before .before .before .before .before .before .before .before .before .before .before .before .before .before .before .before .pre .0)) (now (c .before .before .before .before .before .before .before .before .before .before .before .before .before .before .before .before .before .before .before .before .before .before .before .before .before .before .before .before .before .before .before .before .before .before .before .before .before .args .all)) _ _ _ _ _ _ _ _ _ _ _ _ (c .before .before .before .before .before .before .before .before .before .before .before .before .before .before .before .before .before .before .before .before .before .before .before .before .before .before .before .before .before .before .before .before .before .before .before .before .before .pre .1) (c .before .before .before .before .before .before .before .before .before .before .before .before .before .before .before .before .before .before .before .before .before .before .before .before .before .before .before .before .before .before .before .before .before .before .add-one .ensures) (c .before .before .before .before .before .before .before .before .before .before .before .before .before .before .before .before .before .before .before .before .before .before .before .before .before .before .before .add .ensures) (c .before .before .before .before .before .before .before .before .before .before .before .before .before .before .before .before .before .before .before .before .before .before .before .add-one2 .ensures) (c .before .before .before .before .before .before .before .before .before .before .before .before .before .before .before .before .add2 .ensures) (c .before .before .before .before .before .before .before .before .before .add3 .ensures) (c .before .before .add4 .ensures) .2 ∙ sym (c .before .before .before .before .before .before .before .before .before .before .before .before .before .before .before .before .before .before .before .before .before .before .before .before .before .before .before .before .before .before .before .before .before .before .before .before .before .pre .1)
+append-requires-4 : tie.Need-append-requires-4
+append-requires-4 c κs =
+    let q = c .before .before .before .before .before .before .args .self in
+    let f = room-facts q (c .before .before .before .before .before .before .pre) .all in
+    let s = sized (c .before .before .before .before .before .before) in
+    let h0 = holds-new _ (c .before .before .before .before .before .new .ensures) in
+    let h1 = holds-push _ _ _ _ h0 (q .appending .some) (q .appending .id) (c .before .before .before .before .push-if .ensures) (omega (arith, f)) in
+    let h2 = holds-append _ _ _ _ h1 (q .«read_queue») (c .before .before .before .append .ensures) (s .read) (omega (arith, f)) in
+    let h3 = holds-push _ _ _ _ h2 (q .reading .some) (q .reading .id) (c .before .before .push-if2 .ensures) (omega (arith, f)) in
+    let h4 = holds-append _ _ _ _ h3 (q .«cleanup_queue») (c .before .append2 .ensures) (s .cleanup) (omega (arith, f)) in
+    let h5 = holds-append _ _ _ _ h4 (q .«log_pool») (c .append3 .ensures) (s .pool) (omega (arith, f)) in
+    omega (arith, f, h5 .count)
 
 returns : tie.Need-returns
+unfolding filesOf
 returns c =
-    let g = gathered (c .before .before .before .before .before .before .before .before .before .before .before .before .before .before .before .before .before .before .before .before .before .before .before .before .before .before .before .before .before .before .before .before .before .before .before .before .before .args .self) (sized (c .before .before .before .before .before .before .before .before .before .before .before .before .before .before .before .before .before .before .before .before .before .before .before .before .before .before .before .before .before .before .before .before .before .before .before .before .before)) (room-facts (c .before .before .before .before .before .before .before .before .before .before .before .before .before .before .before .before .before .before .before .before .before .before .before .before .before .before .before .before .before .before .before .before .before .before .before .before .before .args .self) (c .before .before .before .before .before .before .before .before .before .before .before .before .before .before .before .before .before .before .before .before .before .before .before .before .before .before .before .before .before .before .before .before .before .before .before .before .before .pre .0)) (now (c .before .before .before .before .before .before .before .before .before .before .before .before .before .before .before .before .before .before .before .before .before .before .before .before .before .before .before .before .before .before .before .before .before .before .before .before .before .args .all)) _ _ _ _ _ _ _ _ _ _ _ _ (c .before .before .before .before .before .before .before .before .before .before .before .before .before .before .before .before .before .before .before .before .before .before .before .before .before .before .before .before .before .before .before .before .before .before .before .before .before .pre .1) (c .before .before .before .before .before .before .before .before .before .before .before .before .before .before .before .before .before .before .before .before .before .before .before .before .before .before .before .before .before .before .before .before .before .before .add-one .ensures) (c .before .before .before .before .before .before .before .before .before .before .before .before .before .before .before .before .before .before .before .before .before .before .before .before .before .before .before .add .ensures) (c .before .before .before .before .before .before .before .before .before .before .before .before .before .before .before .before .before .before .before .before .before .before .before .add-one2 .ensures) (c .before .before .before .before .before .before .before .before .before .before .before .before .before .before .before .before .add2 .ensures) (c .before .before .before .before .before .before .before .before .before .add3 .ensures) (c .before .before .add4 .ensures) in
-    (g .0, g .1)
+    let q = c .before .before .before .before .before .before .before .args .self in
+    let f = room-facts q (c .before .before .before .before .before .before .before .pre) .all in
+    let s = sized (c .before .before .before .before .before .before .before) in
+    let h0 = holds-new _ (c .before .before .before .before .before .before .new .ensures) in
+    let h1 = holds-push _ _ _ _ h0 (q .appending .some) (q .appending .id) (c .before .before .before .before .before .push-if .ensures) (omega (arith, f)) in
+    let h2 = holds-append _ _ _ _ h1 (q .«read_queue») (c .before .before .before .before .append .ensures) (s .read) (omega (arith, f)) in
+    let h3 = holds-push _ _ _ _ h2 (q .reading .some) (q .reading .id) (c .before .before .before .push-if2 .ensures) (omega (arith, f)) in
+    let h4 = holds-append _ _ _ _ h3 (q .«cleanup_queue») (c .before .before .append2 .ensures) (s .cleanup) (omega (arith, f)) in
+    let h5 = holds-append _ _ _ _ h4 (q .«log_pool») (c .before .append3 .ensures) (s .pool) (omega (arith, f)) in
+    let h6 = holds-append _ _ _ _ h5 (q .«replay_queue») (c .append4 .ensures) (s .replay) (omega (arith, f)) in
+    (omega (arith, f, h6 .count), h6 .list)
 
 pub gather-spec : {M : Type 1} → statement M
 gather-spec =
     tie.close
     (tie.spec
-    add-one-requires
-    add-requires
-    add-one-requires-2
-    add-requires-2
-    add-requires-3
-    add-requires-4
-    same-length
+    new-requires
+    push-if-requires
+    append-requires
+    push-if-requires-2
+    append-requires-2
+    append-requires-3
+    append-requires-4
     returns)

@@ -1,7 +1,7 @@
 -- `Queues::kept` meets its contract: the five rules in turn. Assumes nothing.
 use Prim.Native.Nat.{ℕ}
-use mathlib.Core.Path.{_≡_, sym, ap, _∙_}
 use native.Mathlib.Omega.{arith}
+use mathlib.Core.Path.{_≡_, refl, sym, ap, _∙_}
 use borrow.Author.Tests.{not-true, not-false}
 use lib.Dec.{ltb}
 use lib.ListN.{length}
@@ -28,11 +28,8 @@ returns : tie.Need-returns
 unfolding queuesKept
 returns c = rw (sym (c .before .room-kept .ensures) ∙ not-true _ (c .if1 .taken))
 
-slice-aggregate-gather : tie.Need-slice-aggregate-gather
-slice-aggregate-gather c = search needs
-
 gather-requires : tie.Need-gather-requires
-gather-requires c κs = (sym (c .before .before .room-kept .ensures) ∙ not-false _ (c .before .if1 .left), search needs)
+gather-requires c κs = sym (c .before .room-kept .ensures) ∙ not-false _ (c .if1 .left)
 
 slice-aggregate-all-below : tie.Need-slice-aggregate-all-below
 slice-aggregate-all-below c = search needs
@@ -41,57 +38,35 @@ wide-requires : tie.Need-wide-requires
 wide-requires c κs = search needs
 
 all-below-requires : tie.Need-all-below-requires
-all-below-requires c κs = search needs
+all-below-requires c κs = let l : length (c .before .before .before .gather .result .numbers) ≡ 64 = search needs in omega (arith, l, c .before .before .before .gather .ensures .0)
 
 returns-2 : tie.Need-returns-2
 unfolding queuesKept
-returns-2 c =
-    rw (sym (c .before .before .before .before .before .before .before .before .room-kept .ensures) ∙ not-false _ (c .before .before .before .before .before .before .before .if1 .left), below-as _ _ _ _ _ (c .before .before .wide .ensures) (c .before .before .before .before .before .gather .ensures .1) (c .before .all-below .ensures) ∙ not-true _ (c .if2 .taken))
+returns-2 c = rw (sym (c .before .before .before .before .before .before .before .room-kept .ensures) ∙ not-false _ (c .before .before .before .before .before .before .if1 .left), below-as _ _ _ _ _ (c .before .before .wide .ensures) (c .before .before .before .before .before .gather .ensures .1) (c .before .all-below .ensures) ∙ not-true _ (c .if2 .taken))
 
 slice-aggregate-no-twice : tie.Need-slice-aggregate-no-twice
 slice-aggregate-no-twice c = search needs
 
 no-twice-requires : tie.Need-no-twice-requires
-no-twice-requires c κs = search needs
+no-twice-requires c κs = let l : length (c .before .before .before .before .before .before .gather .result .numbers) ≡ 64 = search needs in omega (arith, l, c .before .before .before .before .before .before .gather .ensures .0)
 
 returns-3 : tie.Need-returns-3
 unfolding queuesKept
-returns-3 c =
-    rw (
-      sym (c .before .before .before .before .before .before .before .before .before .before .before .room-kept .ensures) ∙ not-false _ (c .before .before .before .before .before .before .before .before .before .before .if1 .left),
-      below-as _ _ _ _ _ (c .before .before .before .before .before .wide .ensures) (c .before .before .before .before .before .before .before .before .gather .ensures .1) (c .before .before .before .before .all-below .ensures) ∙ not-false _ (c .before .before .before .if2 .left),
-      sym (c .before .no-twice .ensures ∙ ap distinct (c .before .before .before .before .before .before .before .before .gather .ensures .1)) ∙ not-true _ (c .if3 .taken),
-    )
+returns-3 c = rw (sym (c .before .before .before .before .before .before .before .before .before .before .room-kept .ensures) ∙ not-false _ (c .before .before .before .before .before .before .before .before .before .if1 .left), below-as _ _ _ _ _ (c .before .before .before .before .before .wide .ensures) (c .before .before .before .before .before .before .before .before .gather .ensures .1) (c .before .before .before .before .all-below .ensures) ∙ not-false _ (c .before .before .before .if2 .left), sym (c .before .no-twice .ensures ∙ ap distinct (c .before .before .before .before .before .before .before .before .gather .ensures .1)) ∙ not-true _ (c .if3 .taken))
 
 rises-requires : tie.Need-rises-requires
-rises-requires c κs =
-    let r = room-facts (c .before .before .before .before .before .before .before .before .before .before .before .before .before .before .before .args .self) (sym (c .before .before .before .before .before .before .before .before .before .before .before .before .before .before .room-kept .ensures) ∙ not-false _ (c .before .before .before .before .before .before .before .before .before .before .before .before .before .if1 .left)) in
-    let l : length (c .before .before .before .before .before .before .before .before .before .before .before .before .before .before .before .args .self .«log_pool») ≡ 16 = search needs in
-    omega (arith, r .pool, l)
+rises-requires c κs = let l : length (c .before .before .before .before .before .before .before .before .before .before .before .before .before .before .before .args .self .«log_pool» .numbers) ≡ 64 = search needs in omega (arith, l, room-facts (c .before .before .before .before .before .before .before .before .before .before .before .before .before .before .before .args .self) (sym (c .before .before .before .before .before .before .before .before .before .before .before .before .before .before .room-kept .ensures) ∙ not-false _ (c .before .before .before .before .before .before .before .before .before .before .before .before .before .if1 .left)) .pool)
 
 returns-4 : tie.Need-returns-4
 unfolding queuesKept
-returns-4 c =
-    rw (
-      sym (c .before .before .before .before .before .before .before .before .before .before .before .before .before .before .before .before .room-kept .ensures) ∙ not-false _ (c .before .before .before .before .before .before .before .before .before .before .before .before .before .before .before .if1 .left),
-      below-as _ _ _ _ _ (c .before .before .before .before .before .before .before .before .before .before .wide .ensures) (c .before .before .before .before .before .before .before .before .before .before .before .before .before .gather .ensures .1) (c .before .before .before .before .before .before .before .before .before .all-below .ensures) ∙ not-false _ (c .before .before .before .before .before .before .before .before .if2 .left),
-      sym (c .before .before .before .before .before .before .no-twice .ensures ∙ ap distinct (c .before .before .before .before .before .before .before .before .before .before .before .before .before .gather .ensures .1)) ∙ not-false _ (c .before .before .before .before .before .if3 .left),
-      sym (c .before .rises .ensures) ∙ not-true _ (c .if4 .taken),
-    )
+returns-4 c = rw (sym (c .before .before .before .before .before .before .before .before .before .before .before .before .before .before .before .before .room-kept .ensures) ∙ not-false _ (c .before .before .before .before .before .before .before .before .before .before .before .before .before .before .before .if1 .left), below-as _ _ _ _ _ (c .before .before .before .before .before .before .before .before .before .before .before .wide .ensures) (c .before .before .before .before .before .before .before .before .before .before .before .before .before .before .gather .ensures .1) (c .before .before .before .before .before .before .before .before .before .before .all-below .ensures) ∙ not-false _ (c .before .before .before .before .before .before .before .before .before .if2 .left), sym (c .before .before .before .before .before .before .before .no-twice .ensures ∙ ap distinct (c .before .before .before .before .before .before .before .before .before .before .before .before .before .before .gather .ensures .1)) ∙ not-false _ (c .before .before .before .before .before .before .if3 .left), sym (c .before .rises .ensures) ∙ not-true _ (c .if4 .taken))
 
 size-requires : tie.Need-size-requires
 size-requires c κs = search needs
 
 returns-5 : tie.Need-returns-5
 unfolding queuesKept
-returns-5 c =
-    rw (
-      sym (c .before .before .before .before .before .before .before .before .before .before .before .before .before .before .before .before .before .room-kept .ensures) ∙ not-false _ (c .before .before .before .before .before .before .before .before .before .before .before .before .before .before .before .before .if1 .left),
-      below-as _ _ _ _ _ (c .before .before .before .before .before .before .before .before .before .before .before .wide .ensures) (c .before .before .before .before .before .before .before .before .before .before .before .before .before .before .gather .ensures .1) (c .before .before .before .before .before .before .before .before .before .before .all-below .ensures) ∙ not-false _ (c .before .before .before .before .before .before .before .before .before .if2 .left),
-      sym (c .before .before .before .before .before .before .before .no-twice .ensures ∙ ap distinct (c .before .before .before .before .before .before .before .before .before .before .before .before .before .before .gather .ensures .1)) ∙ not-false _ (c .before .before .before .before .before .before .if3 .left),
-      sym (c .before .before .rises .ensures) ∙ not-false _ (c .before .if4 .left),
-    )
-    (ap (λ (n : ℕ). ltb n 9223372036854775808) (c .size .ensures))
+returns-5 c = rw (sym (c .before .before .before .before .before .before .before .before .before .before .before .before .before .before .before .before .before .room-kept .ensures) ∙ not-false _ (c .before .before .before .before .before .before .before .before .before .before .before .before .before .before .before .before .if1 .left), below-as _ _ _ _ _ (c .before .before .before .before .before .before .before .before .before .before .before .before .wide .ensures) (c .before .before .before .before .before .before .before .before .before .before .before .before .before .before .before .gather .ensures .1) (c .before .before .before .before .before .before .before .before .before .before .before .all-below .ensures) ∙ not-false _ (c .before .before .before .before .before .before .before .before .before .before .if2 .left), sym (c .before .before .before .before .before .before .before .before .no-twice .ensures ∙ ap distinct (c .before .before .before .before .before .before .before .before .before .before .before .before .before .before .before .gather .ensures .1)) ∙ not-false _ (c .before .before .before .before .before .before .before .if3 .left), sym (c .before .before .rises .ensures) ∙ not-false _ (c .before .if4 .left)) (ap (λ (n : ℕ). ltb n 9223372036854775808) (c .size .ensures))
 
 pub kept-spec : {M : Type 1} → statement M
 kept-spec =
@@ -99,7 +74,6 @@ kept-spec =
     (tie.spec
     room-kept-requires
     returns
-    slice-aggregate-gather
     gather-requires
     slice-aggregate-all-below
     wide-requires

@@ -1,5 +1,6 @@
 -- `Queues::lacks_number` meets its contract. Assumes nothing.
-use mathlib.Core.Path.{sym, _∙_}
+use mathlib.Core.Path.{_≡_, refl, sym, ap, _∙_}
+use Rattle.files.specs.Calls.{lacksNumber}
 use borrow.Author.Needs.{needs}
 use Rattle.files.proofs.queues.Queues.lacks_number.Statement.{statement}
 use Rattle.files.proofs.queues.Queues.lacks_number.Tie as tie
@@ -11,9 +12,11 @@ needs-new-requires : tie.Need-needs-new-requires
 needs-new-requires c κs = search needs
 
 returns : tie.Need-returns
+unfolding lacksNumber
 returns c = rw (sym (c .before .before .needs-new .ensures) ∙ c .before .if1 .taken)
 
 returns-2 : tie.Need-returns-2
+unfolding lacksNumber
 returns-2 c = rw (sym (c .before .needs-new .ensures) ∙ c .if1 .left)
 
 pub lacks-number-spec : {M : Type 1} → statement M

@@ -1,10 +1,14 @@
 -- `Queues::open` meets its contract. Assumes nothing.
-use mathlib.Core.Path.{ap, _∙_}
+use mathlib.Core.Path.{_≡_, refl, sym, ap, _∙_}
 use Rattle.files.specs.Open.{openedBy, openLogs}
 use Rattle.files.specs.declared.queues.Queues.{Queues}
 use borrow.Author.Needs.{needs}
 use Rattle.files.proofs.queues.Queues.open.Statement.{statement}
 use Rattle.files.proofs.queues.Queues.open.Tie as tie
+use Rattle.files.proofs.queues.Queues.open.Reads as reads
+use Rattle.files.proofs.queues.Queues.open.Lts as lts
+use Rattle.files.proofs.open.opened_with.Reads as opened-with-reads
+use Rattle.found.proofs.log_files.Reads as log-files-reads
 
 log-files-requires : tie.Need-log-files-requires
 log-files-requires c κs = search needs

@@ -1,27 +1,26 @@
 -- `Queues::read` meets its contract: what was opened, the end of a log, any other refusal. Assumes nothing.
-use mathlib.Core.Path.{sym, ap, _∙_}
+use Prim.Native.Nat.{ℕ, _+_}
+use native.Mathlib.Omega.{arith}
+use mathlib.Core.Path.{_≡_, refl, sym, ap, _∙_}
 use Rattle.answer.specs.declared.answer.Answer.the-variants.{Done}
-use Rattle.files.specs.Queues.{queuesKept}
+use Rattle.numbers.specs.Numbers.{oneIf}
 use Rattle.files.specs.Moves.{readingCleaned}
 use Rattle.files.specs.Read.{nowReading, notRead, readBy}
 use Rattle.files.specs.declared.queues.Queues.{Queues}
-use Rattle.files.proofs.Rule.{Sized, kept-facts, kept-makes}
-use Rattle.files.proofs.ReadKept.{now-kept, at-end, not-at-end}
+use Rattle.files.proofs.Rule.{kept-facts}
+use Rattle.files.proofs.ReadOf.{now-room, at-end, not-at-end}
 use borrow.Author.Needs.{needs}
 use Rattle.files.proofs.queues.Queues.read.Statement.{statement}
 use Rattle.files.proofs.queues.Queues.read.Tie as tie
 use Rattle.files.proofs.queues.Queues.read.Reads as reads
 use Rattle.files.proofs.queues.Queues.read.Lts as lts
+use Rattle.answer.proofs.answer.Answer.number.Reads as number-reads
 use Rattle.files.proofs.queues.Queues.not_read.Reads as not-read-reads
 use Rattle.files.proofs.queues.Queues.now_reading.Reads as now-reading-reads
 use Rattle.files.proofs.queues.Queues.reading_cleaned.Reads as reading-cleaned-reads
-use Rattle.answer.proofs.answer.Answer.number.Reads as number-reads
-
-sized : (s : tie.Start) → Sized (s .args .self)
-sized s = record { read = search needs; cleanup = search needs; pool = search needs; replay = search needs; ids = search needs }
 
 now-reading-requires : tie.Need-now-reading-requires
-now-reading-requires c κs = search needs
+now-reading-requires c κs = kept-facts (c .args .self) (c .pre .0) .room .read
 
 enum-known-step : tie.Need-enum-known-step
 enum-known-step c = search needs
@@ -35,7 +34,7 @@ number-requires c κs = search needs
 reading-cleaned-requires : tie.Need-reading-cleaned-requires
 reading-cleaned-requires c κs =
     let q = c .before .before .before .before .before .before .args .self in
-    ap queuesKept (c .before .before .before .before .before .now-reading .ensures) ∙ kept-makes (nowReading q) (now-kept q (sized (c .before .before .before .before .before .before)) (kept-facts q (c .before .before .before .before .before .before .pre .0)) (c .before .before .before .before .before .before .pre .1))
+    omega (arith, ap (λ (x : Queues). x .«cleanup_queue» .count + oneIf (x .reading .some)) (c .before .before .before .before .before .now-reading .ensures), now-room q (kept-facts q (c .before .before .before .before .before .before .pre .0) .room) (c .before .before .before .before .before .before .pre .1))
 
 not-read-requires : tie.Need-not-read-requires
 not-read-requires c κs = search needs
@@ -56,7 +55,7 @@ returns-2 : tie.Need-returns-2
 unfolding readBy
 returns-2 c =
     let q = c .before .before .before .before .before .args .self in
-    ap (λ (x : Queues). record { answer = Done; number = x .«reading_id»; reader = c .before .before .step .given .0 .0 .reader; queues = x }) (c .before .before .before .before .now-reading .ensures)
+    ap (λ (x : Queues). record { answer = Done; number = x .reading .id; reader = c .before .before .step .given .0 .0 .reader; queues = x }) (c .before .before .before .before .now-reading .ensures)
     ∙ ap (readBy q (c .before .before .before .before .before .args .reader)) (sym (c .before .before .step .given .1))
 
 returns-3 : tie.Need-returns-3

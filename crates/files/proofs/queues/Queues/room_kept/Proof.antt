@@ -22,7 +22,7 @@ returns-2 c = rw (le-leb _ _ (c .before .before .if1 .left), lt-leb _ _ (c .if2 
 
 returns-3 : tie.Need-returns-3
 unfolding roomKept
-returns-3 c = rw (le-leb _ _ (c .before .before .before .before .if1 .left), le-leb _ _ (c .before .before .if2 .left), lt-leb (c .before .before .before .before .before .before .args .self .«pool_count») 16 (omega (arith, c .if3 .taken)))
+returns-3 c = rw (le-leb _ _ (c .before .before .before .before .if1 .left), le-leb _ _ (c .before .before .if2 .left), lt-leb (c .before .before .before .before .before .before .args .self .«log_pool» .count) 16 (omega (arith, c .if3 .taken)))
 
 returns-4 : tie.Need-returns-4
 unfolding roomKept
@@ -33,9 +33,7 @@ file-count-requires c κs = search needs
 
 returns-5 : tie.Need-returns-5
 unfolding roomKept
-returns-5 c =
-    rw (le-leb _ _ (c .before .before .before .before .before .before .before .if1 .left), le-leb _ _ (c .before .before .before .before .before .if2 .left), le-leb _ _ (c .before .before .before .if3 .left), le-leb _ _ (c .before .if4 .left))
-    (ap (λ (n : ℕ). leb n 64) (c .file-count .ensures))
+returns-5 c = rw (le-leb _ _ (c .before .before .before .before .before .before .before .if1 .left), le-leb _ _ (c .before .before .before .before .before .if2 .left), le-leb _ _ (c .before .before .before .if3 .left), le-leb _ _ (c .before .if4 .left)) (ap (λ (n : ℕ). leb n 64) (c .file-count .ensures))
 
 pub room-kept-spec : {M : Type 1} → statement M
 room-kept-spec =

@@ -1,0 +1,16 @@
+-- `Queues::grown` meets its contract. Assumes nothing.
+use borrow.Author.Needs.{needs}
+use Rattle.files.proofs.queues.Queues.grown.Statement.{statement}
+use Rattle.files.proofs.queues.Queues.grown.Tie as tie
+use Rattle.files.proofs.queues.Queues.grown.Reads as reads
+use Rattle.files.proofs.queues.Queues.grown.Lts as lts
+use Rattle.files.proofs.queues.Appending.file.Reads as file-reads
+
+file-requires : tie.Need-file-requires
+file-requires c κs = search needs
+
+returns : tie.Need-returns
+returns c = cc
+
+pub grown-spec : {M : Type 1} → statement M
+grown-spec = tie.close (tie.spec file-requires returns)
