@@ -21,8 +21,8 @@ use Rattle.overlay.proofs.Ruled.{shows}
 use Rattle.memory.specs.Parts.{spanOf}
 use Rattle.memory.specs.declared.span.Holder.the-variants as holder
 use Rattle.putting.specs.Listed.{passes, putPlace, putPlaces, putListed}
-use Rattle.putting.specs.Inner.{Placed}
-use Rattle.putting.proofs.Places.{order-holds, placed}
+use Rattle.change.proofs.Listed.{Placed, placed}
+use Rattle.putting.proofs.Places.{order-holds}
 use Rattle.putting.proofs.Puts.{isSome, has-found, Going, listedEntry, found-placed, goes-on, going-first}
 
 not-some : (v : Option Entry) → isSome v ≡ false → v ≡ none

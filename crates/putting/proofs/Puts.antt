@@ -24,10 +24,11 @@ use Rattle.memory.specs.Parts.{Parts, spanOf, ofKind, withKind, partsKept, Take
 use Rattle.memory.specs.declared.span.Holder.the-variants as holder
 use Rattle.memory.proofs.Spans.{with-kept}
 use Rattle.putting.specs.Listed.{keysHeld, passes, storedAt, putPlace, putPlaces}
-use Rattle.putting.specs.Inner.{Placed, rowAt, rowPut, listPut, RowGoes, KindGoes}
+use Rattle.putting.specs.Inner.{rowAt, rowPut, listPut, RowGoes, KindGoes}
 use Rattle.putting.specs.declared.place.Row.{Row}
+use Rattle.change.proofs.Listed.{Placed, placed}
 use Rattle.putting.proofs.OneKind.{of-with, with-with, with-of, kind-kept, shared-room}
-use Rattle.putting.proofs.Places.{order-word, order-holds, placed, bytes-long, bytes-fit, table-small, row-goes, row-put}
+use Rattle.putting.proofs.Places.{order-word, order-holds, bytes-long, bytes-fit, table-small, row-goes, row-put}
 
 -- whether a lookup finds something
 abbrev pub isSome : Option Entry → Bool
@@ -121,7 +122,7 @@ module _ (kind : TableKind) (list : Overlay) (ps : List ℕ) (p : ℕ) (o : Over
     kept-on : overlayKept kind (spanOf holder.Shared kind .room) (putPlace kind id list p o) ≡ true
     unfolding putPlace
     kept-on =
-        put-kept kind (spanOf holder.Shared kind .room) o (g .kept) (getD (list .rows) (4 * p) 0) (getD (list .rows) (4 * p + 1) 0) id (markAt (list .rows) p) (storedAt kind list p) (bytes-fit kind room list p ready) finds-room (ready .table) (ready .mark)
+        put-kept kind (spanOf holder.Shared kind .room) o (g .kept) (getD (list .rows) (4 * p) 0) (getD (list .rows) (4 * p + 1) 0) id (markAt (list .rows) p) (storedAt kind list p) (bytes-fit kind room list p ready) finds-room (ready .small) (ready .mark)
 
     pub goes-on : Going kind (list .rows) ps (putPlace kind id list p o)
     goes-on = record {
@@ -204,7 +205,7 @@ module _ (kind : TableKind) (id room : ℕ) (words bytes : List ℕ) (n : ℕ) (
   ready = left-ready kind id list room ok i shared whole t h p is
 
   pub turn-place : p < room
-  turn-place = ready .place
+  turn-place = ready .low
 
   pub turn-small : getD words (4 * p) 0 < 65536
   turn-small = table-small kind room words bytes n p ready
