@@ -1,65 +1,50 @@
+-- `end_record_kept` meets its contract: refused, or written and put. Assumes nothing.
+use mathlib.Core.Path.{sym, _∙_}
+use denote.Ref.{now}
+use Rattle.ending.proofs.Tests.{list-ruled, list-parts, shared-parts}
+use Rattle.ending.proofs.Left.{left-refused, is-free, left-done}
 use borrow.Author.Needs.{needs}
 use Rattle.ending.proofs.record_end.end_record_kept.Statement.{statement}
 use Rattle.ending.proofs.record_end.end_record_kept.Tie as tie
-use Rattle.ending.proofs.record_end.end_record_kept.Reads as reads
-use Rattle.ending.proofs.record_end.end_record_kept.Lts as lts
-use Rattle.answer.proofs.answer.Answer.number.Reads as number-reads
-use Rattle.ending.proofs.record_end.refused.Reads as refused-reads
-use Rattle.ending.proofs.refusal.file_for.Reads as file-for-reads
-use Rattle.putting.proofs.put_list.Reads as put-list-reads
-use Rattle.writer.proofs.flush_to_file_kept.Reads as flush-to-file-kept-reads
 
--- src/record_end.rt:54:9
 file-for-requires : tie.Need-file-for-requires
 file-for-requires c κs = search needs
 
--- src/record_end.rt:69:8
 number-requires : tie.Need-number-requires
 number-requires c κs = search needs
 
--- src/record_end.rt:70:9
 refused-requires : tie.Need-refused-requires
 refused-requires c κs = search needs
 
--- src/record_end.rt:70:9
 same-length : tie.Need-same-length
 same-length c = search needs
 
--- src/record_end.rt:70:9
 same-length-2 : tie.Need-same-length-2
 same-length-2 c = search needs
 
--- src/record_end.rt:70:9
 same-length-3 : tie.Need-same-length-3
 same-length-3 c = search needs
 
--- src/record_end.rt:70:9
 returns : tie.Need-returns
-returns c = ?
+returns c = let a = c .before .before .before .before .before .before .before .before .before .before .before .before .before .args in left-refused (a .directory) (a .list) (now (a .list-words)) (now (a .list-bytes)) (a .overlays) (now (a .words)) (now (a .bytes)) (a .queues) (a .next) (now (a .out)) _ (c .before .before .before .before .file-for .ensures) (λ z. c .before .if1 .taken (c .before .before .number .ensures ∙ z)) _ (c .refused .ensures)
 
--- src/record_end.rt:72:18
 flush-to-file-kept-requires : tie.Need-flush-to-file-kept-requires
-flush-to-file-kept-requires c κs = ?
+flush-to-file-kept-requires c κs = let a = c .before .before .before .before .before .before .before .before .before .before .before .before .before .args in list-ruled (a .directory) (a .list) (now (a .list-words)) (now (a .list-bytes)) (a .overlays) (now (a .words)) (now (a .bytes)) (a .queues) (a .next) (now (a .out)) (c .before .before .before .before .before .before .before .before .before .before .before .before .before .pre)
 
--- src/record_end.rt:74:9
 put-list-requires : tie.Need-put-list-requires
-put-list-requires c κs = ?
+put-list-requires c κs = let a = c .before .before .before .before .before .before .before .before .before .before .before .before .before .before .before .before .before .before .before .args in (list-parts (a .directory) (a .list) (now (a .list-words)) (now (a .list-bytes)) (a .overlays) (now (a .words)) (now (a .bytes)) (a .queues) (a .next) (now (a .out)) (c .before .before .before .before .before .before .before .before .before .before .before .before .before .before .before .before .before .before .before .pre), shared-parts (a .directory) (a .list) (now (a .list-words)) (now (a .list-bytes)) (a .overlays) (now (a .words)) (now (a .bytes)) (a .queues) (a .next) (now (a .out)) (c .before .before .before .before .before .before .before .before .before .before .before .before .before .before .before .before .before .before .before .pre), is-free (a .directory) (a .list) (now (a .list-words)) (now (a .list-bytes)) (a .overlays) (now (a .words)) (now (a .bytes)) (a .queues) (a .next) (now (a .out)) _ (c .before .before .before .before .before .before .before .before .before .before .file-for .ensures) (sym (c .before .before .before .before .before .before .before .before .number .ensures) ∙ c .before .before .before .before .before .before .before .if1 .left))
 
--- src/record_end.rt:38:1
 same-length-4 : tie.Need-same-length-4
 same-length-4 c = search needs
 
--- src/record_end.rt:38:1
 same-length-5 : tie.Need-same-length-5
 same-length-5 c = search needs
 
--- src/record_end.rt:38:1
 same-length-6 : tie.Need-same-length-6
 same-length-6 c = search needs
 
--- src/record_end.rt:38:1
 returns-2 : tie.Need-returns-2
-returns-2 c = ?
+returns-2 c = let a = c .before .before .before .before .before .before .before .before .before .before .before .before .before .before .before .before .before .before .before .before .before .before .before .before .args in left-done (a .directory) (a .list) (now (a .list-words)) (now (a .list-bytes)) (a .overlays) (now (a .words)) (now (a .bytes)) (a .queues) (a .next) (now (a .out)) _ (c .before .before .before .before .before .before .before .before .before .before .before .before .before .before .before .file-for .ensures) (sym (c .before .before .before .before .before .before .before .before .before .before .before .before .before .number .ensures) ∙ c .before .before .before .before .before .before .before .before .before .before .before .before .if1 .left) _ _ (c .before .before .before .before .before .before .before .before .before .before .flush-to-file-kept .ensures) _ _ _ (c .before .before .before .before .put-list .ensures)
 
 pub end-record-kept-spec : {M : Type 1} → statement M
 end-record-kept-spec =
