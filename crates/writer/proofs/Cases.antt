@@ -8,7 +8,6 @@ use Rattle.checksum.specs.Checksum.{shift, bitsIn, updated, finished, checksumO
 use Rattle.answer.specs.declared.answer.Answer.the-variants.{Done, BadArgument}
 use Rattle.directory.specs.Table.{isTable, tableKept, description}
 use Rattle.directory.specs.Directory.{findFrom, findTable, stands, eachKept, apart, directoryKept}
-use Rattle.directory.specs.declared.table.TableKind.{TableKind}
 use Rattle.directory.specs.declared.table.TableKind.the-variants.{Index, Value, RefCount}
 use Rattle.directory.specs.declared.directory.Directory.{Directory}
 use Rattle.keys.specs.Keys.{markAt, keysOf, ruled, putIn}

@@ -17,7 +17,7 @@ use Rattle.keys.proofs.Places.{left-of, right-of, above-ascends}
 
 -- ---- members
 
-has-more : (q p : ℕ) (ps : List ℕ) → has q ps ≡ true → has q (p ∷ ps) ≡ true
+pub has-more : (q p : ℕ) (ps : List ℕ) → has q ps ≡ true → has q (p ∷ ps) ≡ true
 has-more q p ps h = by (eqb p q) refl
   where
     by : (b : Bool) → eqb p q ≡ b → (if b then true else has q ps) ≡ true
