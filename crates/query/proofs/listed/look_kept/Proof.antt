@@ -1,6 +1,4 @@
 -- `look_kept` meets its contract: the list's entry, or the shared one. Assumes nothing.
-use mathlib.Core.Path.{_≡_}
-use native.Mathlib.Omega.{arith}
 use denote.Ref.{now}
 use Rattle.keys.specs.Keys.{rank}
 use Rattle.overlay.specs.Rules.{Overlay}
@@ -8,7 +6,6 @@ use Rattle.change.specs.Change.{Change, changeOf}
 use Rattle.change.proofs.Rules.{ruled-parts}
 use Rattle.query.specs.Query.{sharedPart}
 use Rattle.query.proofs.Looks.{mine-found, shared-next}
-use borrow.Author.Needs.{needs}
 use Rattle.query.proofs.listed.look_kept.Statement.{statement}
 use Rattle.query.proofs.listed.look_kept.Tie as tie
 
