@@ -182,11 +182,11 @@ module _ (kind : TableKind) (id : ℕ) (list : Overlay) where
               kept = with-kept holder.Shared shared (t .kept) kind o (goes .kept);
               going = subst (λ (x : Overlay). Going kind (list .rows) ps x) (sym (of-with kind shared o)) goes;
               rest =
-              with-with kind shared o (putPlaces kind id list ps (ofKind kind (withKind kind shared o)))
-              ∙ ap (λ (x : Overlay). withKind kind shared (putPlaces kind id list ps x)) (of-with kind shared o)
-              ∙ ap (λ (k : ℕ). withKind kind shared (putPlaces kind id list (k ∷ ps) (ofKind kind shared))) is
-              ∙ sym (ap (λ (qs : List ℕ). withKind kind shared (putPlaces kind id list qs (ofKind kind shared))) (places-cons (list .order) (list .count) (order-holds kind room list ok) i h))
-              ∙ t .rest;
+                  with-with kind shared o (putPlaces kind id list ps (ofKind kind (withKind kind shared o)))
+                  ∙ ap (λ (x : Overlay). withKind kind shared (putPlaces kind id list ps x)) (of-with kind shared o)
+                  ∙ ap (λ (k : ℕ). withKind kind shared (putPlaces kind id list (k ∷ ps) (ofKind kind shared))) is
+                  ∙ sym (ap (λ (qs : List ℕ). withKind kind shared (putPlaces kind id list qs (ofKind kind shared))) (places-cons (list .order) (list .count) (order-holds kind room list ok) i h))
+                  ∙ t .rest;
             })
 
 -- a turn of the code: the place it reads, the row, the put
