@@ -62,6 +62,15 @@ pub fn end_record<'a>(
 {
     let d = gather(tables);
     ending::end_record(
-        d, list, list_words, list_bytes, overlays, words, bytes, queues, next, out,
+        d,
+        list,
+        list_words,
+        list_bytes,
+        overlays,
+        words,
+        bytes,
+        queues,
+        next,
+        out,
     )
 }
