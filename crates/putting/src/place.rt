@@ -40,7 +40,7 @@ fn row_at(listed: &[u64], p: usize) -> ListedRow
     }
 }
 
-// The entry of that row, whose bytes are in place p.
+// The entry of that row, whose bytes are in place p, into the memories of any holder.
 fn put_place(
     holder: Holder,
     kind: TableKind,
