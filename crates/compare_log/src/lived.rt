@@ -2,7 +2,7 @@
 use change::LogChange;
 use compare_lines::Reply;
 use files::Queues;
-use overlay::LogOverlays;
+use memory::LogOverlays;
 
 pub struct Living {
     pub overlays: LogOverlays,

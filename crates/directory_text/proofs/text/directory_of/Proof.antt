@@ -53,7 +53,7 @@ loop-less : tie.Need-loop-less Inv-loop μ-loop
 loop-less c = omega arith
 
 loop-again : tie.Need-loop-again Inv-loop μ-loop
-loop-again c = 
+loop-again c =
     (omega (arith, line-counts (c .before .before .before .before .before .before .before .before .before .before .before .args .text .now) (c .before .before .before .before .before .before .before .before .loop .at) (c .before .before .before .before .before .before .pass-over .result) (c .before .before .before .before .before .before .before .before .loop .so-far) (c .before .before .with-line .result) (omega arith) (c .before .before .before .before .before .before .pass-over .ensures .2) (c .before .before .with-line .ensures) (c .before .before .before .before .before .before .before .before .loop .inv .2)), omega arith, line-goes (c .before .before .before .before .before .before .before .before .before .before .before .args .text .now) (c .before .before .before .before .before .before .before .before .loop .at) (c .before .before .before .before .before .before .pass-over .result) (c .before .before .before .before .before .before .before .before .loop .so-far) (c .before .before .with-line .result) (omega arith) (c .before .before .before .before .before .before .pass-over .ensures .2) (c .before .before .with-line .ensures) (c .before .before .before .before .before .before .before .before .loop .inv .2) (sym (c .before .is-any .ensures) ∙ c .if1 .left))
 
 returns-2 : tie.Need-returns-2 Inv-loop μ-loop
