@@ -119,6 +119,63 @@ fn further(stop: Stop, ran: Ran, bytes: &[u8]) -> Stop {
     }
 }
 
+// Whether the file goes on, with how many bytes in front of the window; or else what it came to.
+pub struct Turn {
+    pub going: bool,
+    pub rest: usize,
+    pub stop: Stop,
+    pub outcome: Outcome,
+}
+
+fn ended(stop: Stop, outcome: Outcome) -> Turn
+    ensures { λ r. ⌜ r .rest ≤ 2097152 ⌝ }
+{
+    Turn {
+        going: false,
+        rest: 0,
+        stop: stop,
+        outcome: outcome,
+    }
+}
+
+// The window filled, its records replayed, and what is left of it moved to its front.
+fn one_turn(
+    file: i32,
+    directory: Directory,
+    stop: Stop,
+    rest: usize,
+    window: &mut [u8; ROOM],
+    image: &mut [u8],
+) -> Turn
+    requires { ⌜ rest ≤ 2097152 ⌝ }
+    ensures { λ r. ⌜ r .rest ≤ 2097152 ⌝ }
+{
+    let filled = fill(file, window, rest);
+    if filled.failed {
+        return ended(stop, Outcome::Unreadable);
+    }
+    let held = filled.held;
+    let bytes: &[u8] = window;
+    let ran = replay::run(directory, &bytes[0..held], 0, stop.expected, image);
+    let after = further(stop, ran, bytes);
+    let answer = ran.answer;
+    if held < ROOM {
+        return ended(after, Outcome::At(after));
+    }
+    if !needs_more(answer) {
+        return ended(after, Outcome::At(after));
+    }
+    if ran.position == 0 {
+        return ended(after, full(file, after));
+    }
+    Turn {
+        going: true,
+        rest: move_front(window, ran.position, held),
+        stop: after,
+        outcome: Outcome::Unreadable,
+    }
+}
+
 pub fn replay_file(
     file: i32,
     directory: Directory,
@@ -136,25 +193,14 @@ pub fn replay_file(
     let mut rest = 0;
     let mut turns = TURNS;
     while 0 < turns {
-        let filled = fill(file, window, rest);
-        if filled.failed {
-            return Outcome::Unreadable;
+        let turn = one_turn(file, directory, stop, rest, window, image);
+        let outcome = turn.outcome;
+        if !turn.going {
+            return outcome;
         }
-        let held = filled.held;
-        let bytes: &[u8] = window;
-        let ran = replay::run(directory, &bytes[0..held], 0, stop.expected, image);
-        stop = further(stop, ran, bytes);
-        let answer = ran.answer;
-        if held < ROOM {
-            return Outcome::At(stop);
-        }
-        if !needs_more(answer) {
-            return Outcome::At(stop);
-        }
-        rest = move_front(window, ran.position, held);
-        if rest == ROOM {
-            return full(file, stop);
-        }
+        let after = turn.stop;
+        stop = after;
+        rest = turn.rest;
         turns -= 1;
     }
     Outcome::Unreadable
