@@ -9,12 +9,10 @@ use borrow.Author.Tests.{eqb-false, eq-eqb, ne-eqb}
 use Rattle.words.specs.Choice.{if_then_else_}
 use Rattle.words.proofs.Choices.{if-true, if-false}
 use Rattle.numbers.specs.Numbers.{oneIf}
-use Rattle.numbers.proofs.Laws.{one-true}
 use Rattle.answer.specs.Answer.{numberOf}
 use Rattle.record.specs.Next.{readerAt}
 use Rattle.answer.specs.declared.answer.Answer.{Answer}
 use Rattle.answer.specs.declared.answer.Answer.the-variants.{EndOfLog}
-use Rattle.files.specs.Queues.{queuesKept}
 use Rattle.files.specs.Moves.{frontRead, readingCleaned}
 use Rattle.files.specs.Read.{openingAt, hasFile, nowReading, notRead, readBy, readNextKept}
 use Rattle.files.specs.declared.queues.Queues.{Queues}

@@ -15,7 +15,7 @@ use Rattle.directory.specs.declared.table.TableKind.{TableKind}
 use Rattle.keys.specs.Keys.{keyAt, keysOf, above, ascends, has}
 use Rattle.keys.proofs.Places.{left-of, right-of, above-ascends, above-lacks, rule-rises}
 use Rattle.overlay.specs.Rules.{Overlay, overlayKept}
-use Rattle.overlay.specs.Entries.{Entry, entriesOf, findEntry}
+use Rattle.overlay.specs.Entries.{Entry, entriesOf, findEntry, orElse}
 use Rattle.overlay.proofs.Entries.{keyOf}
 use Rattle.overlay.proofs.Ruled.{shows}
 use Rattle.memory.specs.Parts.{spanOf}
@@ -24,11 +24,6 @@ use Rattle.putting.specs.Listed.{passes, putPlace, putPlaces, putListed}
 use Rattle.putting.specs.Inner.{Placed}
 use Rattle.putting.proofs.Places.{order-holds, placed}
 use Rattle.putting.proofs.Puts.{isSome, has-found, Going, listedEntry, found-placed, goes-on, going-first}
-
--- the first of two lookups that finds something
-abbrev pub orElse : Option Entry → Option Entry → Option Entry
-orElse none b = b
-orElse (some e) b = some e
 
 not-some : (v : Option Entry) → isSome v ≡ false → v ≡ none
 not-some none e = refl

@@ -1,5 +1,5 @@
 -- `opening_at` meets its contract: a step between records looks at no table. Assumes nothing.
-use mathlib.Core.Path.{_≡_, sym, ap, _∙_}
+use mathlib.Core.Path.{_∙_}
 use Rattle.record.specs.Next.{stepOf}
 use Rattle.files.specs.Read.{openingAt}
 use borrow.Author.Needs.{needs}

@@ -1,11 +1,11 @@
 -- `Queues::read` meets its contract: what was opened, the end of a log, any other refusal. Assumes nothing.
-use Prim.Native.Nat.{ℕ, _+_}
+use Prim.Native.Nat.{_+_}
 use native.Mathlib.Omega.{arith}
-use mathlib.Core.Path.{_≡_, refl, sym, ap, _∙_}
+use mathlib.Core.Path.{sym, ap, _∙_}
 use Rattle.answer.specs.declared.answer.Answer.the-variants.{Done}
 use Rattle.numbers.specs.Numbers.{oneIf}
 use Rattle.files.specs.Moves.{readingCleaned}
-use Rattle.files.specs.Read.{nowReading, notRead, readBy}
+use Rattle.files.specs.Read.{notRead, readBy}
 use Rattle.files.specs.declared.queues.Queues.{Queues}
 use Rattle.files.proofs.Rule.{kept-facts}
 use Rattle.files.proofs.ReadOf.{now-room, at-end, not-at-end}

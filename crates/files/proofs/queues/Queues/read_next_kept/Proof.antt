@@ -1,7 +1,6 @@
 -- `Queues::read_next_kept` meets its contract: a return at a time. Assumes nothing.
-use mathlib.Core.Bool.{Bool}
 use denote.Ref.{now}
-use mathlib.Core.Path.{_≡_, refl, sym, ap, _∙_}
+use mathlib.Core.Path.{sym, ap, _∙_}
 use Rattle.answer.specs.declared.answer.Answer.the-variants.{EndOfLog}
 use Rattle.record.specs.declared.reader.LogReader.{LogReader}
 use Rattle.record.specs.Next.{readerAt}
