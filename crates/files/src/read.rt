@@ -8,7 +8,6 @@ ghost use Rattle.files.specs.Read.{openingAt, hasFile, nowReading, notRe
 use super::queues::Queues;
 use super::queues::Reading;
 use answer::Answer;
-use directory::Directory;
 use record::LogReader;
 use record::Step;
 
@@ -25,7 +24,7 @@ fn opening_at(log: &[u8], reader: LogReader) -> Step
     requires { ⌜ reader .inside ≡ false ⌝ }
     ensures { λ r. ⌜ r ≡ openingAt (now (log .entry)) reader ⌝ }
 {
-    reader.step(Directory::new(), log)
+    reader.open(log)
 }
 
 impl Queues {
