@@ -1,6 +1,7 @@
 // The end of reading a record.
 ghost use mathlib.Core.Path.{_≡_};
 ghost use mathlib.Core.Bool.{true};
+ghost use Rattle.answer.specs.Answer.{lastRecordId};
 ghost use Rattle.directory.specs.Directory.{directoryKept};
 ghost use Rattle.memory.specs.declared.span.Holder.the-variants.{Shared};
 ghost use Rattle.memory.specs.Parts.{partsOf, partsKept};
@@ -36,7 +37,7 @@ fn nothing_read(answer: Answer, position: usize, overlays: LogOverlays, next: u6
 
 // No id of a record that was read is handed out again.
 fn raised(next: u64, id: u64) -> u64
-    requires { ⌜ (id ≡ 18446744073709551615 → ⊥) ⌝ }
+    requires { ⌜ (id ≡ lastRecordId → ⊥) ⌝ }
     ensures { λ r. ⌜ r ≡ nextAfter next id ⌝ }
 {
     if id < next { next } else { id + 1 }

@@ -12,7 +12,7 @@ use Rattle.directory.specs.declared.directory.Directory.{Directory}
 use Rattle.answer.specs.Answer.{numberOf}
 use Rattle.answer.specs.declared.answer.Answer.{Answer}
 use Rattle.answer.specs.declared.answer.Answer.the-variants.{Done, NoRoom, ShortOutput, NotNext, UsedUp, BadState}
-use Rattle.keys.proofs.Places.{left-of, right-of}
+use Rattle.numbers.proofs.Laws.{left-of, right-of}
 use Rattle.memory.specs.Parts.{partsOf, partsKept}
 use Rattle.memory.specs.declared.counts.Counts.{Counts}
 use Rattle.memory.specs.declared.overlays.LogOverlays.{LogOverlays}

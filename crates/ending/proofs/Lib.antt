@@ -2,3 +2,4 @@
 pub mod Decided
 pub mod Left
 pub mod Meaning
+pub mod Tests

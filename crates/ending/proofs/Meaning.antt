@@ -12,7 +12,8 @@ use Rattle.directory.specs.Directory.{findTable}
 use Rattle.directory.specs.declared.table.TableKind.{TableKind}
 use Rattle.directory.specs.declared.table.TableKind.the-variants.{Value}
 use Rattle.directory.specs.declared.directory.Directory.{Directory}
-use Rattle.keys.specs.Keys.{keyAt, has}
+use Rattle.numbers.specs.Numbers.{has}
+use Rattle.keys.specs.Keys.{keyAt}
 use Rattle.overlay.specs.Rules.{Overlay}
 use Rattle.overlay.specs.Entries.{Entry, entriesOf, findEntry, orElse}
 use Rattle.memory.specs.Parts.{spanOf, ofKind, partsKept}

@@ -11,8 +11,8 @@ use Rattle.words.specs.Choice.{if_then_else_}
 use Rattle.directory.specs.Directory.{findTable}
 use Rattle.directory.specs.declared.table.TableKind.the-variants.{Value}
 use Rattle.directory.specs.declared.directory.Directory.{Directory}
-use Rattle.keys.specs.Keys.{has}
-use Rattle.keys.proofs.Places.{places-cons, places-end}
+use Rattle.numbers.proofs.Laws.{places-cons, places-end}
+use Rattle.numbers.specs.Numbers.{has}
 use Rattle.memory.specs.declared.overlays.LogOverlays.{LogOverlays}
 use Rattle.putting.specs.Listed.{columnOf, lastIdsBy}
 use Rattle.putting.specs.Inner.{withLastIds}

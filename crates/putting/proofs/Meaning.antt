@@ -12,8 +12,12 @@ use lib.Seq.{getD-take, length-take-le}
 use borrow.Author.Tests.{ltb-true, eq-eqb, ne-eqb, eqb-true}
 use Rattle.words.specs.Choice.{if_then_else_}
 use Rattle.directory.specs.declared.table.TableKind.{TableKind}
-use Rattle.keys.specs.Keys.{keyAt, keysOf, above, ascends, has}
-use Rattle.keys.proofs.Places.{left-of, right-of, above-ascends, above-lacks, rule-rises}
+use Rattle.numbers.proofs.Spots.{above-lacks}
+use Rattle.numbers.proofs.Sort.{above-ascends}
+use Rattle.numbers.proofs.Laws.{left-of, right-of}
+use Rattle.numbers.specs.Numbers.{above, ascends, has}
+use Rattle.keys.specs.Keys.{keyAt, keysOf}
+use Rattle.keys.proofs.Places.{rule-rises}
 use Rattle.overlay.specs.Rules.{Overlay, overlayKept}
 use Rattle.overlay.specs.Entries.{Entry, entriesOf, findEntry, orElse}
 use Rattle.overlay.proofs.Entries.{keyOf}
@@ -21,8 +25,8 @@ use Rattle.overlay.proofs.Ruled.{shows}
 use Rattle.memory.specs.Parts.{spanOf}
 use Rattle.memory.specs.declared.span.Holder.the-variants as holder
 use Rattle.putting.specs.Listed.{passes, putPlace, putPlaces, putListed}
-use Rattle.putting.specs.Inner.{Placed}
-use Rattle.putting.proofs.Places.{order-holds, placed}
+use Rattle.change.proofs.Listed.{Placed, placed}
+use Rattle.putting.proofs.Places.{order-holds}
 use Rattle.putting.proofs.Puts.{isSome, has-found, Going, listedEntry, found-placed, goes-on, going-first}
 
 not-some : (v : Option Entry) → isSome v ≡ false → v ≡ none

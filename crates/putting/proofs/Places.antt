@@ -1,25 +1,24 @@
--- A list's part of one kind: its words as the code reads them, and what its rules say of a place in use. Assumes nothing.
+-- A list's part of one kind: its words as the code reads them, and the bytes of a place in use. Assumes nothing.
 use mathlib.Core.Path.{_≡_, sym, ap, _∙_, subst}
 use mathlib.Core.Bool.{true}
 use mathlib.Core.List.{List}
 use Prim.Native.Nat.{ℕ, _+_, _-_, _*_, _≤_, _<_}
 use native.Mathlib.Omega.{arith}
-use lib.Dec.{ltb}
 use lib.ListN.{length, getD, take, drop}
 use lib.Seq.{getD-take, getD-drop}
-use borrow.Author.Tests.{ltb-true, le-leb}
+use borrow.Author.Tests.{le-leb}
 use Rattle.directory.specs.declared.table.TableKind.{TableKind}
+use Rattle.numbers.proofs.Laws.{both}
 use Rattle.keys.specs.Keys.{rank, keyAt, markAt}
-use Rattle.keys.proofs.Places.{both, left-of, right-of, places-cons, in-use}
-use Rattle.overlay.specs.Rules.{Overlay, slotSize, storedLength, markRuled, rowRuled, keysRuled, overlayKept, rowsOf, orderOf, overlayOf}
+use Rattle.overlay.specs.Rules.{Overlay, slotSize, storedLength, markRuled, keysRuled, overlayKept, rowsOf, orderOf, overlayOf}
 use Rattle.overlay.specs.Overlay.{putOver}
-use Rattle.overlay.proofs.Order.{every-drop}
-use Rattle.overlay.proofs.Ruled.{shows, unit-fits, keys-room, keys-order, keys-each}
-use Rattle.overlay.proofs.Slots.{slot-in, slot-length}
+use Rattle.overlay.proofs.Ruled.{shows, unit-fits}
+use Rattle.overlay.proofs.Slots.{slot-length}
 use Rattle.memory.specs.Parts.{Parts, ofKind, withKind, partsKept, Takes, putInto}
 use Rattle.memory.specs.declared.span.Holder.{Holder}
 use Rattle.putting.specs.Listed.{storedAt, putPlace}
-use Rattle.putting.specs.Inner.{Placed, rowAt, rowPut, RowGoes}
+use Rattle.putting.specs.Inner.{rowAt, rowPut, RowGoes}
+use Rattle.change.proofs.Listed.{Placed}
 use Rattle.putting.specs.declared.place.Row.{Row}
 
 pub order-word : (room i : ℕ) (words : List ℕ) → getD words (4 * room + i) 0 ≡ getD (orderOf room words) i 0
@@ -28,28 +27,6 @@ order-word room i words = sym (getD-drop (4 * room) words i 0)
 pub row-word : (room k : ℕ) (words : List ℕ) → k < 4 * room → getD (rowsOf room words) k 0 ≡ getD words k 0
 row-word room k words h = getD-take (4 * room) words k 0 h
 
--- the i-th of the order: its row
-module _ (kind : TableKind) (room : ℕ) (rows order : List ℕ) (n : ℕ) (ok : keysRuled kind room rows order n ≡ true) (long : n ≤ length order) (i : ℕ) (h : i < n) where
-  abbrev p : ℕ
-  p = getD order i 0
-
-  pub row-place : p < room
-  row-place = omega (arith, keys-room kind room rows order n ok, in-use rows order n i (keys-order kind room rows order n ok) long h)
-
-  row-ruled : rowRuled kind rows p ≡ true
-  row-ruled =
-      left-of (rowRuled kind rows p) _
-      (rw (places-cons order n long i h) at (every-drop (rowRuled kind rows) i (take n order) (keys-each kind room rows order n ok)))
-
-  pub row-table : getD rows (4 * p) 0 < 65536
-  unfolding rowRuled
-  row-table = ltb-true (getD rows (4 * p) 0) 65536 (left-of (ltb (getD rows (4 * p) 0) 65536) _ row-ruled)
-
-  pub row-mark : markRuled kind (markAt rows p) ≡ true
-  unfolding rowRuled
-  row-mark = right-of (ltb (getD rows (4 * p) 0) 65536) _ row-ruled
-
--- the same with its bytes
 module _ (kind : TableKind) (room : ℕ) (list : Overlay) (ok : overlayKept kind room list ≡ true) where
   pub order-holds : list .count ≤ length (list .order)
   order-holds = let k = shows kind room list ok in omega (arith, k .fits, k .order-long)
@@ -58,25 +35,13 @@ module _ (kind : TableKind) (room : ℕ) (list : Overlay) (ok : overlayKept kind
   unfolding keysRuled
   keys-ruled = let k = shows kind room list ok in both (le-leb (list .count) room (k .fits)) (both (k .in-order) (k .each))
 
-  pub placed : (i : ℕ) → i < list .count → Placed kind room list (getD (list .order) i 0)
-  placed i h =
-      let p = getD (list .order) i 0 in
-      let low = row-place kind room (list .rows) (list .order) (list .count) keys-ruled order-holds i h in
-      let mark = row-mark kind room (list .rows) (list .order) (list .count) keys-ruled order-holds i h in
-      record {
-        place = low;
-        table = row-table kind room (list .rows) (list .order) (list .count) keys-ruled order-holds i h;
-        mark = mark;
-        lies = omega (arith, unit-fits kind (markAt (list .rows) p) mark, slot-in (slotSize kind) p room low, shows kind room list ok .bytes-long);
-      }
-
 -- its bytes: as many as its mark says, and they fit a slot
 module _ (kind : TableKind) (room : ℕ) (list : Overlay) (p : ℕ) (ready : Placed kind room list p) where
   pub bytes-long : length (storedAt kind list p) ≡ storedLength kind (markAt (list .rows) p)
-  bytes-long = slot-length (storedLength kind (markAt (list .rows) p)) (slotSize kind * p) (list .bytes) (ready .lies)
+  bytes-long = slot-length (storedLength kind (markAt (list .rows) p)) (slotSize kind * p) (list .bytes) (ready .stored)
 
   pub bytes-fit : length (storedAt kind list p) ≤ slotSize kind
-  bytes-fit = omega (arith, bytes-long, unit-fits kind (markAt (list .rows) p) (ready .mark))
+  bytes-fit = omega (arith, bytes-long, ready .short)
 
 over-same : (kind : TableKind) (o : Overlay) (id : ℕ) {t t′ x x′ m m′ : ℕ} (p : ℕ) (l : List ℕ) → t ≡ t′ → x ≡ x′ → m ≡ m′
     → putOver kind o t x id m (take (storedLength kind m) (drop (slotSize kind * p) l)) ≡ putOver kind o t′ x′ id m′ (take (storedLength kind m′) (drop (slotSize kind * p) l))
@@ -85,25 +50,25 @@ over-same kind o id p l a b c = rw (a, b, c)
 -- a place in use as the code reads it
 module _ (kind : TableKind) (room : ℕ) (words bytes : List ℕ) (n p : ℕ) (ready : Placed kind room (overlayOf room words bytes n) p) where
   table-word : getD (rowsOf room words) (4 * p) 0 ≡ getD words (4 * p) 0
-  table-word = row-word room (4 * p) words (omega (arith, ready .place))
+  table-word = row-word room (4 * p) words (omega (arith, ready .low))
 
   index-word : getD (rowsOf room words) (4 * p + 1) 0 ≡ getD words (4 * p + 1) 0
-  index-word = row-word room (4 * p + 1) words (omega (arith, ready .place))
+  index-word = row-word room (4 * p + 1) words (omega (arith, ready .low))
 
   mark-word : markAt (rowsOf room words) p ≡ getD words (4 * p + 3) 0
-  mark-word = row-word room (4 * p + 3) words (omega (arith, ready .place))
+  mark-word = row-word room (4 * p + 3) words (omega (arith, ready .low))
 
   key-word : keyAt (rowsOf room words) p ≡ rank (getD words (4 * p) 0) (getD words (4 * p + 1) 0)
   key-word = rw (table-word, index-word)
 
   pub table-small : getD words (4 * p) 0 < 65536
-  table-small = subst (λ (t : ℕ). t < 65536) table-word (ready .table)
+  table-small = subst (λ (t : ℕ). t < 65536) table-word (ready .small)
 
   pub row-goes : (h : Holder) (shared : Parts) → partsKept h shared ≡ true → Takes h kind shared (keyAt (rowsOf room words) p) → RowGoes h kind (rowAt words p) bytes p shared
   row-goes h shared ok free = record {
     kept = ok;
     mark = subst (λ (m : ℕ). markRuled kind m ≡ true) mark-word (ready .mark);
-    lies = subst (λ (m : ℕ). slotSize kind * p + storedLength kind m ≤ length bytes) mark-word (ready .lies);
+    lies = subst (λ (m : ℕ). slotSize kind * p + storedLength kind m ≤ length bytes) mark-word (ready .stored);
     takes = subst (λ (k : ℕ). Takes h kind shared k) key-word free;
   }
 

@@ -10,8 +10,9 @@ use lib.ListN.{length, getD, take, drop}
 use borrow.Author.Tests.{ltb-false}
 use Rattle.words.specs.Choice.{if_then_else_}
 use Rattle.directory.specs.declared.table.TableKind.{TableKind}
-use Rattle.keys.specs.Keys.{keyAt, markAt, keysOf, spot, has, news}
-use Rattle.keys.proofs.Places.{places-cons, places-end}
+use Rattle.numbers.proofs.Laws.{places-cons, places-end}
+use Rattle.numbers.specs.Numbers.{spot, has}
+use Rattle.keys.specs.Keys.{keyAt, markAt, keysOf, news}
 use Rattle.overlay.specs.Rules.{Overlay, overlayKept, overlayOf}
 use Rattle.overlay.specs.Overlay.{spotIn, standsIn, putOver}
 use Rattle.overlay.specs.Entries.{Entry, entriesOf, findEntry}
@@ -24,10 +25,11 @@ use Rattle.memory.specs.Parts.{Parts, spanOf, ofKind, withKind, partsKept, Take
 use Rattle.memory.specs.declared.span.Holder.the-variants as holder
 use Rattle.memory.proofs.Spans.{with-kept}
 use Rattle.putting.specs.Listed.{keysHeld, passes, storedAt, putPlace, putPlaces}
-use Rattle.putting.specs.Inner.{Placed, rowAt, rowPut, listPut, RowGoes, KindGoes}
+use Rattle.putting.specs.Inner.{rowAt, rowPut, listPut, RowGoes, KindGoes}
 use Rattle.putting.specs.declared.place.Row.{Row}
+use Rattle.change.proofs.Listed.{Placed, placed}
 use Rattle.putting.proofs.OneKind.{of-with, with-with, with-of, kind-kept, shared-room}
-use Rattle.putting.proofs.Places.{order-word, order-holds, placed, bytes-long, bytes-fit, table-small, row-goes, row-put}
+use Rattle.putting.proofs.Places.{order-word, order-holds, bytes-long, bytes-fit, table-small, row-goes, row-put}
 
 -- whether a lookup finds something
 abbrev pub isSome : Option Entry → Bool
@@ -121,7 +123,7 @@ module _ (kind : TableKind) (list : Overlay) (ps : List ℕ) (p : ℕ) (o : Over
     kept-on : overlayKept kind (spanOf holder.Shared kind .room) (putPlace kind id list p o) ≡ true
     unfolding putPlace
     kept-on =
-        put-kept kind (spanOf holder.Shared kind .room) o (g .kept) (getD (list .rows) (4 * p) 0) (getD (list .rows) (4 * p + 1) 0) id (markAt (list .rows) p) (storedAt kind list p) (bytes-fit kind room list p ready) finds-room (ready .table) (ready .mark)
+        put-kept kind (spanOf holder.Shared kind .room) o (g .kept) (getD (list .rows) (4 * p) 0) (getD (list .rows) (4 * p + 1) 0) id (markAt (list .rows) p) (storedAt kind list p) (bytes-fit kind room list p ready) finds-room (ready .small) (ready .mark)
 
     pub goes-on : Going kind (list .rows) ps (putPlace kind id list p o)
     goes-on = record {
@@ -181,11 +183,11 @@ module _ (kind : TableKind) (id : ℕ) (list : Overlay) where
               kept = with-kept holder.Shared shared (t .kept) kind o (goes .kept);
               going = subst (λ (x : Overlay). Going kind (list .rows) ps x) (sym (of-with kind shared o)) goes;
               rest =
-              with-with kind shared o (putPlaces kind id list ps (ofKind kind (withKind kind shared o)))
-              ∙ ap (λ (x : Overlay). withKind kind shared (putPlaces kind id list ps x)) (of-with kind shared o)
-              ∙ ap (λ (k : ℕ). withKind kind shared (putPlaces kind id list (k ∷ ps) (ofKind kind shared))) is
-              ∙ sym (ap (λ (qs : List ℕ). withKind kind shared (putPlaces kind id list qs (ofKind kind shared))) (places-cons (list .order) (list .count) (order-holds kind room list ok) i h))
-              ∙ t .rest;
+                  with-with kind shared o (putPlaces kind id list ps (ofKind kind (withKind kind shared o)))
+                  ∙ ap (λ (x : Overlay). withKind kind shared (putPlaces kind id list ps x)) (of-with kind shared o)
+                  ∙ ap (λ (k : ℕ). withKind kind shared (putPlaces kind id list (k ∷ ps) (ofKind kind shared))) is
+                  ∙ sym (ap (λ (qs : List ℕ). withKind kind shared (putPlaces kind id list qs (ofKind kind shared))) (places-cons (list .order) (list .count) (order-holds kind room list ok) i h))
+                  ∙ t .rest;
             })
 
 -- a turn of the code: the place it reads, the row, the put
@@ -204,7 +206,7 @@ module _ (kind : TableKind) (id room : ℕ) (words bytes : List ℕ) (n : ℕ) (
   ready = left-ready kind id list room ok i shared whole t h p is
 
   pub turn-place : p < room
-  turn-place = ready .place
+  turn-place = ready .low
 
   pub turn-small : getD words (4 * p) 0 < 65536
   turn-small = table-small kind room words bytes n p ready

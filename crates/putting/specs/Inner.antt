@@ -1,11 +1,11 @@
--- What the inner functions are told of a list's place in use: nothing here is to be believed.
+-- What the inner functions are told and answer: nothing here is to be believed.
 use mathlib.Core.Path.{_≡_}
 use mathlib.Core.Bool.{true, false}
 use mathlib.Core.List.{List}
-use Prim.Native.Nat.{ℕ, _+_, _*_, _≤_, _<_}
+use Prim.Native.Nat.{ℕ, _+_, _*_, _≤_}
 use lib.ListN.{length, getD, take, drop}
 use Rattle.directory.specs.declared.table.TableKind.{TableKind}
-use Rattle.keys.specs.Keys.{rank, markAt}
+use Rattle.keys.specs.Keys.{rank}
 use Rattle.overlay.specs.Rules.{Overlay, slotSize, storedLength, markRuled, keysRuled, overlayKept, rowsOf, orderOf}
 use Rattle.memory.specs.Parts.{Parts, partsOf, spanOf, wordsAll, countOf, wordsIn, ofKind, withKind, partsKept, Takes, putInto}
 use Rattle.memory.specs.Overlays.{Overlays, overlaysOf}
@@ -15,13 +15,6 @@ use Rattle.memory.specs.declared.span.Holder.the-variants as holder
 use Rattle.memory.specs.declared.overlays.LogOverlays.{LogOverlays}
 use Rattle.putting.specs.Listed.{passes, putListed}
 use Rattle.putting.specs.declared.place.Row.{Row}
-
--- it is one of the room's, its table has a 16-bit number, its mark is one of its kind, its chunk or value lies in the memory
-pub record Placed (kind : TableKind) (room : ℕ) (list : Overlay) (p : ℕ) : Type 0 where
-  pub place : p < room
-  pub table : getD (list .rows) (4 * p) 0 < 65536
-  pub mark : markRuled kind (markAt (list .rows) p) ≡ true
-  pub lies : slotSize kind * p + storedLength kind (markAt (list .rows) p) ≤ length (list .bytes)
 
 -- `partsOf` and `overlaysOf` shut: two of them are then compared by what they are of, and no memory's length is counted
 unfoldable pub partsAt : Holder → Counts → List ℕ → List ℕ → Parts

@@ -57,7 +57,14 @@ fn kind_crowded<'a>(
     let b = t.words_at;
     let f = t.words_end;
     let n = counts.of(kind);
-    let more = lacking(s.room, &words[a..e], n, t.room, &list_words[b..f], list.of(kind));
+    let more = lacking(
+        s.room,
+        &words[a..e],
+        n,
+        t.room,
+        &list_words[b..f],
+        list.of(kind),
+    );
     256 - n < more
 }
 

@@ -77,5 +77,12 @@ pub(crate) fn set_last_ids(
     let s = memory::span_of(Holder::List, TableKind::Value);
     let a = s.words_at;
     let e = s.words_end;
-    last_ids(directory, overlays, id, s.room, &list_words[a..e], list.value)
+    last_ids(
+        directory,
+        overlays,
+        id,
+        s.room,
+        &list_words[a..e],
+        list.value,
+    )
 }

@@ -65,9 +65,36 @@ pub fn put_list<'a>(
 {
     let mut o = set_last_ids(directory, overlays, id, list, list_words);
     let mut c = overlays.counts;
-    c = put_kind(TableKind::Index, id, list, list_words, list_bytes, c, words, bytes);
-    c = put_kind(TableKind::Value, id, list, list_words, list_bytes, c, words, bytes);
-    c = put_kind(TableKind::RefCount, id, list, list_words, list_bytes, c, words, bytes);
+    c = put_kind(
+        TableKind::Index,
+        id,
+        list,
+        list_words,
+        list_bytes,
+        c,
+        words,
+        bytes,
+    );
+    c = put_kind(
+        TableKind::Value,
+        id,
+        list,
+        list_words,
+        list_bytes,
+        c,
+        words,
+        bytes,
+    );
+    c = put_kind(
+        TableKind::RefCount,
+        id,
+        list,
+        list_words,
+        list_bytes,
+        c,
+        words,
+        bytes,
+    );
     o.counts = c;
     o
 }

@@ -2,7 +2,7 @@
 use mathlib.Core.Path.{_≡_, refl, sym, ap, ap₂, _∙_, subst}
 use mathlib.Core.Bool.{true, false}
 use mathlib.Core.List.{List, [], _++_}
-use mathlib.Core.Option.{none, some}
+use mathlib.Core.Option.{none, some, orElse}
 use Prim.Native.Nat.{ℕ, _+_, _*_, _≤_, _<_}
 use native.Mathlib.Omega.{arith}
 use lib.Dec.{ltb}
@@ -23,7 +23,8 @@ use Rattle.effect.specs.Order.{Each}
 use Rattle.effect.proofs.Places.{stands}
 use Rattle.effect.proofs.Reach.{In, Under, one-table, drop-in}
 use Rattle.effect.proofs.Spots.{place-at, place-none}
-use Rattle.keys.specs.Keys.{rank, keyAt, keysOf, has}
+use Rattle.numbers.specs.Numbers.{has}
+use Rattle.keys.specs.Keys.{rank, keyAt, keysOf}
 use Rattle.keys.proofs.Places.{rule-under, rule-rises}
 use Rattle.overlay.specs.Rules.{slotSize, storedLength}
 use Rattle.memory.specs.Parts.{ofKind}
@@ -190,7 +191,7 @@ module _ (d : Directory) (l : Change) (kept : changeKept d l ≡ true) (words : 
 
     -- what the one key that reaches a byte says is what all say, unless its table is dropped
     pub last-said : has (tableAt kind l q) (droppedOf kind l) ≡ false → lastSaid d (listActions l) p ≡ some b
-    unfolding listActions
+    unfolding listActions orElse
     last-said n =
         last-append d p (allInserts l) (allDrops l)
         ∙ rw (drops-silent d p l kind (tableAt kind l q) (under kind q h p b e .inside) n)

@@ -1,6 +1,6 @@
 -- One order for writing and reading: a record is the bytes of its list's actions, one behind the other, and within a kind their keys rise.
 -- Assumes nothing.
-use mathlib.Core.Path.{_≡_, refl, ap, ap₂, _∙_}
+use mathlib.Core.Path.{_≡_, refl, sym, ap, ap₂, _∙_}
 use mathlib.Core.Bool.{true}
 use mathlib.Core.List.{List, [], _∷_, _++_, map, append-assoc, append-nil}
 use Prim.Native.Nat.{ℕ}
@@ -11,7 +11,8 @@ use Rattle.directory.specs.declared.table.TableKind.the-variants.{Index, Value,
 use Rattle.directory.specs.declared.directory.Directory.{Directory}
 use Rattle.record.specs.Record.{dropIndex, dropRefCount}
 use Rattle.effect.specs.Effect.{Written}
-use Rattle.keys.specs.Keys.{keyAt, keysOf, ascends}
+use Rattle.numbers.specs.Numbers.{ascends}
+use Rattle.keys.specs.Keys.{keyAt, keysOf}
 use Rattle.keys.proofs.Places.{rule-rises}
 use Rattle.overlay.specs.Rules.{Overlay}
 use Rattle.memory.specs.Parts.{ofKind}
@@ -28,7 +29,7 @@ use Rattle.written.proofs.Accepted.{in-order}
 bytes-append : (vs ws : List Written) → actionsBytes (vs ++ ws) ≡ actionsBytes vs ++ actionsBytes ws
 unfolding actionsBytes
 bytes-append [] ws = refl
-bytes-append (v ∷ vs) ws = rw (bytes-append vs ws, append-assoc)
+bytes-append (v ∷ vs) ws = ap (λ (x : List ℕ). actionBytes v ++ x) (bytes-append vs ws) ∙ sym (append-assoc (actionBytes v) (actionsBytes vs) (actionsBytes ws))
 
 joined-bytes : (f : ℕ → List ℕ) (g : ℕ → Written) → ((p : ℕ) → f p ≡ actionBytes (g p)) → (ps : List ℕ) → joined f ps ≡ actionsBytes (map g ps)
 unfolding joined actionsBytes
@@ -81,4 +82,5 @@ pub order-ascends : (d : Directory) (l : Change) → changeKept d l ≡ true →
     → ascends (map (λ (w : Written). rankOf (w .action)) (inserts kind (ofKind kind (l .parts)))) ≡ true
 unfolding inserts keysOf
 order-ascends d l kept words kind =
-    ap ascends (ranks kind (ofKind kind (l .parts)) _) ∙ rule-rises _ _ _ (in-order d l kept words kind)
+    let o : Overlay = ofKind kind (l .parts) in
+    ap ascends (ranks kind o (take (o .count) (o .order))) ∙ rule-rises (o .rows) (o .order) (o .count) (in-order d l kept words kind)

@@ -7,13 +7,15 @@ use native.Mathlib.Omega.{arith}
 use lib.ListN.{length, getD, take, drop}
 use denote.Ref.{now}
 use Rattle.directory.specs.declared.table.TableKind.the-variants.{Value}
+use Rattle.keys.proofs.Places.{in-use}
 use Rattle.overlay.specs.Rules.{rowsOf, orderOf}
 use Rattle.overlay.proofs.Parts.{order-long}
-use Rattle.overlay.proofs.Ruled.{keys-room}
+use Rattle.overlay.proofs.Ruled.{keys-room, keys-order}
+use Rattle.change.proofs.Fitting.{table-at}
 use Rattle.putting.specs.Listed.{lastIdsBy}
 use Rattle.putting.specs.Inner.{withLastIds}
 use Rattle.putting.proofs.LastIds.{ids-done, ids-next}
-use Rattle.putting.proofs.Places.{order-word, row-word, row-place, row-table}
+use Rattle.putting.proofs.Places.{order-word, row-word}
 use Rattle.putting.proofs.last_id.last_ids.Statement.{statement}
 use Rattle.putting.proofs.last_id.last_ids.Tie as tie
 
@@ -40,13 +42,13 @@ module _ (s : tie.Start Inv-loop μ-loop) where
     p = getD words (4 * s .args .room + i) 0
 
     place : p < s .args .room
-    place = rw (order-word (s .args .room) i words) (row-place Value (s .args .room) _ _ (s .args .n) (s .pre .2) long i h)
+    place = rw (order-word (s .args .room) i words) (omega (arith, few, in-use _ _ (s .args .n) i (keys-order Value (s .args .room) _ _ (s .args .n) (s .pre .2)) long h))
 
     table-is : getD words (4 * p) 0 ≡ getD (rowsOf (s .args .room) words) (4 * getD (orderOf (s .args .room) words) i 0) 0
     table-is = sym (row-word (s .args .room) (4 * p) words (omega (arith, place))) ∙ ap (λ (k : ℕ). getD (rowsOf (s .args .room) words) (4 * k) 0) (order-word (s .args .room) i words)
 
     small : getD words (4 * p) 0 < 65536
-    small = rw table-is (row-table Value (s .args .room) _ _ (s .args .n) (s .pre .2) long i h)
+    small = rw table-is (table-at Value (s .args .room) _ _ (s .args .n) i long h (s .pre .2))
 
 mul-cut : tie.Need-mul-cut Inv-loop μ-loop
 mul-cut c = omega arith

@@ -34,7 +34,7 @@ number-requires c κs = search needs
 reading-cleaned-requires : tie.Need-reading-cleaned-requires
 reading-cleaned-requires c κs =
     let q = c .before .before .before .before .before .before .args .self in
-    omega (arith, ap (λ (x : Queues). x .«cleanup_queue» .count + oneIf (x .reading .some)) (c .before .before .before .before .before .now-reading .ensures), now-room q (kept-facts q (c .before .before .before .before .before .before .pre .0) .room) (c .before .before .before .before .before .before .pre .1))
+    omega (arith, ap (λ (x : Queues). x .«cleanup_queue» .count + oneIf (x .reading .some)) (c .before .before .before .before .before .now-reading .ensures), now-room q (kept-facts q (c .before .before .before .before .before .before .pre .0) .room) (c .before .before .before .before .before .before .pre .1), kept-facts q (c .before .before .before .before .before .before .pre .0) .room .all)
 
 not-read-requires : tie.Need-not-read-requires
 not-read-requires c κs = search needs
