@@ -21,7 +21,7 @@ impl Living {
     pub fn new() -> Living {
         Living {
             overlays: LogOverlays::new(),
-            next_record_id: 1,
+            next_record_id: log::first_record_id(),
         }
     }
 }
