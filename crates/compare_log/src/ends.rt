@@ -17,11 +17,11 @@ use files::Queues;
 use memory::LogOverlays;
 
 // The output is the front of its room.
-fn end_onto(
+fn end_onto<'a>(
     directory: Directory,
     list: LogChange,
-    list_words: &[u64],
-    list_bytes: &[u8],
+    list_words: &'a [u64],
+    list_bytes: &'a [u8],
     overlays: LogOverlays,
     words: &mut [u64],
     bytes: &mut [u8],
@@ -70,14 +70,14 @@ fn put_ended(answer: &mut [u8; 65536], done: Ended, bytes: &[u8], n: usize) -> R
     Reply::Line((18 + w) as u16)
 }
 
-pub fn end(
+pub fn end<'a>(
     list: LogChange,
     queues: Queues,
     living: Living,
     directory: Directory,
     command: &[u8],
-    list_words: &[u64; 400],
-    list_bytes: &[u8; 49152],
+    list_words: &'a [u64; 400],
+    list_bytes: &'a [u8; 49152],
     room: &mut [u8; 60000],
     words: &mut [u64; 3840],
     bytes: &mut [u8; 524288],

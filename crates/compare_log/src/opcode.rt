@@ -36,15 +36,15 @@ fn serve_state(
     }
 }
 
-pub fn serve(
+pub fn serve<'a>(
     list: LogChange,
     queues: Queues,
     living: Living,
     directory: Directory,
     command: &[u8],
     log: &[u8],
-    list_words: &[u64; 400],
-    list_bytes: &[u8; 49152],
+    list_words: &'a [u64; 400],
+    list_bytes: &'a [u8; 49152],
     room: &mut [u8; 60000],
     words: &mut [u64; 3840],
     bytes: &mut [u8; 524288],

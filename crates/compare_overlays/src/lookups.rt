@@ -179,14 +179,14 @@ fn look_part<'a>(
     )
 }
 
-pub fn lookup(
+pub fn lookup<'a>(
     list: LogChange,
     overlays: LogOverlays,
     command: &[u8],
-    list_words: &[u64; 400],
-    list_bytes: &[u8; 49152],
-    words: &[u64; 3840],
-    bytes: &[u8; 524288],
+    list_words: &'a [u64; 400],
+    list_bytes: &'a [u8; 49152],
+    words: &'a [u64; 3840],
+    bytes: &'a [u8; 524288],
     answer: &mut [u8; 65536],
 ) -> Reply {
     if command.len() != 13 {

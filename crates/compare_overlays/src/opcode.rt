@@ -24,15 +24,15 @@ pub fn replied(overlays: LogOverlays, reply: Reply) -> Overlaid {
 }
 
 // Those that leave the overlays as they are.
-fn tell(
+fn tell<'a>(
     list: LogChange,
     overlays: LogOverlays,
     command: &[u8],
-    list_words: &[u64; 400],
-    list_bytes: &[u8; 49152],
+    list_words: &'a [u64; 400],
+    list_bytes: &'a [u8; 49152],
     room: &mut [u8; 60000],
-    words: &[u64; 3840],
-    bytes: &[u8; 524288],
+    words: &'a [u64; 3840],
+    bytes: &'a [u8; 524288],
     answer: &mut [u8; 65536],
 ) -> Reply
     requires { ⌜ 1 ≤ length (now command) ⌝ }
@@ -66,12 +66,12 @@ fn tell(
     }
 }
 
-pub fn serve(
+pub fn serve<'a>(
     list: LogChange,
     overlays: LogOverlays,
     command: &[u8],
-    list_words: &[u64; 400],
-    list_bytes: &[u8; 49152],
+    list_words: &'a [u64; 400],
+    list_bytes: &'a [u8; 49152],
     room: &mut [u8; 60000],
     words: &mut [u64; 3840],
     bytes: &mut [u8; 524288],

@@ -88,15 +88,15 @@ fn put_copied(answer: &mut [u8; 65536], done: Copied, room: &[u8; 60000], end: u
     Reply::Line((6 + end) as u16)
 }
 
-pub fn value_into(
+pub fn value_into<'a>(
     list: LogChange,
     overlays: LogOverlays,
     command: &[u8],
-    list_words: &[u64; 400],
-    list_bytes: &[u8; 49152],
+    list_words: &'a [u64; 400],
+    list_bytes: &'a [u8; 49152],
     room: &mut [u8; 60000],
-    words: &[u64; 3840],
-    bytes: &[u8; 524288],
+    words: &'a [u64; 3840],
+    bytes: &'a [u8; 524288],
     answer: &mut [u8; 65536],
 ) -> Reply {
     if command.len() != 16 {

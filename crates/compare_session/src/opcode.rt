@@ -70,11 +70,11 @@ fn list(
     kept.replied(reply)
 }
 
-fn on_overlays(
+fn on_overlays<'a>(
     session: Session,
     command: &[u8],
-    list_words: &[u64; 400],
-    list_bytes: &[u8; 49152],
+    list_words: &'a [u64; 400],
+    list_bytes: &'a [u8; 49152],
     written: &mut [u8; 60000],
     words: &mut [u64; 3840],
     bytes: &mut [u8; 524288],
@@ -106,12 +106,12 @@ fn on_overlays(
     kept.replied(reply)
 }
 
-fn live(
+fn live<'a>(
     session: Session,
     command: &[u8],
     log: &[u8; 80000],
-    list_words: &[u64; 400],
-    list_bytes: &[u8; 49152],
+    list_words: &'a [u64; 400],
+    list_bytes: &'a [u8; 49152],
     written: &mut [u8; 60000],
     words: &mut [u64; 3840],
     bytes: &mut [u8; 524288],
