@@ -1,6 +1,6 @@
 -- A RECORD ENDED AND THEN READ: what `end_record` writes is what `flush_to_file` writes and what replay accepts, and `end_read` of those bytes,
 -- with nothing between, leaves no key of the record in the overlays. Assumes nothing.
-use mathlib.Core.Path.{_≡_, refl, sym, ap, _∙_}
+use mathlib.Core.Path.{_≡_, refl, ap, _∙_}
 use mathlib.Core.Bool.{Bool, true, false, not, _||_}
 use mathlib.Core.List.{List, [], _∷_, _++_, map}
 use mathlib.Core.Option.{none}
@@ -11,7 +11,6 @@ use lib.Dec.{eqb}
 use lib.ListN.{length, getD, take, drop}
 use lib.Seq.{getD-take, length-take-le}
 use borrow.Author.Tests.{eq-eqb, ne-eqb}
-use Rattle.words.specs.Choice.{if_then_else_}
 use Rattle.words.proofs.Choices.{if-true, if-false}
 use Rattle.directory.specs.Directory.{imageLength}
 use Rattle.directory.specs.declared.table.TableKind.{TableKind}
@@ -24,8 +23,7 @@ use Rattle.replay.specs.Replay.{Walked, walked, judged, replayedAs}
 use Rattle.keys.specs.Keys.{keyAt}
 use Rattle.keys.proofs.Places.{both}
 use Rattle.overlay.specs.Rules.{Overlay}
-use Rattle.memory.specs.Parts.{Parts, ofKind, partsKept, entryUnder}
-use Rattle.memory.specs.Overlays.{Overlays}
+use Rattle.memory.specs.Parts.{ofKind, entryUnder}
 use Rattle.memory.specs.declared.span.Holder.the-variants as holder
 use Rattle.change.specs.Change.{Change, changeKept}
 use Rattle.change.specs.Size.{recordSize}

@@ -1,17 +1,16 @@
 -- `clear_replay_logs`, case by case; and whatever it answers, overlays that kept their rules keep them (the queues' rules are kept by their own
 -- part of it: `clear-replay-logs`, crates/files/proofs/KeepsRules). Assumes nothing.
 use mathlib.Core.Path.{_≡_, refl, sym, ap, _∙_}
-use mathlib.Core.Bool.{Bool, true, false, _&&_, and-false}
+use mathlib.Core.Bool.{Bool, true, false}
 use mathlib.Core.List.{List}
 use Prim.Native.Nat.{ℕ, zero-le}
-use Rattle.words.specs.Choice.{if_then_else_}
 use Rattle.answer.specs.declared.answer.Answer.the-variants.{BadState}
 use Rattle.directory.specs.declared.table.TableKind.{TableKind}
 use Rattle.directory.specs.declared.table.TableKind.the-variants.{Index, Value, RefCount}
 use Rattle.keys.specs.Keys.{keysOf, ruled}
 use Rattle.overlay.specs.Rules.{Overlay, overlayKept, listsOf}
 use Rattle.overlay.proofs.Ruled.{shows, makes}
-use Rattle.memory.specs.Parts.{Parts, spanOf, partsOf, ofKind, partsKept, noCounts}
+use Rattle.memory.specs.Parts.{Parts, spanOf, partsOf, ofKind, partsKept}
 use Rattle.memory.specs.Overlays.{noOverlays}
 use Rattle.memory.specs.declared.overlays.LogOverlays.{LogOverlays}
 use Rattle.memory.specs.declared.span.Holder.the-variants as holder
