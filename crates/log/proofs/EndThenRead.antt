@@ -143,7 +143,7 @@ module _
         → length image ≡ imageLength d  -- any other gives 13
         → replayedAs 0 (judged d (left .output) 0 (l .id) image) ≡ record { answer = Done; position = recordSize l }
     replay-accepts image long =
-        ap (λ (log : List ℕ). replayedAs 0 (judged d log 0 (l .id) image)) record-first ∙ replayed-done d l kept words more image long
+        ap (λ (log : List ℕ). replayedAs 0 (judged d log 0 (l .id) image)) record-first ∙ replayed-done d l more image kept words long
 
     reads : read.recordAgain d (left .output) 0 ≡ walked again (recordSize l)
     reads =

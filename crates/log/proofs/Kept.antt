@@ -4,7 +4,7 @@ use mathlib.Core.Path.{_≡_, refl, sym, ap, _∙_}
 use mathlib.Core.Bool.{Bool, true, false}
 use mathlib.Core.List.{List}
 use Prim.Native.Nat.{ℕ, zero-le}
-use Rattle.answer.specs.declared.answer.Answer.the-variants.{BadState}
+use Rattle.answer.specs.declared.answer.Answer.the-variants.{Done, BadState}
 use Rattle.directory.specs.declared.table.TableKind.{TableKind}
 use Rattle.directory.specs.declared.table.TableKind.the-variants.{Index, Value, RefCount}
 use Rattle.keys.specs.Keys.{keysOf, ruled}
@@ -16,9 +16,14 @@ use Rattle.memory.specs.declared.overlays.LogOverlays.{LogOverlays}
 use Rattle.memory.specs.declared.span.Holder.the-variants as holder
 use Rattle.memory.proofs.Spans.{all-shows, all-makes}
 use Rattle.files.specs.Queues.{queuesKept}
+use Rattle.files.specs.Calls.{clearReplayLogsKept}
 use Rattle.files.specs.declared.queues.Queues.{Queues}
+use Rattle.files.specs.declared.reading.ReplayCleared.{ReplayCleared}
 use Rattle.log.specs.ClearReplay.{logsClearedKept, logsCleared}
 use Rattle.log.specs.declared.clear_replay.LogsCleared.{LogsCleared}
+
+pub emptied-by : (q : Queues) (o : LogOverlays) → o ≡ noOverlays → (c : ReplayCleared) → c ≡ clearReplayLogsKept q → record { answer = Done; overlays = o; queues = c .queues } ≡ logsClearedKept q
+emptied-by q o e c f = rw (e, f)
 
 module _ (o : LogOverlays) (words bytes : List ℕ) (q : Queues) where
   pub no-overlays : partsKept holder.Shared (partsOf holder.Shared (o .counts) words bytes) ≡ false → record { answer = BadState; overlays = o; queues = q } ≡ logsCleared o words bytes q
