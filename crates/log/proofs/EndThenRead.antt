@@ -20,8 +20,8 @@ use Rattle.answer.specs.Answer.{lastRecordId}
 use Rattle.answer.specs.declared.answer.Answer.the-variants.{Done}
 use Rattle.effect.specs.Effect.{Written}
 use Rattle.replay.specs.Replay.{Walked, walked, judged, replayedAs}
+use Rattle.numbers.proofs.Laws.{both}
 use Rattle.keys.specs.Keys.{keyAt}
-use Rattle.keys.proofs.Places.{both}
 use Rattle.overlay.specs.Rules.{Overlay}
 use Rattle.memory.specs.Parts.{ofKind, entryUnder}
 use Rattle.memory.specs.declared.span.Holder.the-variants as holder
