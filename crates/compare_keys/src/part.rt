@@ -1,11 +1,21 @@
-// The slots of a memory of one kind.
+// Where the keys and bytes of a kind lie.
 ghost use Prim.Native.Nat.{_≤_, _<_};
+ghost use Rattle.compare_keys.specs.Bounds.{PartFits};
 use compare_lines::least;
 use directory::TableKind;
+use memory::Holder;
+use memory::Span;
 
 pub struct Slot {
     pub start: usize,
     pub end: usize,
+}
+
+// The part of a kind, with its bounds.
+pub fn part_of(holder: Holder, kind: TableKind) -> Span
+    ensures { λ r. ⌜ PartFits holder r ⌝ }
+{
+    memory::span_of(holder, kind)
 }
 
 fn start_of(kind: TableKind, p: usize) -> usize

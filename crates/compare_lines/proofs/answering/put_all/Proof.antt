@@ -1,8 +1,8 @@
 -- `put_all` keeps within its room. Assumes nothing.
 use Prim.Native.Nat.{_+_, _*_, _-_, _≤_}
 use native.Mathlib.Omega.{arith}
-use Rattle.compare_lines.proofs.answer.put_all.Statement.{statement}
-use Rattle.compare_lines.proofs.answer.put_all.Tie as tie
+use Rattle.compare_lines.proofs.answering.put_all.Statement.{statement}
+use Rattle.compare_lines.proofs.answering.put_all.Tie as tie
 
 abbrev Inv-loop : tie.InvT-loop
 Inv-loop answer₀ at numbers n width step o₀ i₀ answer o i = (i ≤ n) × (o ≤ at + 12 * i)

@@ -1,24 +1,30 @@
--- `put_keys` keeps within its room. Assumes nothing.
+-- `put_part` keeps within its room. Assumes nothing.
+use borrow.Author.Needs.{needs}
 use Prim.Native.Nat.{_+_, _*_, _-_, _≤_}
 use native.Mathlib.Omega.{arith}
-use borrow.Author.Needs.{needs}
-use Rattle.compare_keys.proofs.telling.put_keys.Statement.{statement}
-use Rattle.compare_keys.proofs.telling.put_keys.Tie as tie
+use Rattle.compare_keys.proofs.telling.put_part.Statement.{statement}
+use Rattle.compare_keys.proofs.telling.put_part.Tie as tie
 
 abbrev Inv-loop : tie.InvT-loop
-Inv-loop answer₀ at kind with-ids rows order bytes count room n o₀ j₀ answer o j = (j ≤ n) × (o ≤ at + 2 + 30 * j)
+Inv-loop answer₀ at holder kind room words bytes count n cut o₀ j₀ answer o j = (j ≤ n) × (o ≤ at + 2 + 30 * j)
 
 abbrev μ-loop : tie.MeasureT-loop
-μ-loop answer₀ at kind with-ids rows order bytes count room n o₀ j₀ answer o j = n - j
+μ-loop answer₀ at holder kind room words bytes count n cut o₀ j₀ answer o j = n - j
 
 least-requires : tie.Need-least-requires Inv-loop μ-loop
 least-requires c κs = search needs
+
+mul-cut : tie.Need-mul-cut Inv-loop μ-loop
+mul-cut c = omega arith
 
 put-requires : tie.Need-put-requires Inv-loop μ-loop
 put-requires c κs = omega arith
 
 loop-holds : tie.Need-loop-holds Inv-loop μ-loop
 loop-holds c = omega arith
+
+add-least : tie.Need-add-least Inv-loop μ-loop
+add-least c = omega arith
 
 mul-least : tie.Need-mul-least Inv-loop μ-loop
 mul-least c = omega arith
@@ -47,15 +53,17 @@ loop-again c = omega arith
 returns : tie.Need-returns Inv-loop μ-loop
 returns c = omega arith
 
-pub put-keys-spec : {M : Type 1} → statement M
-put-keys-spec =
+pub put-part-spec : {M : Type 1} → statement M
+put-part-spec =
     tie.close
     (tie.spec
     Inv-loop
     μ-loop
     least-requires
+    mul-cut
     put-requires
     loop-holds
+    add-least
     mul-least
     shared-slice-read-least
     sub-least
