@@ -1,7 +1,7 @@
-// Every call of a host under one name. The calls that take a directory stand here by value, and in `lent` over a slice of descriptions.
-pub mod lent;
+// Every call of a host under one name. The calls that take a directory stand here by value, and in `slices` over a lent slice of descriptions.
 pub mod listed;
 pub mod shared;
+pub mod slices;
 
 pub use answer::Answer;
 pub use answer::LAST_RECORD_ID;
