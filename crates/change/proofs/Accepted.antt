@@ -22,7 +22,8 @@ use Rattle.directory.specs.declared.directory.Found.the-variants.{At, Nothing}
 use Rattle.keys.specs.Keys.{rank, markAt, ruled}
 use Rattle.keys.proofs.Places.{left-of, right-of}
 use Rattle.overlay.specs.Rules.{Overlay, slotSize, listsOf}
-use Rattle.overlay.specs.Overlay.{spotIn, standsIn, placeIn, seatIn}
+use Rattle.overlay.specs.Overlay.{spotIn, standsIn, placeIn}
+use Rattle.overlay.specs.Inner.{seatIn}
 use Rattle.overlay.specs.Entries.{Entry, entryAt, entriesOf, findEntry}
 use Rattle.overlay.specs.declared.seat.Seat.the-variants.{Over, Next}
 use Rattle.overlay.proofs.Ruled.{Kept, shows}
@@ -76,16 +77,16 @@ plan-keys kind Nothing number index sub src rows order bytes n = refl
 plan-keys kind (At row t) number index sub src rows order bytes n = refl
 
 -- a table that a search finds is one of its kind, and it keeps its rules if all do
-same : (a b : TableKind) → sameKind a b ≡ true → a ≡ b
-same Index Index e = refl
-same Value Value e = refl
-same RefCount RefCount e = refl
-same Index Value e = let z : _≡_ {A = ℕ} 0 1 = cc in absurd (omega arith)
-same Index RefCount e = let z : _≡_ {A = ℕ} 0 1 = cc in absurd (omega arith)
-same Value Index e = let z : _≡_ {A = ℕ} 0 1 = cc in absurd (omega arith)
-same Value RefCount e = let z : _≡_ {A = ℕ} 0 1 = cc in absurd (omega arith)
-same RefCount Index e = let z : _≡_ {A = ℕ} 0 1 = cc in absurd (omega arith)
-same RefCount Value e = let z : _≡_ {A = ℕ} 0 1 = cc in absurd (omega arith)
+pub same-kind : (a b : TableKind) → sameKind a b ≡ true → a ≡ b
+same-kind Index Index e = refl
+same-kind Value Value e = refl
+same-kind RefCount RefCount e = refl
+same-kind Index Value e = let z : _≡_ {A = ℕ} 0 1 = cc in absurd (omega arith)
+same-kind Index RefCount e = let z : _≡_ {A = ℕ} 0 1 = cc in absurd (omega arith)
+same-kind Value Index e = let z : _≡_ {A = ℕ} 0 1 = cc in absurd (omega arith)
+same-kind Value RefCount e = let z : _≡_ {A = ℕ} 0 1 = cc in absurd (omega arith)
+same-kind RefCount Index e = let z : _≡_ {A = ℕ} 0 1 = cc in absurd (omega arith)
+same-kind RefCount Value e = let z : _≡_ {A = ℕ} 0 1 = cc in absurd (omega arith)
 
 found-kept : (row : ℕ) (ts : List TableDescription) (kind : TableKind) (number r : ℕ) (t : TableDescription)
     → findFrom row ts kind number ≡ At r t → eachKept ts ≡ true → (isTable t kind number ≡ true) × (tableKept t ≡ true)
@@ -104,7 +105,7 @@ pub length-kept : (d : Directory) (kind : TableKind) (number r : ℕ) (t : Table
 unfolding directoryKept findTable isTable tableKept
 length-kept d kind number r t k e =
     let f = found-kept 0 (tablesOf d) kind number r t e (left-of (eachKept (tablesOf d)) _ (right-of (leb (d .count) 16) _ k)) in
-    let s : t .kind ≡ kind = same (t .kind) kind (left-of (sameKind (t .kind) kind) _ (f .0)) in
+    let s : t .kind ≡ kind = same-kind (t .kind) kind (left-of (sameKind (t .kind) kind) _ (f .0)) in
     subst (λ (x : TableKind). lengthFits x (t .length) ≡ true) s
     (right-of (leb (t .count) 4096) _ (right-of (leb 1 (t .count)) _ (right-of (leb (t .column) 7) _ (f .1))))
 

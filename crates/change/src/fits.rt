@@ -56,7 +56,7 @@ fn all_fit<'a>(
     n: usize,
 ) -> bool
     requires { ⌜ (4 * room ≤ length (now rows)) × (room ≤ length (now order)) × (keysRuled kind room (now rows) (now order) n ≡ true) ⌝ }
-    ensures { λ r. ⌜ r ≡ entriesFit directory kind (Rattle.overlay.specs.Rules.listsOf (now (rows .entry)) (now (order .entry)) [] n) ⌝ }
+    ensures { λ r. ⌜ r ≡ entriesFit directory kind (listsOf (now (rows .entry)) (now (order .entry)) [] n) ⌝ }
 {
     let mut last: u16 = 0;
     let mut found = directory.find(kind, last);

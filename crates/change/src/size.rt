@@ -3,7 +3,6 @@ ghost use mathlib.Core.Path.{_≡_};
 ghost use mathlib.Core.Bool.{true};
 ghost use mathlib.Core.List.{[]};
 ghost use Prim.Native.Nat.{_*_, _≤_};
-ghost use lib.Count.{ones};
 ghost use lib.ListN.{length};
 ghost use Rattle.overlay.specs.Rules.{keysRuled, markRuled, rowsOf, orderOf, overlayOf, listsOf};
 ghost use Rattle.memory.specs.Parts.{partOf};
@@ -21,21 +20,15 @@ pub struct Sized {
     pub length: usize,
 }
 
-fn set_bits(mask: u64) -> usize
-    ensures { λ r. ⌜ (r ≡ ones mask) × (r ≤ 64) ⌝ }
-{
-    u64::count_ones(mask) as usize
-}
-
 // The bounds here say that no sum wraps.
 fn entry_size(kind: TableKind, mark: u64) -> usize
     requires { ⌜ markRuled kind mark ≡ true ⌝ }
     ensures { λ r. ⌜ (r ≡ entrySize kind mark) × (r ≤ 1043) ⌝ }
 {
     match kind {
-        TableKind::Index => 19 + 8 * set_bits(mark),
+        TableKind::Index => 19 + 8 * words::set_bits(mark),
         TableKind::Value => 11 + mark as usize,
-        TableKind::RefCount => 19 + 16 * set_bits(mark),
+        TableKind::RefCount => 19 + 16 * words::set_bits(mark),
     }
 }
 
@@ -47,7 +40,7 @@ fn places_size<'a>(
     n: usize,
 ) -> usize
     requires { ⌜ (room ≤ 256) × (4 * room ≤ length (now rows)) × (room ≤ length (now order)) × (keysRuled kind room (now rows) (now order) n ≡ true) ⌝ }
-    ensures { λ r. ⌜ (r ≡ entriesSize kind (Rattle.overlay.specs.Rules.listsOf (now (rows .entry)) (now (order .entry)) [] n)) × (r ≤ 1043 * n) ⌝ }
+    ensures { λ r. ⌜ (r ≡ entriesSize kind (listsOf (now (rows .entry)) (now (order .entry)) [] n)) × (r ≤ 1043 * n) ⌝ }
 {
     let mut t: usize = 0;
     let mut i: usize = 0;

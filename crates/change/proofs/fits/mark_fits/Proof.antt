@@ -2,34 +2,25 @@
 use borrow.Author.Needs.{needs}
 use Rattle.change.proofs.fits.mark_fits.Statement.{statement}
 use Rattle.change.proofs.fits.mark_fits.Tie as tie
-use Rattle.change.proofs.fits.mark_fits.Reads as reads
-use Rattle.change.proofs.fits.mark_fits.Lts as lts
 
--- src/fits.rt:19:29
 enum-told : tie.Need-enum-told
 enum-told c = search needs
 
--- src/fits.rt:20:37
 enum-told-2 : tie.Need-enum-told-2
 enum-told-2 c = search needs
 
--- src/fits.rt:20:37
 cast-result : tie.Need-cast-result
 cast-result c = search needs
 
--- src/fits.rt:21:32
 enum-told-3 : tie.Need-enum-told-3
 enum-told-3 c = search needs
 
--- src/fits.rt:15:1
 returns : tie.Need-returns
 returns c = rw (c .enum-told .given .1)
 
--- src/fits.rt:15:1
 returns-2 : tie.Need-returns-2
 returns-2 c = rw (c .before .enum-told2 .given .1)
 
--- src/fits.rt:15:1
 returns-3 : tie.Need-returns-3
 returns-3 c = rw (c .enum-told3 .given .1)
 

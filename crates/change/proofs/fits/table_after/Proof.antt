@@ -4,19 +4,13 @@ use Rattle.directory.specs.Directory.{findTable}
 use borrow.Author.Needs.{needs}
 use Rattle.change.proofs.fits.table_after.Statement.{statement}
 use Rattle.change.proofs.fits.table_after.Tie as tie
-use Rattle.change.proofs.fits.table_after.Reads as reads
-use Rattle.change.proofs.fits.table_after.Lts as lts
-use Rattle.directory.proofs.directory.Directory.find.Reads as find-reads
 
--- src/fits.rt:45:9
 returns : tie.Need-returns
 returns c = c .before .pre ∙ ap (findTable (c .before .args .directory) (c .before .args .kind)) (sym (c .if1 .taken))
 
--- src/fits.rt:47:5
 find-requires : tie.Need-find-requires
 find-requires c κs = search needs
 
--- src/fits.rt:40:1
 returns-2 : tie.Need-returns-2
 returns-2 c = search needs
 

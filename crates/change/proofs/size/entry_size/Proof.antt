@@ -12,62 +12,46 @@ use Rattle.overlay.specs.Rules.{markRuled}
 use borrow.Author.Needs.{needs}
 use Rattle.change.proofs.size.entry_size.Statement.{statement}
 use Rattle.change.proofs.size.entry_size.Tie as tie
-use Rattle.change.proofs.size.entry_size.Reads as reads
-use Rattle.change.proofs.size.entry_size.Lts as lts
-use Rattle.change.proofs.size.set_bits.Reads as set-bits-reads
 
--- src/size.rt:36:38
 short : (kind : TableKind) (len : ℕ) → kind ≡ Value → markRuled kind len ≡ true → len ≤ 512
 short kind len e h = let k : markRuled Value len ≡ true = rw e at h in leb-true len 512 (right-of (leb 1 len) _ k)
 
 enum-told : tie.Need-enum-told
 enum-told c = search needs
 
--- src/size.rt:36:38
 set-bits-requires : tie.Need-set-bits-requires
 set-bits-requires c κs = search needs
 
--- src/size.rt:36:34
 mul-result : tie.Need-mul-result
 mul-result c = search needs
 
--- src/size.rt:36:29
 add-result : tie.Need-add-result
 add-result c = search needs
 
--- src/size.rt:37:34
 enum-told-2 : tie.Need-enum-told-2
 enum-told-2 c = search needs
 
--- src/size.rt:37:29
 add-result-2 : tie.Need-add-result-2
 add-result-2 c = omega (arith, short (c .before .before .args .kind) (c .before .before .args .mark) (c .enum-told2 .given .1) (c .before .before .pre))
 
--- src/size.rt:38:42
 enum-told-3 : tie.Need-enum-told-3
 enum-told-3 c = search needs
 
--- src/size.rt:38:42
 set-bits-requires-2 : tie.Need-set-bits-requires-2
 set-bits-requires-2 c κs = search needs
 
--- src/size.rt:38:37
 mul-result-2 : tie.Need-mul-result-2
 mul-result-2 c = search needs
 
--- src/size.rt:38:32
 add-result-3 : tie.Need-add-result-3
 add-result-3 c = search needs
 
--- src/size.rt:31:1
 returns : tie.Need-returns
 returns c = rw (c .before .enum-told .given .1) (omega (arith, c .set-bits .ensures))
 
--- src/size.rt:31:1
 returns-2 : tie.Need-returns-2
 returns-2 c = rw (c .enum-told2 .given .1) (omega (arith, short (c .before .before .args .kind) (c .before .before .args .mark) (c .enum-told2 .given .1) (c .before .before .pre)))
 
--- src/size.rt:31:1
 returns-3 : tie.Need-returns-3
 returns-3 c = rw (c .before .enum-told3 .given .1) (omega (arith, c .set-bits2 .ensures))
 
