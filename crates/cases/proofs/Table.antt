@@ -4,20 +4,19 @@
 use mathlib.Core.Path.{_≡_}
 use mathlib.Core.Bool.{Bool, true}
 use mathlib.Core.List.{List, [], _∷_}
-use Prim.Native.Nat.{ℕ}
+use Prim.Native.Nat.{ℕ, _^_}
 use lib.ListN.{length, take}
 use Rattle.directory.specs.Directory.{directoryKept}
 use Rattle.directory.specs.declared.directory.Directory.{Directory}
-use Rattle.directory.specs.declared.table.TableKind.the-variants.{Index, Value, RefCount}
-use Rattle.record.specs.Next.{readerAt, nextOf}
+use Rattle.directory.specs.declared.table.TableKind.the-variants.{Value, RefCount}
+use Rattle.record.specs.Next.{answerOf, readerAt, nextOf}
 use Rattle.answer.specs.declared.answer.Answer.the-variants.{Done, BadArgument}
-use Rattle.record.proofs.Cases.{answerOf}
 use Rattle.record.proofs.Cases as openings
-use Rattle.change.specs.Listed.{newList}
-use Rattle.change.specs.Insert.{inserted, localAfter}
+use Rattle.keys.specs.Keys.{markAt}
+use Rattle.change.specs.Insert.{notMade, inserted}
 use Rattle.change.specs.Drop.{tableDropped}
-use Rattle.writer.specs.Bytes.{recordOf}
-use Rattle.writer.proofs.Cases.{directory, memory, from, chunk, empty, twoSlots, oneValue, oneDrop, oneCount, insertedBytes}
+use Rattle.writer.specs.Flush.{flushToFile}
+use Rattle.writer.proofs.Cases.{directory, new, output, from, chunk, empty, twoSlots, oneValue, oneDrop, oneCount, wrote, slotIn}
 use Rattle.writer.proofs.Cases as records
 use Rattle.files.specs.Queues.{poolOf}
 use Rattle.files.specs.Calls.{flushOne, notFlushed, cleanLogs}
@@ -33,19 +32,19 @@ Always P = (d : Directory) → directoryKept d ≡ true → (validate : Bool) �
 
 pub record Table : Type 0 where
   -- "(a) empty record, 14 bytes"
-  pub a : recordOf (newList 1) memory ≡ empty
+  pub a : flushToFile directory new output ≡ wrote empty
   pub a-length : length empty ≡ 14
   -- "(b) mask 5, index, 49 bytes in all": slots 0 and 2 put in, one after the other
-  pub b : insertedBytes Index (inserted Index directory (newList 1) memory 1 3 0 (chunk 512) .list) (localAfter Index directory (newList 1) memory 1 3 0 (chunk 512)) 1 3 2 (chunk 512) ≡ twoSlots
+  pub b : flushToFile directory (slotIn (slotIn new 0 .change) 2 .change) output ≡ wrote twoSlots
   pub b-length : length twoSlots ≡ 49
   -- "(c) one 20-byte value, 45"
-  pub c : insertedBytes Value (newList 1) memory 2 4 0 (from 20 1) ≡ oneValue
+  pub c : flushToFile directory (inserted Value directory new 2 4 0 (from 20 1) .change) output ≡ wrote oneValue
   pub c-length : length oneValue ≡ 45
   -- "(d) one drop, 17"
-  pub d : recordOf (tableDropped directory (newList 1) 49152 1 .list) memory ≡ oneDrop
+  pub d : flushToFile directory (tableDropped directory new 1 .change) output ≡ wrote oneDrop
   pub d-length : length oneDrop ≡ 17
   -- "(e) reference count, one slot, 49"
-  pub e : insertedBytes RefCount (newList 1) memory 3 5 1 (chunk 1024) ≡ oneCount
+  pub e : flushToFile directory (inserted RefCount directory new 3 5 1 (chunk 1024) .change) output ≡ wrote oneCount
   pub e-length : length oneCount ≡ 49
   -- "(f) bytes 01 and seven more, answer 1"
   pub f : Always (λ d validate. (a b c e f g h : ℕ) → answered d validate (1 ∷ a ∷ b ∷ c ∷ e ∷ f ∷ g ∷ h ∷ []) ≡ 1)
@@ -56,8 +55,9 @@ pub record Table : Type 0 where
   -- "(i) 05 and two bytes, 4"
   pub i : Always (λ d validate. (a b : ℕ) → answered d validate (5 ∷ a ∷ b ∷ []) ≡ 4)
   -- "(j) slot 63 taken, 64 answered 14"
-  pub j-63 : inserted Index directory (newList 1) memory 1 3 63 (chunk 512) .answer ≡ Done
-  pub j-64 : inserted Index directory (newList 1) memory 1 3 64 (chunk 512) .answer ≡ BadArgument
+  pub j-63 : slotIn new 63 .answer ≡ Done
+  pub j-mask : markAt (slotIn new 63 .change .parts .index .rows) 0 ≡ 2 ^ 63
+  pub j-64 : slotIn new 64 ≡ notMade BadArgument new
   -- "(k) size 10, minimum 10, no flush"
   pub k : flushOne ten 10 ≡ notFlushed Done ten
   -- "(l) 17 due in the pool, the highest removed": file 16 goes, 0 to 15 are kept
@@ -81,7 +81,8 @@ table = record {
   h = λ d kept validate. openings.cases d kept validate 0 0 0 0 0 0 0 .2;
   i = λ d kept validate a b. openings.cases d kept validate a b 0 0 0 0 0 .3;
   j-63 = records.cases .5;
-  j-64 = records.cases .6;
+  j-mask = records.cases .6;
+  j-64 = records.cases .7;
   k = k-no-flush;
   l = l-highest-removed;
   l-kept = l-lowest-kept;

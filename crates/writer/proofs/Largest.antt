@@ -1,76 +1,29 @@
--- "the largest record is 50,526 bytes": no list passes it, and one reaches it. Assumes nothing.
+-- "the largest record is 50,526 bytes": no list passes it (`record-size-max`, crate change), and this one reaches it. Assumes nothing.
 use mathlib.Core.Path.{_≡_, refl, _∙_}
 use mathlib.Core.Bool.{true}
 use mathlib.Core.List.{List, [], _∷_, _++_}
-use Prim.Native.Nat.{ℕ, zero, suc, _+_, _*_, _≤_, _<_, suc-le-suc}
-use native.Mathlib.Nat.{suc-mul, mul-le-mul-right, le-trans, zero-lt-suc}
+use Prim.Native.Nat.{ℕ, zero, suc, _+_, _<_}
 use native.Mathlib.Omega.{arith}
-use lib.Count.{ones-le, ones-ones}
-use lib.Dec.{ltb, leb}
-use lib.ListN.{length, take, getD, replicate}
-use lib.Seq.{getD-take, length-take-le}
-use borrow.Author.Tests.{ltb-true, leb-true}
+use lib.Count.{ones-ones}
+use lib.Dec.{ltb}
+use lib.ListN.{length, replicate}
+use borrow.Author.Tests.{ltb-true}
 use Rattle.directory.specs.Table.{isTable, tableKept, description}
 use Rattle.directory.specs.Directory.{findFrom, findTable, stands, eachKept, apart, directoryKept}
-use Rattle.directory.specs.declared.table.TableKind.{TableKind}
 use Rattle.directory.specs.declared.table.TableKind.the-variants.{Index, Value, RefCount}
 use Rattle.directory.specs.declared.directory.Directory.{Directory}
-use Rattle.keys.specs.Keys.{markAt, keysOf, allUnder, ruled}
+use Rattle.keys.specs.Keys.{keysOf, allUnder, ruled}
 use Rattle.keys.proofs.Places.{left-of, right-of}
-use Rattle.overlay.specs.Rules.{Overlay, markRuled, rowRuled, keysRuled, overlayKept}
-use Rattle.overlay.proofs.Ruled.{shows}
-use Rattle.memory.specs.Parts.{spanOf, ofKind, partsKept}
-use Rattle.memory.specs.declared.span.Holder.the-variants as holder
-use Rattle.memory.proofs.Spans.{lies}
+use Rattle.overlay.specs.Rules.{rowRuled, keysRuled, overlayKept}
+use Rattle.memory.specs.Parts.{partsKept}
 use Rattle.change.specs.Change.{Change, changeOf, changeRuled, entryFits, entriesFit, dropsFit, changeFits, changeKept}
-use Rattle.change.specs.Size.{entrySize, placesSize, entriesSize, recordSize}
+use Rattle.change.specs.Size.{placesSize, entriesSize, recordSize}
 use Rattle.change.specs.declared.change.LogChange.{LogChange}
-use Rattle.change.proofs.Rules.{ruled-shows, kept-ruled}
+use Rattle.change.proofs.Rules.{kept-ruled}
 use Rattle.writer.specs.Bytes.{recordOf}
 use Rattle.writer.specs.Typed.{Typed}
-use Rattle.writer.proofs.Rules.{within, key-marked, kind-kept}
 use Rattle.writer.proofs.Sizes.{length-record}
 use Rattle.writer.proofs.Words.{Below, typed}
-
--- the largest entry of a kind
-abbrev most : TableKind → ℕ
-most Index = 531
-most Value = 523
-most RefCount = 1043
-
-mark-most : (kind : TableKind) (mark : ℕ) → markRuled kind mark ≡ true → mark < 18446744073709551616 → entrySize kind mark ≤ most kind
-mark-most Index mark e h = omega (arith, ones-le 64 mark h)
-mark-most Value mark e h = omega (arith, leb-true mark 512 (right-of (leb 1 mark) _ e))
-mark-most RefCount mark e h = omega (arith, ones-le 64 mark h)
-
-places-most : (kind : TableKind) (rows : List ℕ) (m : ℕ) (ps : List ℕ) → ((j : ℕ) → j < length ps → entrySize kind (markAt rows (getD ps j 0)) ≤ m) → placesSize kind rows ps ≤ length ps * m
-unfolding placesSize
-places-most kind rows m [] h = omega arith
-places-most kind rows m (p ∷ ps) h =
-    let e : entrySize kind (markAt rows p) ≤ m = h zero (zero-lt-suc (length ps)) in
-    omega (arith, suc-mul (length ps) m, places-most kind rows m ps (λ j i. h (suc j) (suc-le-suc i)))
-
-module _ (kind : TableKind) (room : ℕ) (o : Overlay) (small : room ≤ 256) (ok : overlayKept kind room o ≡ true) (words : Below 18446744073709551616 (o .rows)) where
-  each : (j : ℕ) → j < o .count → entrySize kind (markAt (o .rows) (getD (take (o .count) (o .order)) j 0)) ≤ most kind
-  each j h =
-      rw (getD-take (o .count) (o .order) j 0 h)
-      (mark-most kind (markAt (o .rows) (getD (o .order) j 0)) (key-marked kind room o small ok j h) (words (4 * getD (o .order) j 0 + 3)))
-
-  entries-most : o .count ≤ room → entriesSize kind o ≤ room * most kind
-  unfolding entriesSize
-  entries-most fits =
-      let size = length-take-le (o .count) (o .order) (within kind room o small ok) in
-      le-trans (places-most kind (o .rows) (most kind) (take (o .count) (o .order)) (λ j h. each j (rw size at h))) (rw size (mul-le-mul-right (most kind) fits))
-
-module _ (l : Change) (ok : changeRuled l ≡ true) (t : Typed l) where
-  part : (kind : TableKind) → entriesSize kind (ofKind kind (l .parts)) ≤ spanOf holder.List kind .room * most kind
-  part kind =
-      entries-most kind (spanOf holder.List kind .room) (ofKind kind (l .parts)) (lies holder.List kind .room-most) (kind-kept l ok kind) (t .rows kind)
-      (shows kind (spanOf holder.List kind .room) (ofKind kind (l .parts)) (kind-kept l ok kind) .fits)
-
-  pub record-size-max : recordSize l ≤ 50526
-  unfolding recordSize
-  record-size-max = omega (arith, part Index, part Value, part RefCount, ruled-shows l ok .drops, ruled-shows l ok .count-drops)
 
 -- a list that is full: 32 index keys with every slot set, 32 values of 512 bytes, 16 reference count keys with every slot set, 16 drops of each kind
 abbrev directory : Directory

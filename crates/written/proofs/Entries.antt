@@ -1,6 +1,6 @@
 -- Each entry that the writer writes is read as its action. Assumes nothing.
 use mathlib.Core.Path.{_≡_, refl, sym, ap, ap₂, _∙_}
-use mathlib.Core.Bool.{Bool, true, false, _&&_}
+use mathlib.Core.Bool.{true, false, _&&_}
 use mathlib.Core.List.{List, [], _++_, append-assoc, append-nil}
 use Prim.Native.Nat.{ℕ, _+_, _*_, _≤_, _<_}
 use native.Mathlib.Omega.{arith}
@@ -18,20 +18,20 @@ use Rattle.directory.specs.declared.directory.Directory.{Directory}
 use Rattle.directory.specs.declared.directory.Found.{Found}
 use Rattle.directory.specs.declared.directory.Found.the-variants.{At, Nothing}
 use Rattle.record.specs.Format.{Format, got, readAt}
-use Rattle.record.specs.Record.{Item, insertOf, masked, dropped, insideBy}
+use Rattle.record.specs.Record.{Item, insertOf, maskedItem, droppedItem, insideBy}
 use Rattle.record.specs.Next.{isEnd}
 use Rattle.record.specs.declared.action.LogAction.{LogAction}
 use Rattle.effect.specs.Effect.{written}
 use Rattle.keys.proofs.Places.{left-of, right-of}
-use Rattle.change.specs.Room.{markKept}
-use Rattle.change.specs.Listed.{tableOf, keyFits}
-use Rattle.change.proofs.Fits.{there}
+use Rattle.overlay.specs.Rules.{markRuled}
+use Rattle.change.specs.Change.{markFits, keyFits}
+use Rattle.change.proofs.Fitting.{there}
 use Rattle.output.specs.Put.{le}
 use Rattle.output.proofs.Laws.{length-le}
-use Rattle.writer.specs.Bytes.{slots, payloadOf, entry}
+use Rattle.writer.specs.Bytes.{setSlots, maskedBytes, payloadOf, entryBytes}
+use Rattle.writer.proofs.Sizes.{ones-in, length-slots}
 use Rattle.written.proofs.Here.{Here, on}
 use Rattle.written.proofs.Parts.{masked-read, valued-read, dropped-read}
-use Rattle.written.proofs.Slots.{ones-in, length-slots}
 use Rattle.written.proofs.Walk.{Reads, tagged}
 
 -- what a listed key that fits the directory shows
@@ -41,30 +41,29 @@ pub record Fitting (d : Directory) (kind : TableKind) (t i m : ℕ) : Type 0 whe
   pub table : TableDescription
   pub found : findTable d kind t ≡ At row table
   pub below : i < table .count
-  pub mark : markKept kind (table .length) m ≡ true
+  pub mark : markFits kind table m ≡ true
+  pub ruled : markRuled kind m ≡ true
 
-pub fitting : (d : Directory) (kind : TableKind) (t i m : ℕ) → keyFits kind (tableOf d kind t) i m ≡ true → Fitting d kind t i m
-unfolding tableOf
-fitting d kind t i m e = by (ltb t 65536) refl (findTable d kind t) refl
+pub fitting : (d : Directory) (kind : TableKind) (t i m : ℕ) → t < 65536 → markRuled kind m ≡ true → keyFits kind (findTable d kind t) i m ≡ true → Fitting d kind t i m
+fitting d kind t i m small ruled e = by (findTable d kind t) refl
   where
-    by : (b : Bool) → ltb t 65536 ≡ b → (f : Found) → findTable d kind t ≡ f → Fitting d kind t i m
-    by true q (At row T) g =
-        let k : (ltb i (T .count) && markKept kind (T .length) m) ≡ true = rw (q, g) at e in
-        record { small = ltb-true t 65536 q; row = row; table = T; found = g; below = ltb-true i (T .count) (left-of (ltb i (T .count)) _ k); mark = right-of (ltb i (T .count)) _ k }
-    by true q Nothing g = let z : _≡_ {A = ℕ} 0 1 = cc (rw (q, g) at e) in absurd (omega arith)
-    by false q f g = let z : _≡_ {A = ℕ} 0 1 = cc (rw q at e) in absurd (omega arith)
+    by : (f : Found) → findTable d kind t ≡ f → Fitting d kind t i m
+    by (At row T) g =
+        let k : (ltb i (T .count) && markFits kind T m) ≡ true = rw g at e in
+        record { small = small; row = row; table = T; found = g; below = ltb-true i (T .count) (left-of (ltb i (T .count)) _ k); mark = right-of (ltb i (T .count)) _ k; ruled = ruled }
+    by Nothing g = let z : _≡_ {A = ℕ} 0 1 = cc (rw g at e) in absurd (omega arith)
 
 -- what lies under an index is a chunk, or a value as long as the mark says
-pub unit-kept : (kind : TableKind) (n m : ℕ) → markKept kind n m ≡ true → unitOf kind n ≡ unitOf kind m
-unit-kept Index n m e = refl
-unit-kept Value n m e = sym (eqb-true m n e)
-unit-kept RefCount n m e = refl
+pub unit-kept : (kind : TableKind) (T : TableDescription) (m : ℕ) → markFits kind T m ≡ true → unitOf kind (T .length) ≡ unitOf kind m
+unit-kept Index T m e = refl
+unit-kept Value T m e = sym (eqb-true m (T .length) e)
+unit-kept RefCount T m e = refl
 
 regroup : (a b c p q : List ℕ) → (((a ++ b) ++ c) ++ p) ++ q ≡ a ++ (b ++ (c ++ (p ++ q)))
 regroup a b c p q = simp append-assoc
 
 -- "2 index", "6 reference count"
-module _ (d : Directory) (kind : TableKind) (w tag : ℕ) (short : tag < 256) (is : (register : ℕ) → insideBy d true register tag ≡ masked d kind w)
+module _ (d : Directory) (kind : TableKind) (w tag : ℕ) (short : tag < 256) (is : (register : ℕ) → insideBy d true register tag ≡ maskedItem d kind w)
     (goes : (t i : ℕ) → isEnd (insertOf kind t i) ≡ false) where
   masked-reads : (t i m : ℕ) (s : List ℕ) → Fitting d kind t i m → i < 18446744073709551616 → m < 18446744073709551616 → length s ≡ ones m * w
       → Reads d (le 1 tag ++ le 2 t ++ le 8 i ++ (le 8 m ++ s)) (written (insertOf kind t i) (le 8 m ++ s))
@@ -105,20 +104,20 @@ module _ (d : Directory) where
 
 -- an entry of each kind
 module _ (d : Directory) (t i m : ℕ) (bytes : List ℕ) (word : i < 18446744073709551616) (bits : m < 18446744073709551616) where
-  named : (w : ℕ) → 64 * w ≤ length bytes → length (slots 64 w m bytes) ≡ ones m * w
+  named : (w : ℕ) → 64 * w ≤ length bytes → length (setSlots 64 w m bytes) ≡ ones m * w
   named w h = length-slots 64 w m bytes h ∙ ap (λ (x : ℕ). x * w) (ones-in 64 m bits)
 
   pub entry-reads : (kind : TableKind) (f : Fitting d kind t i m) → unitOf kind m ≤ length bytes
-      → Reads d (entry kind t i m bytes) (written (insertOf kind t i) (payloadOf kind m bytes))
-  unfolding entry insideBy Rattle.writer.specs.Bytes.masked
-  entry-reads Index f h = masked-reads d Index 8 2 (omega arith) (λ register. refl) (λ t i. refl) t i m (slots 64 8 m bytes) f word bits (named 8 h)
+      → Reads d (entryBytes kind t i m bytes) (written (insertOf kind t i) (payloadOf kind m bytes))
+  unfolding entryBytes insideBy maskedBytes
+  entry-reads Index f h = masked-reads d Index 8 2 (omega arith) (λ register. refl) (λ t i. refl) t i m (setSlots 64 8 m bytes) f word bits (named 8 h)
   entry-reads Value f h =
       let l : m ≡ length (take m bytes) = sym (length-take-le m bytes h) in
       valued-reads d t i (take m bytes) (rw l at f) word
-  entry-reads RefCount f h = masked-reads d RefCount 16 6 (omega arith) (λ register. refl) (λ t i. refl) t i m (slots 64 16 m bytes) f word bits (named 16 h)
+  entry-reads RefCount f h = masked-reads d RefCount 16 6 (omega arith) (λ register. refl) (λ t i. refl) t i m (setSlots 64 16 m bytes) f word bits (named 16 h)
 
 -- "5 drop index table", "7 drop reference count table"
-module _ (d : Directory) (kind : TableKind) (tag : ℕ) (action : ℕ → LogAction) (short : tag < 256) (is : (register : ℕ) → insideBy d true register tag ≡ dropped d kind action)
+module _ (d : Directory) (kind : TableKind) (tag : ℕ) (action : ℕ → LogAction) (short : tag < 256) (is : (register : ℕ) → insideBy d true register tag ≡ droppedItem d kind action)
     (goes : (t : ℕ) → isEnd (action t) ≡ false) where
   pub drop-reads : (t : ℕ) → t < 65536 → stands (tablesOf d) kind t ≡ true → Reads d (le 1 tag ++ le 2 t) (written (action t) [])
   drop-reads t small e = by (findTable d kind t) refl

@@ -2,14 +2,14 @@
 use mathlib.Core.Path.{_≡_, refl, sym, ap, ap₂, _∙_, subst}
 use mathlib.Core.Bool.{true, false}
 use mathlib.Core.List.{List, [], _++_}
-use mathlib.Core.Option.{none, some}
+use mathlib.Core.Option.{none, some, orElse}
 use Prim.Native.Nat.{ℕ, _+_, _*_, _≤_, _<_}
 use native.Mathlib.Omega.{arith}
 use lib.Dec.{ltb}
 use lib.ListN.{length, drop}
 use borrow.Author.Tests.{ltb-true}
 use Rattle.words.proofs.Choices.{if-true}
-use Rattle.directory.specs.Table.{unitOf, sizeOf}
+use Rattle.directory.specs.Table.{sizeOf}
 use Rattle.directory.specs.Directory.{findTable, startOf, imageLength}
 use Rattle.directory.specs.declared.table.TableKind.{TableKind}
 use Rattle.directory.specs.declared.table.TableKind.the-variants.{Index, Value, RefCount}
@@ -18,57 +18,57 @@ use Rattle.directory.specs.declared.directory.Found.{Found}
 use Rattle.directory.specs.declared.directory.Found.the-variants.{At, Nothing}
 use Rattle.record.specs.Record.{dropIndex, dropRefCount}
 use Rattle.effect.specs.Effect.{Written, Place, placeOf}
-use Rattle.effect.specs.Meaning.{ofDrop, saidBy, says, lastSaid, SizedBy, Sized}
+use Rattle.effect.specs.Meaning.{ofDrop, saysOf, says, lastSaid, SizedBy, Sized}
 use Rattle.effect.specs.Order.{Each}
 use Rattle.effect.proofs.Places.{stands}
 use Rattle.effect.proofs.Reach.{In, Under, one-table, drop-in}
 use Rattle.effect.proofs.Spots.{place-at, place-none}
 use Rattle.keys.specs.Keys.{rank, keyAt, keysOf, has}
 use Rattle.keys.proofs.Places.{rule-under, rule-rises}
-use Rattle.change.specs.Room.{slotAt}
-use Rattle.change.specs.Listed.{localOf, rowFits, stateKept}
-use Rattle.change.specs.declared.change.LogChange.{LogChange}
-use Rattle.change.proofs.Accepted.{local-ruled}
-use Rattle.written.specs.Actions.{insertAt, inserts, dropAt, dropsOf, allInserts, allDrops, actions, Words}
-use Rattle.written.specs.Tables.{placesOf, droppedOf, tableAt, indexAt, markOf, tableStart, tableSize}
-use Rattle.written.proofs.Accepted.{rows-fit, key-kept, place-fits, place-room}
+use Rattle.overlay.specs.Rules.{slotSize, storedLength}
+use Rattle.memory.specs.Parts.{ofKind}
+use Rattle.change.specs.Change.{Change, changeKept}
+use Rattle.writer.specs.Typed.{Typed}
+use Rattle.written.specs.Actions.{insertAt, inserts, dropAt, dropsOf, allInserts, allDrops, listActions}
+use Rattle.written.specs.Tables.{placesOf, droppedOf, tableAt, indexAt, placeMark, tableStart, tableSize}
+use Rattle.written.proofs.Accepted.{in-order, good, places-good, place-fits, place-room}
 use Rattle.written.proofs.Entries.{Fitting}
 use Rattle.written.proofs.Lists.{every-has, each-append, each-left, each-right, each-map, each-at, once, last-append, silent, Only, agreed, none-of, not-none}
 use Rattle.written.proofs.Said.{in-within, exactly, insert-sized, insert-under}
 
 -- ---- each action of a list
 
-module _ (l : LogChange) (local : List ℕ) where
+module _ (l : Change) where
   -- the action that the key in place q is written as
   abbrev pub insert : TableKind → ℕ → Written
-  insert kind q = insertAt kind (localOf kind l .rows) local q
+  insert kind q = insertAt kind (ofKind kind (l .parts)) q
 
-  abbrev ofKind : TableKind → List Written
-  ofKind kind = inserts kind (localOf kind l) local
+  abbrev ofOne : TableKind → List Written
+  ofOne kind = inserts kind (ofKind kind (l .parts))
 
   abbrev indexDrops : List Written
-  indexDrops = dropsOf dropIndex (l .«dropped_tables»)
+  indexDrops = dropsOf dropIndex (l .drops)
 
   abbrev countDrops : List Written
-  countDrops = dropsOf dropRefCount (l .«dropped_ref_count_tables»)
+  countDrops = dropsOf dropRefCount (l .countDrops)
 
   module _ (P : Written → Type 0) where
-    pub of-inserts : ((kind : TableKind) (q : ℕ) → has q (placesOf kind l) ≡ true → P (insert kind q)) → Each P (allInserts l local)
+    pub of-inserts : ((kind : TableKind) (q : ℕ) → has q (placesOf kind l) ≡ true → P (insert kind q)) → Each P (allInserts l)
     unfolding allInserts inserts
     of-inserts h =
-        each-append P (ofKind Index ++ ofKind Value) (ofKind RefCount) (each-append P (ofKind Index) (ofKind Value) (of Index) (of Value)) (of RefCount)
+        each-append P (ofOne Index ++ ofOne Value) (ofOne RefCount) (each-append P (ofOne Index) (ofOne Value) (of Index) (of Value)) (of RefCount)
       where
-        of : (kind : TableKind) → Each P (ofKind kind)
+        of : (kind : TableKind) → Each P (ofOne kind)
         of kind = each-map P (insert kind) (placesOf kind l) (h kind)
 
-    pub insert-at : Each P (allInserts l local) → (kind : TableKind) (q : ℕ) → has q (placesOf kind l) ≡ true → P (insert kind q)
+    pub insert-at : Each P (allInserts l) → (kind : TableKind) (q : ℕ) → has q (placesOf kind l) ≡ true → P (insert kind q)
     unfolding allInserts inserts
     insert-at h kind q e = each-at P (insert kind) (placesOf kind l) q (of kind) e
       where
-        of : (kind : TableKind) → Each P (ofKind kind)
-        of Index = each-left P (ofKind Index) (ofKind Value) (each-left P (ofKind Index ++ ofKind Value) (ofKind RefCount) h)
-        of Value = each-right P (ofKind Index) (ofKind Value) (each-left P (ofKind Index ++ ofKind Value) (ofKind RefCount) h)
-        of RefCount = each-right P (ofKind Index ++ ofKind Value) (ofKind RefCount) h
+        of : (kind : TableKind) → Each P (ofOne kind)
+        of Index = each-left P (ofOne Index) (ofOne Value) (each-left P (ofOne Index ++ ofOne Value) (ofOne RefCount) h)
+        of Value = each-right P (ofOne Index) (ofOne Value) (each-left P (ofOne Index ++ ofOne Value) (ofOne RefCount) h)
+        of RefCount = each-right P (ofOne Index ++ ofOne Value) (ofOne RefCount) h
 
     pub of-drops : ((t : ℕ) → has t (droppedOf Index l) ≡ true → P (dropAt dropIndex t)) → ((t : ℕ) → has t (droppedOf RefCount l) ≡ true → P (dropAt dropRefCount t)) → Each P (allDrops l)
     unfolding allDrops dropsOf
@@ -87,11 +87,11 @@ module _ (l : LogChange) (local : List ℕ) where
 module _ (d : Directory) (p : ℕ) where
   pub index-drop-in : (t c : ℕ) → says d (dropAt dropIndex t) p ≡ some c → In d Index t p × (c ≡ 0)
   unfolding SizedBy
-  index-drop-in t c e = drop-in d (dropIndex t) [] p c refl (exactly d (dropAt dropIndex t) p tt ∙ e)
+  index-drop-in t c e = drop-in d (dropIndex t) [] p c _ refl (exactly d (dropAt dropIndex t) p tt ∙ e)
 
   pub count-drop-in : (t c : ℕ) → says d (dropAt dropRefCount t) p ≡ some c → In d RefCount t p × (c ≡ 0)
   unfolding SizedBy
-  count-drop-in t c e = drop-in d (dropRefCount t) [] p c refl (exactly d (dropAt dropRefCount t) p tt ∙ e)
+  count-drop-in t c e = drop-in d (dropRefCount t) [] p c _ refl (exactly d (dropAt dropRefCount t) p tt ∙ e)
 
   -- a byte of a table, by the table's place in the image
   pub table-in : (kind : TableKind) (t : ℕ) → tableStart d kind t ≤ p → p < tableStart d kind t + tableSize d kind t → In d kind t p
@@ -117,20 +117,20 @@ module _ (d : Directory) (p : ℕ) where
   drop-says kind t x = rw (x .is) (if-true _ _ _ (in-within (x .place .at) (sizeOf (x .place .table)) p (x .from) (x .to)))
 
   -- where a table of it is dropped, the byte is 0; where none is, no drop says anything of it
-  pub drops-zero : (l : LogChange) (kind : TableKind) (t : ℕ) → In d kind t p → has t (droppedOf kind l) ≡ true → lastSaid d (allDrops l) p ≡ some 0
-  unfolding saidBy
+  pub drops-zero : (l : Change) (kind : TableKind) (t : ℕ) → In d kind t p → has t (droppedOf kind l) ≡ true → lastSaid d (allDrops l) p ≡ some 0
+  unfolding saysOf
   drops-zero l kind t x h =
-      agreed d p 0 (allDrops l) (of-drops l [] (Only d p 0) (λ t h c e. index-drop-in t c e .1) (λ t h c e. count-drop-in t c e .1)) (heard kind x h)
+      agreed d p 0 (allDrops l) (of-drops l (Only d p 0) (λ t h c e. index-drop-in t c e .1) (λ t h c e. count-drop-in t c e .1)) (heard kind x h)
     where
       heard : (kind : TableKind) → In d kind t p → has t (droppedOf kind l) ≡ true → Each (λ w. says d w p ≡ none) (allDrops l) → ⊥
-      heard Index x h e = not-none (drop-says Index t x) (index-drop-at l [] (λ w. says d w p ≡ none) e t h)
+      heard Index x h e = not-none (drop-says Index t x) (index-drop-at l (λ w. says d w p ≡ none) e t h)
       heard Value x h e = let z : _≡_ {A = ℕ} 0 1 = cc in omega arith
-      heard RefCount x h e = not-none (drop-says RefCount t x) (count-drop-at l [] (λ w. says d w p ≡ none) e t h)
+      heard RefCount x h e = not-none (drop-says RefCount t x) (count-drop-at l (λ w. says d w p ≡ none) e t h)
 
-  pub drops-silent : (l : LogChange) (kind : TableKind) (t : ℕ) → In d kind t p → has t (droppedOf kind l) ≡ false → lastSaid d (allDrops l) p ≡ none
+  pub drops-silent : (l : Change) (kind : TableKind) (t : ℕ) → In d kind t p → has t (droppedOf kind l) ≡ false → lastSaid d (allDrops l) p ≡ none
   drops-silent l kind t x h =
       silent d p (allDrops l)
-      (of-drops l [] (λ w. says d w p ≡ none)
+      (of-drops l (λ w. says d w p ≡ none)
       (λ u e. none-of _ (λ c q. clash Index u (index-drop-in u c q .0) e))
       (λ u e. none-of _ (λ c q. clash RefCount u (count-drop-in u c q .0) e)))
     where
@@ -142,59 +142,59 @@ module _ (d : Directory) (p : ℕ) where
 
 -- ---- inserts
 
-module _ (d : Directory) (l : LogChange) (local : List ℕ) (kept : stateKept d l (length local) ≡ true) (words : Words l) where
-  row-fits : (kind : TableKind) (q : ℕ) → has q (placesOf kind l) ≡ true → rowFits d kind (localOf kind l .rows) q ≡ true
-  row-fits kind q h = every-has (rowFits d kind (localOf kind l .rows)) (placesOf kind l) q (rows-fit d kind (localOf kind l) (key-kept d l local kept words kind)) h
+module _ (d : Directory) (l : Change) (kept : changeKept d l ≡ true) (words : Typed l) where
+  is-good : (kind : TableKind) (q : ℕ) → has q (placesOf kind l) ≡ true → good d l kind q ≡ true
+  is-good kind q h = every-has (good d l kind) (placesOf kind l) q (places-good d l kept words kind) h
 
-  -- a listed key, and the bytes of its slot of the local memory
-  pub fits : (kind : TableKind) (q : ℕ) → has q (placesOf kind l) ≡ true → Fitting d kind (tableAt kind l q) (indexAt kind l q) (markOf kind l q)
-  fits kind q h = place-fits d l local kept words kind q (row-fits kind q h)
+  -- a listed key, and the bytes of its slot
+  pub fits : (kind : TableKind) (q : ℕ) → has q (placesOf kind l) ≡ true → Fitting d kind (tableAt kind l q) (indexAt kind l q) (placeMark kind l q)
+  fits kind q h = place-fits d l kept words kind q (is-good kind q h)
 
-  pub room : (kind : TableKind) (q : ℕ) → has q (placesOf kind l) ≡ true → unitOf kind (markOf kind l q) ≤ length (drop (slotAt kind q) local)
+  pub room : (kind : TableKind) (q : ℕ) → has q (placesOf kind l) ≡ true → storedLength kind (placeMark kind l q) ≤ length (drop (slotSize kind * q) (ofKind kind (l .parts) .bytes))
   room kind q h =
-      let n : ℕ = localOf kind l .count in
-      let u = every-has (λ (p : ℕ). ltb p n) (placesOf kind l) q (rule-under _ _ _ (local-ruled d kind (localOf kind l) (key-kept d l local kept words kind))) h in
-      place-room d l local kept words kind q (ltb-true q n u) (row-fits kind q h)
+      let n : ℕ = ofKind kind (l .parts) .count in
+      let u = every-has (λ (p : ℕ). ltb p n) (placesOf kind l) q (rule-under _ _ _ (in-order d l kept words kind)) h in
+      place-room d l kept words kind q (ltb-true q n u) (is-good kind q h)
 
-  pub all-sized : Each (Sized d) (actions l local)
-  unfolding actions insertAt SizedBy
+  pub all-sized : Each (Sized d) (listActions l)
+  unfolding listActions insertAt SizedBy
   all-sized =
-      each-append (Sized d) (allInserts l local) (allDrops l)
-      (of-inserts l local (Sized d) (λ kind q h. insert-sized d kind _ _ _ (fits kind q h) (drop (slotAt kind q) local) (words .rows kind (4 * q + 3)) (room kind q h)))
-      (of-drops l local (Sized d) (λ t h. tt) (λ t h. tt))
+      each-append (Sized d) (allInserts l) (allDrops l)
+      (of-inserts l (Sized d) (λ kind q h. insert-sized d kind _ _ _ (fits kind q h) (drop (slotSize kind * q) (ofKind kind (l .parts) .bytes)) (words .rows kind (4 * q + 3)) (room kind q h)))
+      (of-drops l (Sized d) (λ t h. tt) (λ t h. tt))
 
-  pub under : (kind : TableKind) (q : ℕ) → has q (placesOf kind l) ≡ true → (p c : ℕ) → says d (insert l local kind q) p ≡ some c → Under d kind (tableAt kind l q) (indexAt kind l q) p
+  pub under : (kind : TableKind) (q : ℕ) → has q (placesOf kind l) ≡ true → (p c : ℕ) → says d (insert l kind q) p ≡ some c → Under d kind (tableAt kind l q) (indexAt kind l q) p
   unfolding insertAt
-  under kind q h p c e = insert-under d kind _ _ _ (fits kind q h) (drop (slotAt kind q) local) (words .rows kind (4 * q + 3)) (room kind q h) p c e
+  under kind q h p c e = insert-under d kind _ _ _ (fits kind q h) (drop (slotSize kind * q) (ofKind kind (l .parts) .bytes)) (words .rows kind (4 * q + 3)) (room kind q h) p c e
 
   -- "no key twice": two listed places of one table and index are one
   one-place : (kind : TableKind) (q r : ℕ) → has q (placesOf kind l) ≡ true → has r (placesOf kind l) ≡ true → tableAt kind l q ≡ tableAt kind l r → indexAt kind l q ≡ indexAt kind l r → q ≡ r
   unfolding keysOf
   one-place kind q r h k e f =
-      once (keyAt (localOf kind l .rows)) (placesOf kind l) q r (rule-rises _ _ _ (local-ruled d kind (localOf kind l) (key-kept d l local kept words kind))) h k (ap₂ rank e f)
+      once (keyAt (ofKind kind (l .parts) .rows)) (placesOf kind l) q r (rule-rises _ _ _ (in-order d l kept words kind)) h k (ap₂ rank e f)
 
-  module _ (kind : TableKind) (q : ℕ) (h : has q (placesOf kind l) ≡ true) (p b : ℕ) (e : says d (insert l local kind q) p ≡ some b) where
-    same-kind : (r : ℕ) → has r (placesOf kind l) ≡ true → tableAt kind l q ≡ tableAt kind l r → indexAt kind l q ≡ indexAt kind l r → Only d p b (insert l local kind r)
+  module _ (kind : TableKind) (q : ℕ) (h : has q (placesOf kind l) ≡ true) (p b : ℕ) (e : says d (insert l kind q) p ≡ some b) where
+    same-kind : (r : ℕ) → has r (placesOf kind l) ≡ true → tableAt kind l q ≡ tableAt kind l r → indexAt kind l q ≡ indexAt kind l r → Only d p b (insert l kind r)
     same-kind r k f g c i =
         let z : q ≡ r = one-place kind q r h k f g in
-        let j : says d (insert l local kind q) p ≡ some c = rw z i in
+        let j : says d (insert l kind q) p ≡ some c = rw z i in
         cc (e, j)
 
-    other : (k : TableKind) (r : ℕ) → has r (placesOf k l) ≡ true → Only d p b (insert l local k r)
+    other : (k : TableKind) (r : ℕ) → has r (placesOf k l) ≡ true → Only d p b (insert l k r)
     other k r g c i =
         let x = under kind q h p b e in
         let y = under k r g p c i in
         let o = one-table d kind k (tableAt kind l q) (tableAt k l r) p (x .inside) (y .inside) in
-        subst (λ (k : TableKind). (r : ℕ) → has r (placesOf k l) ≡ true → tableAt kind l q ≡ tableAt k l r → indexAt kind l q ≡ indexAt k l r → Only d p b (insert l local k r)) (o .0)
+        subst (λ (k : TableKind). (r : ℕ) → has r (placesOf k l) ≡ true → tableAt kind l q ≡ tableAt k l r → indexAt kind l q ≡ indexAt k l r → Only d p b (insert l k r)) (o .0)
         same-kind r g (o .1) (sym (x .under) ∙ rw (o .2) (y .under)) c i
 
     -- what the one key that reaches a byte says is what all say, unless its table is dropped
-    pub last-said : has (tableAt kind l q) (droppedOf kind l) ≡ false → lastSaid d (actions l local) p ≡ some b
-    unfolding actions
+    pub last-said : has (tableAt kind l q) (droppedOf kind l) ≡ false → lastSaid d (listActions l) p ≡ some b
+    unfolding listActions orElse
     last-said n =
-        last-append d p (allInserts l local) (allDrops l)
+        last-append d p (allInserts l) (allDrops l)
         ∙ rw (drops-silent d p l kind (tableAt kind l q) (under kind q h p b e .inside) n)
-        (agreed d p b (allInserts l local) (of-inserts l local (Only d p b) other) (λ s. not-none e (insert-at l local (λ w. says d w p ≡ none) s kind q h)))
+        (agreed d p b (allInserts l) (of-inserts l (Only d p b) other) (λ s. not-none e (insert-at l (λ w. says d w p ≡ none) s kind q h)))
 
     pub in-image : p < imageLength d
     in-image =

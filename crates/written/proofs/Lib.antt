@@ -4,8 +4,8 @@ pub mod Entries
 pub mod Here
 pub mod Last
 pub mod Lists
+pub mod Order
 pub mod Parts
 pub mod Replayed
 pub mod Said
-pub mod Slots
 pub mod Walk

@@ -2,7 +2,7 @@
 use mathlib.Core.Path.{_≡_, refl, sym, ap, _∙_}
 use mathlib.Core.Bool.{Bool, true, false}
 use mathlib.Core.List.{List, [], _∷_, _++_, map}
-use mathlib.Core.Option.{Option, none, some}
+use mathlib.Core.Option.{Option, none, some, orElse}
 use Prim.Native.Nat.{ℕ, _<_}
 use native.Mathlib.Omega.{arith}
 use lib.Dec.{eqb, ltb}
@@ -10,7 +10,7 @@ use borrow.Author.Tests.{ltb-true, eqb-true, eq-eqb}
 use Rattle.words.specs.Choice.{if_then_else_}
 use Rattle.directory.specs.declared.directory.Directory.{Directory}
 use Rattle.effect.specs.Effect.{Written}
-use Rattle.effect.specs.Meaning.{orElse, says, lastSaid}
+use Rattle.effect.specs.Meaning.{says, lastSaid}
 use Rattle.effect.specs.Order.{Each}
 use Rattle.keys.specs.Keys.{has, every, above, ascends}
 use Rattle.keys.proofs.Places.{left-of, right-of, above-ascends}
@@ -86,7 +86,7 @@ module _ (f : ℕ → ℕ) where
 
 module _ (d : Directory) (p : ℕ) where
   pub last-append : (vs ws : List Written) → lastSaid d (vs ++ ws) p ≡ orElse (lastSaid d ws p) (lastSaid d vs p)
-  unfolding lastSaid
+  unfolding lastSaid orElse
   last-append [] ws = by (lastSaid d ws p)
     where
       by : (o : Option ℕ) → o ≡ orElse o none
@@ -100,12 +100,12 @@ module _ (d : Directory) (p : ℕ) where
 
   -- none says anything
   pub silent : (ws : List Written) → Each (λ w. says d w p ≡ none) ws → lastSaid d ws p ≡ none
-  unfolding lastSaid
+  unfolding lastSaid orElse
   silent [] h = refl
   silent (w ∷ ws) h = rw (silent ws (h .1)) (h .0)
 
   heard : (ws : List Written) → lastSaid d ws p ≡ none → Each (λ w. says d w p ≡ none) ws
-  unfolding lastSaid
+  unfolding lastSaid orElse
   heard [] e = tt
   heard (w ∷ ws) e = by (lastSaid d ws p) refl (heard ws)
     where
@@ -119,7 +119,7 @@ module _ (d : Directory) (p : ℕ) where
   Only b w = (c : ℕ) → says d w p ≡ some c → c ≡ b
 
   last-only : (b : ℕ) (ws : List Written) → Each (Only b) ws → (c : ℕ) → lastSaid d ws p ≡ some c → c ≡ b
-  unfolding lastSaid
+  unfolding lastSaid orElse
   last-only b [] h c e = let z : _≡_ {A = ℕ} 0 1 = cc in absurd (omega arith)
   last-only b (w ∷ ws) h c e = by (lastSaid d ws p) refl (last-only b ws (h .1))
     where

@@ -14,7 +14,7 @@ use Rattle.directory.specs.declared.table.TableDescription.{TableDescription}
 use Rattle.directory.specs.declared.directory.Directory.{Directory}
 use Rattle.directory.specs.declared.directory.Found.the-variants.{At}
 use Rattle.record.specs.Format.{got, readAt}
-use Rattle.record.specs.Record.{insertOf, key, chunk, masked, value, valued, table, dropped}
+use Rattle.record.specs.Record.{insertOf, key, chunk, maskedItem, value, valuedItem, table, droppedItem}
 use Rattle.answer.specs.declared.answer.Answer.the-variants.{NoIndex}
 use Rattle.record.specs.declared.action.LogAction.{LogAction}
 use Rattle.record.specs.declared.item.Key.{Key}
@@ -26,7 +26,7 @@ use Rattle.written.proofs.Here.{Here, on, room, number}
 
 -- a key as the reader hands it on
 abbrev pub keyOf : ℕ → ℕ → TableDescription → Key
-keyOf t i T = record { table = t; index = i; length = T .length }
+keyOf t i T = record { table = t; index = i; description = T }
 
 module _ (d : Directory) (kind : TableKind) (t : ℕ) (row : ℕ) (T : TableDescription) (small : t < 65536) (found : findTable d kind t ≡ At row T) {log : List ℕ} {at : ℕ} where
   -- "table 2, index 8"
@@ -47,8 +47,8 @@ module _ (d : Directory) (kind : TableKind) (t : ℕ) (row : ℕ) (T : TableDesc
     -- "mask 8", and the bytes of the slots
     pub masked-read : (w m : ℕ) (s b : List ℕ) → m < 18446744073709551616 → length s ≡ ones m * w
         → Here log at (le 2 t ++ (le 8 i ++ (le 8 m ++ (s ++ b))))
-        → readAt (masked d kind w) at log ≡ got (record { action = insertOf kind t i; payload = 8 + length s }) (at + 10 + (8 + length s))
-    unfolding masked
+        → readAt (maskedItem d kind w) at log ≡ got (record { action = insertOf kind t i; payload = 8 + length s }) (at + 10 + (8 + length s))
+    unfolding maskedItem
     masked-read w m s b bits long h =
         let h₁₀ : Here log (at + 10) (le 8 m ++ (s ++ b)) = key-behind (le 8 m ++ (s ++ b)) h in
         let h₁₈ : Here log (at + 10 + 8) (s ++ b) = on (le 8 m) (s ++ b) 8 (length-le 8 m) h₁₀ in
@@ -57,7 +57,7 @@ module _ (d : Directory) (kind : TableKind) (t : ℕ) (row : ℕ) (T : TableDesc
 
   -- "table 2"
   pub dropped-read : (action : ℕ → LogAction) (b : List ℕ) → Here log at (le 2 t ++ b)
-      → readAt (dropped d kind action) at log ≡ got (record { action = action t; payload = 0 }) (at + 2 + 0)
+      → readAt (droppedItem d kind action) at log ≡ got (record { action = action t; payload = 0 }) (at + 2 + 0)
   dropped-read action b h =
       sym (dropped-met at log d kind action t
       (sym (table-met at log d kind t (At row T) (room (le 2 t) b 2 (length-le 2 t) h) (number 2 t b (omega arith) h) (sym found))))
@@ -65,8 +65,8 @@ module _ (d : Directory) (kind : TableKind) (t : ℕ) (row : ℕ) (T : TableDesc
 -- a value of the table's length
 pub valued-read : (d : Directory) (t row : ℕ) (T : TableDescription) (small : t < 65536) (found : findTable d Value t ≡ At row T) {log : List ℕ} {at : ℕ}
     (i : ℕ) (word : i < 18446744073709551616) (below : i < T .count) (v b : List ℕ) → length v ≡ T .length → Here log at (le 2 t ++ (le 8 i ++ (v ++ b)))
-    → readAt (valued d) at log ≡ got (record { action = insertOf Value t i; payload = T .length }) (at + 10 + T .length)
-unfolding valued
+    → readAt (valuedItem d) at log ≡ got (record { action = insertOf Value t i; payload = T .length }) (at + 10 + T .length)
+unfolding valuedItem
 valued-read d t row T small found {log} {at} i word below v b long h =
     let h₁₀ : Here log (at + 10) (v ++ b) = key-behind d Value t row T small found i word below (v ++ b) h in
     sym (then-got (key d Value) value at log (keyOf t i T) (at + 10) (sym (key-read d Value t row T small found i word below (v ++ b) h)))

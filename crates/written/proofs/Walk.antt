@@ -12,7 +12,7 @@ use Rattle.words.proofs.Choices.{if-false}
 use Rattle.checksum.specs.Checksum.{allOnes, updated, finished}
 use Rattle.checksum.proofs.Register.{updated-append}
 use Rattle.directory.specs.declared.directory.Directory.{Directory}
-use Rattle.record.specs.Format.{Got, got, readAt}
+use Rattle.record.specs.Format.{got, readAt}
 use Rattle.record.specs.Record.{sumHolds, insideBy, inside, openingBy, opening}
 use Rattle.record.specs.Next.{isEnd, forwardTo, readerAfter, stepped, opened, readerAt, stepOf}
 use Rattle.answer.specs.declared.answer.Answer.the-variants.{WrongSum}
@@ -22,7 +22,7 @@ use Rattle.record.specs.declared.reader.Stepped.{Stepped}
 use Rattle.record.specs.declared.reader.Step.the-variants.{Took}
 use Rattle.record.proofs.Parts.{tested, inside-met, ended-met, opening-met, begun-met}
 use Rattle.effect.specs.Effect.{Written, written}
-use Rattle.replay.specs.Replay.{addFirst, recordAt}
+use Rattle.replay.specs.Replay.{Walked, walked, addFirst, recordAt}
 use Rattle.replay.proofs.Opening.{record-opened}
 use Rattle.replay.proofs.Rest.{whole, last, more}
 use Rattle.keys.specs.Keys.{every, allUnder}
@@ -80,17 +80,17 @@ module _ (d : Directory) (log : List ℕ) (at id register : ℕ) (e b : List ℕ
 
 -- ---- entries one behind the other
 
-abbrev pub addAll : List Written → Got (List Written) → Got (List Written)
+abbrev pub addAll : List Written → Walked (List Written) → Walked (List Written)
 addAll [] g = g
 addAll (w ∷ ws) g = addFirst w (addAll ws g)
 
-add-append : (vs ws : List Written) (g : Got (List Written)) → addAll (vs ++ ws) g ≡ addAll vs (addAll ws g)
+add-append : (vs ws : List Written) (g : Walked (List Written)) → addAll (vs ++ ws) g ≡ addAll vs (addAll ws g)
 add-append [] ws g = refl
 add-append (v ∷ vs) ws g = ap (addFirst v) (add-append vs ws g)
 
-pub add-got : (ws : List Written) (end : ℕ) → addAll ws (got [] end) ≡ got ws end
-add-got [] end = refl
-add-got (w ∷ ws) end = ap (addFirst w) (add-got ws end)
+pub add-walked : (ws : List Written) (end : ℕ) → addAll ws (walked [] end) ≡ walked ws end
+add-walked [] end = refl
+add-walked (w ∷ ws) end = ap (addFirst w) (add-walked ws end)
 
 -- wherever the bytes bs stand, the reader walks over them, takes the actions ws, and its register has taken the bytes
 pub record Walks (d : Directory) (log : List ℕ) (id : ℕ) (bs : List ℕ) (ws : List Written) : Type 0 where
@@ -128,7 +128,7 @@ module _ {d : Directory} {log : List ℕ} {id : ℕ} where
 -- ---- the end and the opening
 
 module _ (d : Directory) (log : List ℕ) (at id : ℕ) (b : List ℕ) where
-  pub ending : (register sum : ℕ) → sum ≡ finished (updated register (le 1 4)) → Here log at (le 1 4 ++ (le 4 sum ++ b)) → whole d log (reader at id register) ≡ got [] (at + 5)
+  pub ending : (register sum : ℕ) → sum ≡ finished (updated register (le 1 4)) → Here log at (le 1 4 ++ (le 4 sum ++ b)) → whole d log (reader at id register) ≡ walked [] (at + 5)
   unfolding stepOf readerAfter insideBy sumHolds le finished
   ending register sum e h =
       let h₁ : Here log (at + 1) (le 4 sum ++ b) = on (le 1 4) (le 4 sum ++ b) 1 refl h in
