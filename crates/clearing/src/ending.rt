@@ -65,14 +65,7 @@ pub fn end_read_kept(
                 return nothing_read(Answer::UsedUp, position, overlays, next);
             }
             let before = overlays.counts;
-            let counts = clear_rest(
-                directory,
-                log,
-                opened.unvalidated(),
-                before,
-                words,
-                bytes,
-            );
+            let counts = clear_rest(directory, log, opened.unvalidated(), before, words, bytes);
             let last_record_ids = overlays.last_record_ids;
             let overlays = LogOverlays {
                 counts,

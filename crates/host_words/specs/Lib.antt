@@ -2,6 +2,5 @@
 pub mod Tables
 pub mod Head
 pub mod Reader
-pub mod Queues
 pub mod Change
 pub mod Overlays

@@ -5,6 +5,7 @@ use Prim.Native.Nat.{ℕ}
 use lib.Dec.{eqb}
 use lib.ListN.{length, take, drop, replicate}
 use Rattle.words.specs.Choice.{if_then_else_}
+use Rattle.memory.specs.declared.counts.Counts.{Counts}
 use Rattle.memory.specs.declared.overlays.LogOverlays.{LogOverlays}
 use Rattle.host_words.specs.Change.{countsFrom, countsWords}
 
@@ -15,10 +16,12 @@ overlaysSize = 11
 abbrev pub brokenOverlays : LogOverlays
 brokenOverlays = record { counts = record { index = 257; value = 257; «ref_count» = 257 }; «last_record_ids» = replicate 8 0 }
 
+abbrev pub overlaysHead : Counts → List ℕ → LogOverlays
+overlaysHead counts ids = record { counts = counts; «last_record_ids» = ids }
+
 -- the overlays that words are
 unfoldable pub overlaysFrom : List ℕ → LogOverlays
-overlaysFrom w =
-    if eqb (length w) 11 then record { counts = countsFrom w 0; «last_record_ids» = take 8 (drop 3 w) } else brokenOverlays
+overlaysFrom w = if eqb (length w) 11 then overlaysHead (countsFrom w 0) (take 8 (drop 3 w)) else brokenOverlays
 
 -- and back
 abbrev pub overlaysWords : LogOverlays → List ℕ

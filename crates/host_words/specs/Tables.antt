@@ -33,11 +33,12 @@ abbrev pub brokenDirectory : Directory
 brokenDirectory = record { tables = noTables .tables; count = 17 }
 
 -- one more table, behind those that are there
+abbrev pub tableAdded : Directory → TableDescription → Directory
+tableAdded d t = record { tables = set (d .tables) (d .count) t; count = d .count + 1 }
+
+-- the table that six words describe added, where there is room and they are as they should be
 unfoldable pub withRow : Directory → List ℕ → ℕ → Directory
-withRow d w at =
-    if ltb (d .count) 16 && rowFormed w at
-    then record { tables = set (d .tables) (d .count) (rowFrom w at); count = d .count + 1 }
-    else brokenDirectory
+withRow d w at = if ltb (d .count) 16 && rowFormed w at then tableAdded d (rowFrom w at) else brokenDirectory
 
 -- m more, from row i on
 unfoldable pub rowsFrom : ℕ → ℕ → List ℕ → Directory → Directory

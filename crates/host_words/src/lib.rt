@@ -1,9 +1,8 @@
-// A host's states as words: a directory, a reader, the file queues, a change list's head, the overlays' head. Any words load: those of another
+// A host's states as words: a directory, a reader, a change list's head, the overlays' head. Any words load: those of another
 // length, or with one out of its field's range, as a state that breaks a rule, so that every call that is handed it answers 13.
 mod directory_words;
 mod list_words;
 mod overlay_words;
-mod queue_words;
 mod reader_words;
 mod writing;
 
@@ -12,8 +11,6 @@ pub use list_words::keep_list;
 pub use list_words::list_of;
 pub use overlay_words::keep_overlays;
 pub use overlay_words::overlays_of;
-pub use queue_words::keep_queues;
-pub use queue_words::queues_of;
 pub use reader_words::keep_reader;
 pub use reader_words::reader_formed;
 pub use reader_words::reader_of;

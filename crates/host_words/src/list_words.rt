@@ -70,11 +70,10 @@ fn loaded(words: &[u64]) -> LogChange
 fn broken() -> LogChange
     ensures { λ r. ⌜ r ≡ brokenList ⌝ }
 {
+    let mut drops = Drops::new();
+    drops.count = 17;
     let mut l = LogChange::new(0);
-    l.dropped_tables = Drops {
-        tables: [0u16; 16],
-        count: 17,
-    };
+    l.dropped_tables = drops;
     l
 }
 

@@ -1,0 +1,4 @@
+-- The laws, for other crates to cite.
+pub mod Laws
+pub mod Heads
+pub mod Rows
