@@ -15,4 +15,5 @@ pub use reader_words::keep_reader;
 pub use reader_words::reader_formed;
 pub use reader_words::reader_of;
 pub use writing::flag;
+pub use writing::head_room;
 pub use writing::number;

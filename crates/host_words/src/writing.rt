@@ -6,7 +6,7 @@ ghost use lib.ListN.{length};
 ghost use Rattle.answer.specs.Answer.{numberOf};
 ghost use Rattle.numbers.specs.Numbers.{oneIf};
 ghost use Rattle.output.specs.Put.{Wrote};
-ghost use Rattle.host_words.specs.Head.{headStored};
+ghost use Rattle.host_words.specs.Head.{headRoom, headStored};
 use answer::Answer;
 
 // An answer's number as a word.
@@ -47,4 +47,14 @@ pub(crate) fn stored(n: usize, answered: u64, words: &[u64]) -> bool
         return false;
     }
     answered != 13
+}
+
+// Whether words are as long as a head that is to be made there.
+pub fn head_room(words: &[u64], n: usize) -> Answer
+    ensures { λ r. ⌜ r ≡ headRoom n (now (words .entry)) ⌝ }
+{
+    if words.len() == n {
+        return Answer::Done;
+    }
+    Answer::BadState
 }

@@ -1,69 +1,50 @@
--- `keep_reader` meets its contract. Assumes nothing.
-use native.Mathlib.Omega.{arith}
-use mathlib.Core.Path.{ap}
-use Rattle.output.proofs.Laws.{_⨾_}
-use Rattle.host_words.proofs.Laws.{wrote-whole}
+-- `keep_reader` meets its contract: stored, or left. Assumes nothing.
+use Rattle.host_words.proofs.Laws.{head-new, head-old, head-length}
 use borrow.Author.Needs.{needs}
 use Rattle.host_words.proofs.reader_words.keep_reader.Statement.{statement}
 use Rattle.host_words.proofs.reader_words.keep_reader.Tie as tie
 use Rattle.host_words.proofs.reader_words.keep_reader.Reads as reads
 use Rattle.host_words.proofs.reader_words.keep_reader.Lts as lts
-use Rattle.host_words.proofs.writing.flag.Reads as flag-reads
-use Rattle.host_words.proofs.writing.put_word.Reads as put-word-reads
+use Rattle.host_words.proofs.reader_words.store.Reads as store-reads
+use Rattle.host_words.proofs.writing.number.Reads as number-reads
+use Rattle.host_words.proofs.writing.stored.Reads as stored-reads
 
--- src/reader_words.rt:42:9
-put-word-requires : tie.Need-put-word-requires
-put-word-requires c κs = search needs
+-- src/reader_words.rt:56:9
+number-requires : tie.Need-number-requires
+number-requires c κs = search needs
 
--- src/reader_words.rt:43:9
-put-word-requires-2 : tie.Need-put-word-requires-2
-put-word-requires-2 c κs = search needs
+-- src/reader_words.rt:57:8
+stored-requires : tie.Need-stored-requires
+stored-requires c κs = search needs
 
--- src/reader_words.rt:44:32
-cast-put-word : tie.Need-cast-put-word
-cast-put-word c = search needs
+-- src/reader_words.rt:58:9
+store-requires : tie.Need-store-requires
+store-requires c κs = head-length _ _ _ (c .before .before .stored .ensures) (c .before .if1 .taken)
 
--- src/reader_words.rt:44:9
-put-word-requires-3 : tie.Need-put-word-requires-3
-put-word-requires-3 c κs = search needs
-
--- src/reader_words.rt:45:32
-flag-requires : tie.Need-flag-requires
-flag-requires c κs = search needs
-
--- src/reader_words.rt:45:9
-put-word-requires-4 : tie.Need-put-word-requires-4
-put-word-requires-4 c κs = search needs
-
--- src/reader_words.rt:46:24
-flag-requires-2 : tie.Need-flag-requires-2
-flag-requires-2 c κs = search needs
-
--- src/reader_words.rt:46:5
-put-word-requires-5 : tie.Need-put-word-requires-5
-put-word-requires-5 c κs = search needs
-
--- src/reader_words.rt:38:1
+-- src/reader_words.rt:59:9
 same-length : tie.Need-same-length
 same-length c = search needs
 
--- src/reader_words.rt:38:1
+-- src/reader_words.rt:59:9
 returns : tie.Need-returns
-returns c =
-    let w = c .before .before .before .before .before .before .before .before .before .before .before .before .before .before .before .before .before .before .before .before .before .put-word .ensures ⨾ (c .before .before .before .before .before .before .before .before .before .before .before .before .before .before .before .before .before .put-word2 .ensures ⨾ (c .before .before .before .before .before .before .before .before .before .before .before .before .put-word3 .ensures ⨾ (c .before .before .before .before .before .before .before .put-word4 .ensures ⨾ c .before .before .put-word5 .ensures))) in
-    wrote-whole (rw (c .before .before .before .before .before .before .before .before .flag .ensures, c .before .before .before .flag2 .ensures) at w) (omega (arith, w .next, c .before .before .before .before .before .before .before .before .before .before .before .before .before .before .before .before .before .before .before .before .before .before .before .before .pre))
+returns c = (c .before .before .before .before .before .before .before .number .ensures, head-new _ _ _ _ _ (c .before .before .before .before .before .before .before .number .ensures) (c .before .before .before .before .before .stored .ensures) (c .before .before .before .before .if1 .taken) (c .before .before .store .ensures))
+
+-- src/reader_words.rt:53:1
+same-length-2 : tie.Need-same-length-2
+same-length-2 c = search needs
+
+-- src/reader_words.rt:53:1
+returns-2 : tie.Need-returns-2
+returns-2 c = (c .before .before .before .number .ensures, head-old _ _ _ _ _ (c .before .before .before .number .ensures) (c .before .stored .ensures) (c .if1 .left))
 
 pub keep-reader-spec : {M : Type 1} → statement M
 keep-reader-spec =
     tie.close
     (tie.spec
-    put-word-requires
-    put-word-requires-2
-    cast-put-word
-    put-word-requires-3
-    flag-requires
-    put-word-requires-4
-    flag-requires-2
-    put-word-requires-5
+    number-requires
+    stored-requires
+    store-requires
     same-length
-    returns)
+    returns
+    same-length-2
+    returns-2)

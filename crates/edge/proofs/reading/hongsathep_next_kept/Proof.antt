@@ -1,0 +1,44 @@
+use borrow.Author.Needs.{needs}
+use Rattle.edge.proofs.reading.hongsathep_next_kept.Statement.{statement}
+use Rattle.edge.proofs.reading.hongsathep_next_kept.Tie as tie
+use Rattle.edge.proofs.reading.hongsathep_next_kept.Reads as reads
+use Rattle.edge.proofs.reading.hongsathep_next_kept.Lts as lts
+use Rattle.edge.proofs.reading.action_in.Reads as action-in-reads
+use Rattle.edge.proofs.reading.answer_in.Reads as answer-in-reads
+use Rattle.edge.proofs.reading.keep_step.Reads as keep-step-reads
+use Rattle.edge.proofs.reading.step_in.Reads as step-in-reads
+
+-- src/reading.rt:193:9
+step-in-requires : tie.Need-step-in-requires
+step-in-requires c κs = search needs
+
+-- src/reading.rt:194:9
+action-in-requires : tie.Need-action-in-requires
+action-in-requires c κs = search needs
+
+-- src/reading.rt:200:5
+keep-step-requires : tie.Need-keep-step-requires
+keep-step-requires c κs = search needs
+
+-- src/reading.rt:201:5
+answer-in-requires : tie.Need-answer-in-requires
+answer-in-requires c κs = search needs
+
+-- src/reading.rt:173:1
+same-length : tie.Need-same-length
+same-length c = search needs
+
+-- src/reading.rt:173:1
+returns : tie.Need-returns
+returns c = ?
+
+pub hongsathep-next-kept-spec : {M : Type 1} → statement M
+hongsathep-next-kept-spec =
+    tie.close
+    (tie.spec
+    step-in-requires
+    action-in-requires
+    keep-step-requires
+    answer-in-requires
+    same-length
+    returns)

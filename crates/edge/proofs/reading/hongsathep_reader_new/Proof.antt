@@ -1,0 +1,32 @@
+use borrow.Author.Needs.{needs}
+use Rattle.edge.proofs.reading.hongsathep_reader_new.Statement.{statement}
+use Rattle.edge.proofs.reading.hongsathep_reader_new.Tie as tie
+use Rattle.edge.proofs.reading.hongsathep_reader_new.Reads as reads
+use Rattle.edge.proofs.reading.hongsathep_reader_new.Lts as lts
+use Rattle.host_words.proofs.keep_reader.Reads as keep-reader-reads
+use Rattle.host_words.proofs.head_room.Reads as head-room-reads
+use Rattle.record.proofs.reader.LogReader.new.Reads as new-reads
+
+-- src/reading.rt:139:9
+head-room-requires : tie.Need-head-room-requires
+head-room-requires c κs = search needs
+
+-- src/reading.rt:140:33
+new-requires : tie.Need-new-requires
+new-requires c κs = search needs
+
+-- src/reading.rt:140:5
+keep-reader-requires : tie.Need-keep-reader-requires
+keep-reader-requires c κs = search needs
+
+-- src/reading.rt:134:1
+same-length : tie.Need-same-length
+same-length c = search needs
+
+-- src/reading.rt:134:1
+returns : tie.Need-returns
+returns c = ?
+
+pub hongsathep-reader-new-spec : {M : Type 1} → statement M
+hongsathep-reader-new-spec =
+    tie.close (tie.spec head-room-requires new-requires keep-reader-requires same-length returns)

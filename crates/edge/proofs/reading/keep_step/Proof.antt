@@ -1,0 +1,35 @@
+use borrow.Author.Needs.{needs}
+use Rattle.edge.proofs.reading.keep_step.Statement.{statement}
+use Rattle.edge.proofs.reading.keep_step.Tie as tie
+use Rattle.edge.proofs.reading.keep_step.Reads as reads
+use Rattle.edge.proofs.reading.keep_step.Lts as lts
+use Rattle.host_words.proofs.keep_reader.Reads as keep-reader-reads
+
+-- src/reading.rt:102:20
+enum-known-step : tie.Need-enum-known-step
+enum-known-step c = search needs
+
+-- src/reading.rt:103:9
+enum-told : tie.Need-enum-told
+enum-told c = search needs
+
+-- src/reading.rt:103:9
+returns : tie.Need-returns
+returns c = search needs
+
+-- src/reading.rt:106:5
+keep-reader-requires : tie.Need-keep-reader-requires
+keep-reader-requires c κs = search needs
+
+-- src/reading.rt:99:1
+same-length : tie.Need-same-length
+same-length c = search needs
+
+-- src/reading.rt:99:1
+returns-2 : tie.Need-returns-2
+returns-2 c = ?
+
+pub keep-step-spec : {M : Type 1} → statement M
+keep-step-spec =
+    tie.close
+    (tie.spec enum-known-step enum-told returns keep-reader-requires same-length returns-2)

@@ -1,0 +1,22 @@
+use borrow.Author.Needs.{needs}
+use Rattle.edge.proofs.tables.hongsathep_table_start.Statement.{statement}
+use Rattle.edge.proofs.tables.hongsathep_table_start.Tie as tie
+use Rattle.edge.proofs.tables.hongsathep_table_start.Reads as reads
+use Rattle.edge.proofs.tables.hongsathep_table_start.Lts as lts
+use Rattle.directory.proofs.directory.Directory.start.Reads as start-reads
+use Rattle.host_words.proofs.directory_of.Reads as directory-of-reads
+
+-- src/tables.rt:37:5
+directory-of-requires : tie.Need-directory-of-requires
+directory-of-requires c κs = search needs
+
+-- src/tables.rt:37:5
+start-requires : tie.Need-start-requires
+start-requires c κs = search needs
+
+-- src/tables.rt:33:1
+returns : tie.Need-returns
+returns c = ?
+
+pub hongsathep-table-start-spec : {M : Type 1} → statement M
+hongsathep-table-start-spec = tie.close (tie.spec directory-of-requires start-requires returns)
