@@ -1,3 +1,6 @@
+-- `action_in` meets its contract. Assumes nothing.
+use mathlib.Core.Path.{sym, ap}
+use Rattle.edge.specs.Reading.{actionNumbers}
 use borrow.Author.Needs.{needs}
 use Rattle.edge.proofs.reading.action_in.Statement.{statement}
 use Rattle.edge.proofs.reading.action_in.Tie as tie
@@ -37,11 +40,11 @@ enum-told c = search needs
 
 -- src/reading.rt:61:1
 returns : tie.Need-returns
-returns c = ?
+returns c = rw (c .before .before .before .tag .ensures, c .before .table-in .ensures, c .index-in .ensures) (ap actionNumbers (sym (c .before .before .before .before .before .step .given .1)))
 
 -- src/reading.rt:61:1
 returns-2 : tie.Need-returns-2
-returns-2 c = ?
+returns-2 c = ap actionNumbers (sym (c .enum-told .given .1))
 
 pub action-in-spec : {M : Type 1} → statement M
 action-in-spec =

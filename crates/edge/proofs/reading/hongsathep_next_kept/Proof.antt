@@ -1,3 +1,8 @@
+-- `hongsathep_next_kept` meets its contract. Assumes nothing.
+use mathlib.Core.Path.{ap, _∙_}
+use Rattle.record.specs.Next.{answerOf}
+use Rattle.edge.specs.Reading.{actionNumbers, readerLeft}
+use Rattle.edge.specs.declared.reading.ActionNumbers.{ActionNumbers}
 use borrow.Author.Needs.{needs}
 use Rattle.edge.proofs.reading.hongsathep_next_kept.Statement.{statement}
 use Rattle.edge.proofs.reading.hongsathep_next_kept.Tie as tie
@@ -30,7 +35,27 @@ same-length c = search needs
 
 -- src/reading.rt:173:1
 returns : tie.Need-returns
-returns c = ?
+returns c =
+    let e = c .before .before .before .before .before .before .step-in .ensures in
+    let a = c .before .before .before .before .before .action-in .ensures ∙ ap actionNumbers e in (
+      c .answer-in .ensures ∙ ap answerOf e,
+      (
+        c .before .before .before .keep-step .ensures ∙ ap (readerLeft (c .before .before .before .before .before .before .before .before .before .before .before .args .reader .now)) e,
+        (
+          ap (λ (x : ActionNumbers). x .tag) a,
+          (
+            ap (λ (x : ActionNumbers). x .table) a,
+            (
+              ap (λ (x : ActionNumbers). x .index) a,
+              (
+                ap (λ (x : ActionNumbers). x .start) a,
+                ap (λ (x : ActionNumbers). x .length) a,
+              ),
+            ),
+          ),
+        ),
+      ),
+    )
 
 pub hongsathep-next-kept-spec : {M : Type 1} → statement M
 hongsathep-next-kept-spec =

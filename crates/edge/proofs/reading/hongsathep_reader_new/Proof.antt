@@ -1,3 +1,10 @@
+-- `hongsathep_reader_new` meets its contract. Assumes nothing.
+use mathlib.Core.Path.{ap, ap₂, _∙_}
+use Rattle.answer.specs.Answer.{numberOf}
+use Rattle.answer.specs.declared.answer.Answer.{Answer}
+use Rattle.record.specs.declared.reader.LogReader.{LogReader}
+use Rattle.host_words.specs.Head.{headAfter}
+use Rattle.host_words.specs.Reader.{readerWords}
 use borrow.Author.Needs.{needs}
 use Rattle.edge.proofs.reading.hongsathep_reader_new.Statement.{statement}
 use Rattle.edge.proofs.reading.hongsathep_reader_new.Tie as tie
@@ -25,7 +32,11 @@ same-length c = search needs
 
 -- src/reading.rt:134:1
 returns : tie.Need-returns
-returns c = ?
+returns c =
+    let w = c .before .before .before .before .before .before .before .before .args .reader .now in (
+      c .before .before .keep-reader .ensures .0 ∙ ap numberOf (c .before .before .before .before .before .head-room .ensures),
+      c .before .before .keep-reader .ensures .1 ∙ ap₂ (λ (a : Answer) (x : LogReader). headAfter 5 (numberOf a) w (readerWords x)) (c .before .before .before .before .before .head-room .ensures) (c .before .before .before .new .ensures),
+    )
 
 pub hongsathep-reader-new-spec : {M : Type 1} → statement M
 hongsathep-reader-new-spec =

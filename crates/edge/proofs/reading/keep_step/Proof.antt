@@ -1,3 +1,6 @@
+-- `keep_step` meets its contract. Assumes nothing.
+use mathlib.Core.Path.{sym, ap, _∙_}
+use Rattle.edge.specs.Reading.{readerLeft}
 use borrow.Author.Needs.{needs}
 use Rattle.edge.proofs.reading.keep_step.Statement.{statement}
 use Rattle.edge.proofs.reading.keep_step.Tie as tie
@@ -27,7 +30,7 @@ same-length c = search needs
 
 -- src/reading.rt:99:1
 returns-2 : tie.Need-returns-2
-returns-2 c = ?
+returns-2 c = c .before .before .keep-reader .ensures .1 ∙ ap (readerLeft (c .before .before .before .before .before .before .before .before .before .args .reader .now)) (sym (c .before .before .before .before .before .before .step .given .1))
 
 pub keep-step-spec : {M : Type 1} → statement M
 keep-step-spec =

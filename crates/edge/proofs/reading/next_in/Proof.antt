@@ -1,3 +1,11 @@
+-- `next_in` meets its contract. Assumes nothing.
+use mathlib.Core.Path.{sym, ap, ap₂, _∙_}
+use Rattle.words.proofs.Choices.{if-true, if-false}
+use Rattle.directory.specs.Directory.{directoryKept}
+use Rattle.directory.specs.declared.directory.Directory.{Directory}
+use Rattle.record.specs.Next.{nextOf}
+use Rattle.record.specs.declared.reader.LogReader.{LogReader}
+use Rattle.edge.specs.Reading.{nextIn}
 use borrow.Author.Needs.{needs}
 use Rattle.edge.proofs.reading.next_in.Statement.{statement}
 use Rattle.edge.proofs.reading.next_in.Tie as tie
@@ -15,7 +23,7 @@ reader-formed-requires c κs = search needs
 
 -- src/reading.rt:119:16
 reader-of-requires : tie.Need-reader-of-requires
-reader-of-requires c κs = ?
+reader-of-requires c κs = sym (c .before .reader-formed .ensures) ∙ c .if1 .taken
 
 -- src/reading.rt:119:39
 directory-of-requires : tie.Need-directory-of-requires
@@ -27,7 +35,10 @@ next-requires c κs = search needs
 
 -- src/reading.rt:119:9
 returns : tie.Need-returns
-returns c = ?
+unfolding nextIn
+returns c =
+    c .next .ensures ∙ ap₂ (λ (d : Directory) (x : LogReader). nextOf d (c .before .before .before .before .before .before .before .before .args .log .now) x) (c .before .directory-of .ensures) (c .before .before .reader-of .ensures)
+    ∙ sym (if-true _ _ _ (sym (c .before .before .before .before .reader-formed .ensures) ∙ c .before .before .before .if1 .taken))
 
 -- src/reading.rt:121:5
 no-reader-requires : tie.Need-no-reader-requires
@@ -35,7 +46,8 @@ no-reader-requires c κs = search needs
 
 -- src/reading.rt:115:1
 returns-2 : tie.Need-returns-2
-returns-2 c = ?
+unfolding nextIn
+returns-2 c = c .no-reader .ensures ∙ sym (if-false _ _ _ (sym (c .before .before .reader-formed .ensures) ∙ c .before .if1 .left))
 
 pub next-in-spec : {M : Type 1} → statement M
 next-in-spec =

@@ -1,3 +1,11 @@
+-- `step_in` meets its contract. Assumes nothing.
+use mathlib.Core.Path.{sym, ap, ap₂, _∙_}
+use Rattle.words.proofs.Choices.{if-true, if-false}
+use Rattle.directory.specs.Directory.{directoryKept}
+use Rattle.directory.specs.declared.directory.Directory.{Directory}
+use Rattle.record.specs.Next.{stepOf}
+use Rattle.record.specs.declared.reader.LogReader.{LogReader}
+use Rattle.edge.specs.Reading.{stepIn}
 use borrow.Author.Needs.{needs}
 use Rattle.edge.proofs.reading.step_in.Statement.{statement}
 use Rattle.edge.proofs.reading.step_in.Tie as tie
@@ -15,7 +23,7 @@ reader-formed-requires c κs = search needs
 
 -- src/reading.rt:129:16
 reader-of-requires : tie.Need-reader-of-requires
-reader-of-requires c κs = ?
+reader-of-requires c κs = sym (c .before .reader-formed .ensures) ∙ c .if1 .taken
 
 -- src/reading.rt:129:44
 directory-of-requires : tie.Need-directory-of-requires
@@ -23,11 +31,14 @@ directory-of-requires c κs = search needs
 
 -- src/reading.rt:129:9
 next-kept-requires : tie.Need-next-kept-requires
-next-kept-requires c κs = ?
+next-kept-requires c κs = ap directoryKept (c .directory-of .ensures) ∙ c .before .before .before .before .before .before .before .pre
 
 -- src/reading.rt:129:9
 returns : tie.Need-returns
-returns c = ?
+unfolding stepIn
+returns c =
+    c .next-kept .ensures ∙ ap₂ (λ (d : Directory) (x : LogReader). stepOf d (c .before .before .before .before .before .before .before .before .args .log .now) x) (c .before .directory-of .ensures) (c .before .before .reader-of .ensures)
+    ∙ sym (if-true _ _ _ (sym (c .before .before .before .before .reader-formed .ensures) ∙ c .before .before .before .if1 .taken))
 
 -- src/reading.rt:131:5
 no-reader-requires : tie.Need-no-reader-requires
@@ -35,7 +46,8 @@ no-reader-requires c κs = search needs
 
 -- src/reading.rt:124:1
 returns-2 : tie.Need-returns-2
-returns-2 c = ?
+unfolding stepIn
+returns-2 c = c .no-reader .ensures ∙ sym (if-false _ _ _ (sym (c .before .before .reader-formed .ensures) ∙ c .before .if1 .left))
 
 pub step-in-spec : {M : Type 1} → statement M
 step-in-spec =

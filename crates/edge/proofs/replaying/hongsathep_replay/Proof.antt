@@ -1,3 +1,9 @@
+-- `hongsathep_replay` meets its contract. Assumes nothing.
+use mathlib.Core.Path.{ap, _∙_}
+use Rattle.answer.specs.Answer.{numberOf}
+use Rattle.directory.specs.declared.directory.Directory.{Directory}
+use Rattle.replay.specs.Replay.{judged, replayedAs, imageAfter}
+use Rattle.replay.specs.declared.one_record.Replayed.{Replayed}
 use borrow.Author.Needs.{needs}
 use Rattle.edge.proofs.replaying.hongsathep_replay.Statement.{statement}
 use Rattle.edge.proofs.replaying.hongsathep_replay.Tie as tie
@@ -25,7 +31,16 @@ same-length c = search needs
 
 -- src/replaying.rt:33:1
 returns : tie.Need-returns
-returns c = ?
+returns c =
+    let a = c .before .before .before .before .before .before .before .before .before .args in
+    let d = c .before .before .before .before .before .directory-of .ensures in
+    let e = c .before .before .before .replay .ensures .0 ∙ ap (λ (x : Directory). replayedAs (a .position) (judged x (a .log .now) (a .position) (a .expected) (a .image .now))) d in (
+      c .number .ensures ∙ ap (λ (x : Replayed). numberOf (x .answer)) e,
+      (
+        ap (λ (x : Replayed). x .position) e,
+        c .before .before .before .replay .ensures .1 ∙ ap (λ (x : Directory). imageAfter x (a .image .now) (judged x (a .log .now) (a .position) (a .expected) (a .image .now))) d,
+      ),
+    )
 
 pub hongsathep-replay-spec : {M : Type 1} → statement M
 hongsathep-replay-spec =

@@ -1,3 +1,7 @@
+-- `hongsathep_directory_kept` meets its contract. Assumes nothing.
+use mathlib.Core.Path.{sym, ap, _∙_}
+use Rattle.words.proofs.Choices.{if-true, if-false}
+use Rattle.directory.specs.Directory.{directoryKept}
 use borrow.Author.Needs.{needs}
 use Rattle.edge.proofs.tables.hongsathep_directory_kept.Statement.{statement}
 use Rattle.edge.proofs.tables.hongsathep_directory_kept.Tie as tie
@@ -16,11 +20,11 @@ kept-requires c κs = search needs
 
 -- src/tables.rt:21:9
 returns : tie.Need-returns
-returns c = ?
+returns c = sym (if-true _ _ _ (sym (ap directoryKept (c .before .before .directory-of .ensures)) ∙ sym (c .before .kept .ensures) ∙ c .if1 .taken))
 
 -- src/tables.rt:16:1
 returns-2 : tie.Need-returns-2
-returns-2 c = ?
+returns-2 c = sym (if-false _ _ _ (sym (ap directoryKept (c .before .before .directory-of .ensures)) ∙ sym (c .before .kept .ensures) ∙ c .if1 .left))
 
 pub hongsathep-directory-kept-spec : {M : Type 1} → statement M
 hongsathep-directory-kept-spec =

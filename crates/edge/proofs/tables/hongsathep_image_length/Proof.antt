@@ -1,3 +1,6 @@
+-- `hongsathep_image_length` meets its contract. Assumes nothing.
+use mathlib.Core.Path.{ap, _∙_}
+use Rattle.directory.specs.Directory.{imageLength}
 use borrow.Author.Needs.{needs}
 use Rattle.edge.proofs.tables.hongsathep_image_length.Statement.{statement}
 use Rattle.edge.proofs.tables.hongsathep_image_length.Tie as tie
@@ -16,7 +19,7 @@ image-length-requires c κs = search needs
 
 -- src/tables.rt:26:1
 returns : tie.Need-returns
-returns c = ?
+returns c = c .image-length .ensures ∙ ap imageLength (c .before .directory-of .ensures)
 
 pub hongsathep-image-length-spec : {M : Type 1} → statement M
 hongsathep-image-length-spec =

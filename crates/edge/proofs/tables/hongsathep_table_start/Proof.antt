@@ -1,3 +1,7 @@
+-- `hongsathep_table_start` meets its contract. Assumes nothing.
+use mathlib.Core.Path.{ap, _∙_}
+use Rattle.directory.specs.Directory.{startOf}
+use Rattle.directory.specs.declared.directory.Directory.{Directory}
 use borrow.Author.Needs.{needs}
 use Rattle.edge.proofs.tables.hongsathep_table_start.Statement.{statement}
 use Rattle.edge.proofs.tables.hongsathep_table_start.Tie as tie
@@ -16,7 +20,7 @@ start-requires c κs = search needs
 
 -- src/tables.rt:33:1
 returns : tie.Need-returns
-returns c = ?
+returns c = c .start .ensures ∙ ap (λ (d : Directory). startOf d (c .before .before .before .args .row)) (c .before .directory-of .ensures)
 
 pub hongsathep-table-start-spec : {M : Type 1} → statement M
 hongsathep-table-start-spec = tie.close (tie.spec directory-of-requires start-requires returns)
