@@ -1,17 +1,19 @@
--- Document 01, "Cases", "Proved as a single table". The calls are made and computed: (a) to (e) are whole records, their checksums included, under
+-- Document 01, "Cases", "Proved as a single table". Inserts and drops are made on a new list, and the record is flushed to an output of 60 bytes:
+-- (a) to (e) are its answer, its length and every byte of the output, checksums included, under
 -- index table 1, value table 2 (values of 20 bytes) and reference count table 3; (f) to (i) hold under every directory that keeps its rules,
 -- validating or not, whatever the further bytes are. Assumes nothing.
 use mathlib.Core.Path.{_≡_}
 use mathlib.Core.Bool.{Bool, true}
 use mathlib.Core.List.{List, [], _∷_}
 use Prim.Native.Nat.{ℕ, _^_}
-use lib.ListN.{length, take}
+use lib.ListN.{length}
 use Rattle.directory.specs.Directory.{directoryKept}
 use Rattle.directory.specs.declared.directory.Directory.{Directory}
 use Rattle.directory.specs.declared.table.TableKind.the-variants.{Value, RefCount}
 use Rattle.record.specs.Next.{answerOf, readerAt, nextOf}
 use Rattle.answer.specs.declared.answer.Answer.the-variants.{Done, BadArgument}
 use Rattle.record.proofs.Cases as openings
+use Rattle.numbers.specs.Queue.{listOf}
 use Rattle.keys.specs.Keys.{markAt}
 use Rattle.change.specs.Insert.{notMade, inserted}
 use Rattle.change.specs.Drop.{tableDropped}
@@ -54,14 +56,14 @@ pub record Table : Type 0 where
   pub h : Always (λ d validate. answered d validate (8 ∷ []) ≡ 3)
   -- "(i) 05 and two bytes, 4"
   pub i : Always (λ d validate. (a b : ℕ) → answered d validate (5 ∷ a ∷ b ∷ []) ≡ 4)
-  -- "(j) slot 63 taken, 64 answered 14"
+  -- "(j) slot 63 taken, 64 answered 14": bit 63 is set in the stored mask, and a refusal leaves the list as it was
   pub j-63 : slotIn new 63 .answer ≡ Done
   pub j-mask : markAt (slotIn new 63 .change .parts .index .rows) 0 ≡ 2 ^ 63
   pub j-64 : slotIn new 64 ≡ notMade BadArgument new
   -- "(k) size 10, minimum 10, no flush"
   pub k : flushOne ten 10 ≡ notFlushed Done ten
   -- "(l) 17 due in the pool, the highest removed": file 16 goes, 0 to 15 are kept
-  pub l : take (cleanLogs seventeen 1 .«remove_count») (cleanLogs seventeen 1 .remove) ≡ 16 ∷ []
+  pub l : listOf (cleanLogs seventeen 1 .remove) ≡ 16 ∷ []
   pub l-kept : poolOf (cleanLogs seventeen 1 .queues) ≡ 0 ∷ 1 ∷ 2 ∷ 3 ∷ 4 ∷ 5 ∷ 6 ∷ 7 ∷ 8 ∷ 9 ∷ 10 ∷ 11 ∷ 12 ∷ 13 ∷ 14 ∷ 15 ∷ []
 
 pub table : Table

@@ -10,7 +10,7 @@ use lib.ListN.{getD, length}
 use borrow.Author.Tests.{lt-ltb, le-ltb, lt-leb, le-leb, ltb-false, leb-false, leb-true, eqb-true}
 use Rattle.words.specs.Choice.{if_then_else_}
 use Rattle.answer.specs.declared.answer.Answer.{Answer}
-use Rattle.answer.specs.declared.answer.Answer.the-variants.{NoTable, NoIndex, NoRoom, BadArgument}
+use Rattle.answer.specs.declared.answer.Answer.the-variants.{Done, NoTable, NoIndex, NoRoom, BadArgument}
 use Rattle.directory.specs.Table.{sameKind, isTable, lengthFits, tableKept, unitOf}
 use Rattle.directory.specs.Directory.{tablesOf, findFrom, findTable, eachKept, directoryKept}
 use Rattle.directory.specs.declared.table.TableKind.{TableKind}
@@ -19,8 +19,8 @@ use Rattle.directory.specs.declared.table.TableDescription.{TableDescription}
 use Rattle.directory.specs.declared.directory.Directory.{Directory}
 use Rattle.directory.specs.declared.directory.Found.{Found}
 use Rattle.directory.specs.declared.directory.Found.the-variants.{At, Nothing}
+use Rattle.numbers.proofs.Laws.{left-of, right-of}
 use Rattle.keys.specs.Keys.{rank, markAt, ruled}
-use Rattle.keys.proofs.Places.{left-of, right-of}
 use Rattle.overlay.specs.Rules.{Overlay, slotSize, listsOf}
 use Rattle.overlay.specs.Overlay.{spotIn, standsIn, placeIn}
 use Rattle.overlay.specs.Inner.{seatIn}
@@ -30,11 +30,12 @@ use Rattle.overlay.proofs.Ruled.{Kept, shows}
 use Rattle.overlay.proofs.Lookups.{findEntry-there, findEntry-none}
 use Rattle.overlay.proofs.Seats.{sits, lacking}
 use Rattle.memory.specs.declared.span.Holder.the-variants as holder
-use Rattle.memory.specs.Parts.{Parts, spanOf, ofKind, partsKept, Takes}
+use Rattle.memory.specs.Parts.{Parts, spanOf, ofKind, partsKept, Takes, putInto}
 use Rattle.memory.proofs.Spans.{all-shows}
 use Rattle.change.specs.declared.plans.Plan.{Plan}
 use Rattle.change.specs.declared.plans.Plan.the-variants.{Refuse, Go}
-use Rattle.change.specs.Insert.{bytesFit, roomFor, planIn}
+use Rattle.change.specs.Change.{Change, withParts}
+use Rattle.change.specs.Insert.{Made, notMade, markOf, bytesFit, roomFor, planIn, madeBy, insertedKept}
 
 -- the last step: over the key's own place, or into the next one
 module _ (room : ℕ) (o : Overlay) (w : o .count ≤ length (o .order)) (in-order : ruled (o .rows) (o .order) (o .count) ≡ true) (key : ℕ) where
@@ -166,6 +167,10 @@ module _ (kind : TableKind) (p : Parts) (key old : ℕ) (ok : partsKept holder.L
           let r = past (leb (spanOf holder.List kind .room) (o .count)) q (refused NoRoom old) in
           ((λ f. leb-false (spanOf holder.List kind .room) (o .count) (r .0)), sym (ap goes (r .1)) ∙ next-mark h)
 
+-- the list with other entries, and 0
+abbrev pub doneWith : Change → Parts → Made
+doneWith l p = record { answer = Done; change = withParts l p }
+
 -- an insert that is refused nothing
 pub record Accepted (kind : TableKind) (d : Directory) (p : Parts) (number index sub : ℕ) (bytes : List ℕ) (old : ℕ) : Type 0 where
   pub row : ℕ
@@ -196,3 +201,16 @@ module _ (kind : TableKind) (d : Directory) (p : Parts) (number index sub : ℕ)
           let w = eqb-true (length bytes) (unitOf kind (t .length)) (g .0) in
           let l = length-kept d kind number row t dir q in
           record { row = row; table = t; found = q; below = leb-false (t .count) index (a .0); slot = omega arith; size = l; whole = w; fits = size-fits kind (t .length) (length bytes) l w; takes = h .0; old-is = h .1 }
+
+-- what an insert comes to, by its plan: the list as it was, or one put
+module _ (kind : TableKind) (d : Directory) (l : Change) (number index sub : ℕ) (bytes : List ℕ) where
+  pub made-refused : (answer : Answer) → planIn kind (ofKind kind (l .parts)) (findTable d kind number) number index sub bytes ≡ Refuse answer
+      → notMade answer l ≡ insertedKept kind d l number index sub bytes
+  unfolding insertedKept
+  made-refused answer e = ap (λ (q : Plan). madeBy q kind l number index sub bytes) (sym e)
+
+  pub made-put : (old : ℕ) → planIn kind (ofKind kind (l .parts)) (findTable d kind number) number index sub bytes ≡ Go old → (mark : ℕ) → mark ≡ markOf kind old sub bytes
+      → (after : Parts) → after ≡ putInto kind (l .parts) number index (l .id) mark bytes → doneWith l after ≡ insertedKept kind d l number index sub bytes
+  unfolding insertedKept
+  made-put old e mark m after p =
+      ap (doneWith l) (p ∙ ap (λ (k : ℕ). putInto kind (l .parts) number index (l .id) k bytes) m) ∙ ap (λ (q : Plan). madeBy q kind l number index sub bytes) (sym e)

@@ -8,9 +8,11 @@ use lib.Dec.{eqb}
 use lib.ListN.{length, getD, take}
 use borrow.Author.Tests.{eqb-true, eqb-false}
 use Rattle.directory.specs.declared.table.TableKind.{TableKind}
-use Rattle.keys.specs.Keys.{rank, rowPut, keysOf, every, spot, holds}
+use Rattle.numbers.proofs.Laws.{put-places}
+use Rattle.numbers.specs.Numbers.{spot}
+use Rattle.keys.specs.Keys.{rank, rowPut, keysOf, every, holds}
 use Rattle.keys.proofs.Places.{rule-under}
-use Rattle.keys.proofs.Kept.{every-same, every-put, put-places}
+use Rattle.keys.proofs.Kept.{every-same, every-put}
 use Rattle.overlay.specs.Rules.{Overlay, overlayKept}
 use Rattle.overlay.specs.Overlay.{spotIn, standsIn, putOver}
 use Rattle.overlay.proofs.Ruled.{Kept, shows}

@@ -15,8 +15,8 @@ use Rattle.directory.specs.declared.directory.Directory.{Directory}
 use Rattle.directory.specs.declared.directory.Found.{Found}
 use Rattle.directory.specs.declared.directory.Found.the-variants.{At}
 use Rattle.directory.proofs.Tables.{isFound, found-stands}
+use Rattle.numbers.proofs.Laws.{left-of, right-of}
 use Rattle.keys.specs.Keys.{markAt, every}
-use Rattle.keys.proofs.Places.{left-of, right-of}
 use Rattle.overlay.specs.Rules.{Overlay, listsOf, markRuled, rowRuled, keysRuled}
 use Rattle.overlay.proofs.Ruled.{keys-each}
 use Rattle.change.specs.Change.{markFits, keyFits, entryFits, entriesFit}

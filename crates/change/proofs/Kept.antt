@@ -18,8 +18,8 @@ use Rattle.directory.specs.Table.{sameKind}
 use Rattle.directory.specs.declared.table.TableKind.{TableKind}
 use Rattle.directory.specs.declared.table.TableKind.the-variants.{Index, Value, RefCount}
 use Rattle.directory.specs.declared.directory.Directory.{Directory}
+use Rattle.numbers.proofs.Laws.{both, left-of, right-of}
 use Rattle.keys.specs.Keys.{rank, markAt, rowPut, every}
-use Rattle.keys.proofs.Places.{both, left-of, right-of}
 use Rattle.keys.proofs.Kept.{table-here, index-here, mark-here, word-other}
 use Rattle.overlay.specs.Rules.{Overlay, overlayKept}
 use Rattle.overlay.specs.Overlay.{standsIn, putOver}

@@ -14,8 +14,10 @@ use Rattle.directory.specs.declared.table.TableDescription.{TableDescription}
 use Rattle.directory.specs.declared.directory.Directory.{Directory}
 use Rattle.directory.specs.declared.directory.Found.{Found}
 use Rattle.directory.specs.declared.directory.Found.the-variants.{At, Nothing}
-use Rattle.keys.specs.Keys.{rank, keyAt, markAt, keysOf, ruled, spot}
-use Rattle.keys.proofs.Places.{left-of, right-of, in-use, below-spot, not-below-spot}
+use Rattle.numbers.proofs.Laws.{left-of, right-of}
+use Rattle.numbers.specs.Numbers.{spot}
+use Rattle.keys.specs.Keys.{rank, keyAt, markAt, keysOf, ruled}
+use Rattle.keys.proofs.Places.{in-use, below-spot, not-below-spot}
 use Rattle.overlay.specs.Rules.{Overlay, slotSize, storedLength, markRuled, rowRuled, overlayKept}
 use Rattle.overlay.proofs.Ruled.{Kept, shows, unit-fits}
 use Rattle.overlay.proofs.Slots.{slot-in}

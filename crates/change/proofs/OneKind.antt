@@ -1,5 +1,5 @@
 -- One kind's part of a list's words, as the code lends it: what the rules say of it; and what reads no bytes reads the same from it. Assumes nothing.
-use mathlib.Core.Path.{_≡_}
+use mathlib.Core.Path.{_≡_, sym, ap, _∙_}
 use mathlib.Core.Bool.{true}
 use mathlib.Core.List.{List, []}
 use Prim.Native.Nat.{ℕ, _*_, _≤_}
@@ -8,16 +8,16 @@ use lib.ListN.{length}
 use borrow.Author.Tests.{le-leb}
 use Rattle.directory.specs.declared.table.TableKind.{TableKind}
 use Rattle.directory.specs.declared.table.TableKind.the-variants.{Index, Value, RefCount}
+use Rattle.numbers.proofs.Laws.{both}
 use Rattle.keys.specs.Keys.{ruled}
-use Rattle.keys.proofs.Places.{both}
 use Rattle.overlay.specs.Rules.{Overlay, rowsOf, orderOf, listsOf, overlayOf, keysRuled}
 use Rattle.overlay.proofs.Ruled.{Kept, shows}
 use Rattle.overlay.proofs.Parts.{words-long}
 use Rattle.memory.specs.declared.counts.Counts.{Counts}
 use Rattle.memory.specs.declared.span.Span.{Span}
 use Rattle.memory.specs.declared.span.Holder.the-variants as holder
-use Rattle.memory.specs.Parts.{spanOf, countOf, partFrom, bytesIn, partOf, partsOf, partsKept}
-use Rattle.memory.proofs.Spans.{words-all}
+use Rattle.memory.specs.Parts.{spanOf, countOf, partFrom, bytesIn, partsOf, ofKind, partsKept}
+use Rattle.memory.proofs.Spans.{of-parts, words-all}
 use Rattle.memory.proofs.Lent.{fits, lentOf, lent-kept}
 
 pub record KindLent (kind : TableKind) (s : Span) (words : List ℕ) (n : ℕ) : Type 0 where
@@ -59,5 +59,5 @@ module _ (kind : TableKind) (c : Counts) (words bytes : List ℕ) (s : Span) (e 
       }
 
   pub reads-part : {A : Type 0} (f : Overlay → A) → ((rows order bytes : List ℕ) (n : ℕ) → f (listsOf rows order [] n) ≡ f (listsOf rows order bytes n))
-      → f (overlayOf (s .room) (partFrom (s .«words_at») (s .«words_end») words) [] n) ≡ f (partOf holder.List kind c words bytes)
-  reads-part f same = rw (e, d) (same _ _ (bytesIn holder.List kind bytes) (countOf kind c))
+      → f (overlayOf (s .room) (partFrom (s .«words_at») (s .«words_end») words) [] n) ≡ f (ofKind kind (partsOf holder.List c words bytes))
+  reads-part f same = rw (e, d) (same _ _ (bytesIn holder.List kind bytes) (countOf kind c)) ∙ ap f (sym (of-parts holder.List kind c words bytes))

@@ -8,7 +8,7 @@ use Rattle.directory.specs.Directory.{directoryKept}
 use Rattle.directory.specs.declared.table.TableKind.{TableKind}
 use Rattle.directory.specs.declared.table.TableKind.the-variants.{Index, Value, RefCount}
 use Rattle.directory.specs.declared.directory.Directory.{Directory}
-use Rattle.keys.proofs.Places.{both, left-of, right-of}
+use Rattle.numbers.proofs.Laws.{both, left-of, right-of}
 use Rattle.memory.specs.Parts.{ofKind, partsKept}
 use Rattle.memory.specs.declared.span.Holder.the-variants as holder
 use Rattle.change.specs.Change.{Change, dropRoom, changeRuled, entriesFit, dropsFit, changeFits, changeKept}

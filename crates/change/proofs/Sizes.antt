@@ -12,8 +12,8 @@ use lib.Seq.{getD-take, length-take-le}
 use borrow.Author.Tests.{leb-true}
 use Rattle.directory.specs.declared.table.TableKind.{TableKind}
 use Rattle.directory.specs.declared.table.TableKind.the-variants.{Index, Value, RefCount}
+use Rattle.numbers.proofs.Laws.{right-of, places-cons, places-end}
 use Rattle.keys.specs.Keys.{markAt}
-use Rattle.keys.proofs.Places.{right-of, places-cons, places-end}
 use Rattle.overlay.specs.Rules.{Overlay, markRuled, overlayKept, listsOf}
 use Rattle.overlay.proofs.Ruled.{shows}
 use Rattle.memory.specs.Parts.{spanOf, ofKind}

@@ -1,8 +1,7 @@
-// The change list by value: its id, how many keys it has, and its drops. log.rs lines 355 to 378 and 471 to 474.
+// The change list by value: its id, how many keys it has, and its drops. log.rs lines 355 to 374 and 471 to 478.
 ghost use mathlib.Core.Path.{_≡_};
 ghost use mathlib.Core.Bool.{true};
-ghost use Rattle.memory.specs.Parts.{partOf};
-ghost use Rattle.memory.specs.declared.span.Holder.the-variants.{List};
+ghost use Rattle.memory.specs.Parts.{ofKind};
 ghost use Rattle.change.specs.Change.{changeOf, newList, entriesFit, changeRuled, changeFits, changeKept};
 use super::drops::Drops;
 use super::fits::entries_fit;
@@ -63,7 +62,7 @@ impl LogChange {
     // Whether the keys of a kind fit the directory.
     fn kind_fits(self, directory: Directory, kind: TableKind, words: &[u64], bytes: &[u8]) -> bool
         requires { ⌜ changeRuled (changeOf self (now words) (now bytes)) ≡ true ⌝ }
-        ensures { λ r. ⌜ r ≡ entriesFit directory kind (partOf List kind (self .counts) (now (words .entry)) (now (bytes .entry))) ⌝ }
+        ensures { λ r. ⌜ r ≡ entriesFit directory kind (ofKind kind (changeOf self (now (words .entry)) (now (bytes .entry)) .parts)) ⌝ }
     {
         let s = memory::span_of(Holder::List, kind);
         let a = s.words_at;

@@ -3,8 +3,7 @@ ghost use mathlib.Core.Path.{_≡_};
 ghost use mathlib.Core.Bool.{true};
 ghost use Rattle.directory.specs.Directory.{findTable};
 ghost use Rattle.directory.specs.declared.table.TableKind.the-variants.{Index, Value, RefCount};
-ghost use Rattle.memory.specs.Parts.{partOf};
-ghost use Rattle.memory.specs.declared.span.Holder.the-variants.{List};
+ghost use Rattle.memory.specs.Parts.{ofKind};
 ghost use Rattle.change.specs.Change.{changeOf, changeKept};
 ghost use Rattle.change.specs.Insert.{madeOf, planIn, insertedKept, inserted};
 use super::change::Changed;
@@ -34,7 +33,7 @@ impl LogChange {
         data: &[u8],
     ) -> Plan
         requires { ⌜ changeKept directory (changeOf self (now words) (now bytes)) ≡ true ⌝ }
-        ensures { λ r. ⌜ r ≡ planIn kind (partOf List kind (self .counts) (now (words .entry)) (now (bytes .entry))) (findTable directory kind number) number index sub (now («data» .entry)) ⌝ }
+        ensures { λ r. ⌜ r ≡ planIn kind (ofKind kind (changeOf self (now (words .entry)) (now (bytes .entry)) .parts)) (findTable directory kind number) number index sub (now («data» .entry)) ⌝ }
     {
         let s = memory::span_of(Holder::List, kind);
         let a = s.words_at;

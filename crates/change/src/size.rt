@@ -5,8 +5,7 @@ ghost use mathlib.Core.List.{[]};
 ghost use Prim.Native.Nat.{_*_, _≤_};
 ghost use lib.ListN.{length};
 ghost use Rattle.overlay.specs.Rules.{keysRuled, markRuled, rowsOf, orderOf, overlayOf, listsOf};
-ghost use Rattle.memory.specs.Parts.{partOf};
-ghost use Rattle.memory.specs.declared.span.Holder.the-variants.{List};
+ghost use Rattle.memory.specs.Parts.{ofKind};
 ghost use Rattle.change.specs.Change.{changeOf, changeRuled};
 ghost use Rattle.change.specs.Size.{entrySize, entriesSize, recordSize, sizedKept, sized};
 use super::change::LogChange;
@@ -64,7 +63,7 @@ fn entries_size(kind: TableKind, room: usize, words: &[u64], n: usize) -> usize
 impl LogChange {
     fn kind_size(self, kind: TableKind, words: &[u64], bytes: &[u8]) -> usize
         requires { ⌜ changeRuled (changeOf self (now words) (now bytes)) ≡ true ⌝ }
-        ensures { λ r. ⌜ (r ≡ entriesSize kind (partOf List kind (self .counts) (now (words .entry)) (now (bytes .entry)))) × (r ≤ 33376) ⌝ }
+        ensures { λ r. ⌜ (r ≡ entriesSize kind (ofKind kind (changeOf self (now (words .entry)) (now (bytes .entry)) .parts))) × (r ≤ 33376) ⌝ }
     {
         let s = memory::span_of(Holder::List, kind);
         let a = s.words_at;

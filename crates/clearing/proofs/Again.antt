@@ -1,12 +1,12 @@
 -- A record read again: what is to be cleared, by what the check of it answered. Assumes nothing.
 use mathlib.Core.Path.{_≡_, refl, sym, ap, _∙_}
-use mathlib.Core.Bool.{Bool, true, false}
+use mathlib.Core.Bool.{true}
 use mathlib.Core.List.{List}
 use Prim.Native.Nat.{ℕ, suc}
 use native.Mathlib.Omega.{arith}
 use lib.Dec.{eqb}
 use lib.ListN.{length}
-use borrow.Author.Tests.{eq-eqb, ne-eqb}
+use borrow.Author.Tests.{eqb-true, eq-eqb, ne-eqb}
 use Rattle.words.proofs.Choices.{if-true, if-false}
 use Rattle.answer.specs.Answer.{refusal, lastRecordId}
 use Rattle.answer.specs.declared.answer.Answer.the-variants.{UsedUp}
@@ -43,6 +43,14 @@ again-by d log at = by (stepOf d log (readerAt at true)) refl
         let i = id-there d log at s q in
         ap (withId (idThere log at)) (opening.record-opened d log at (idThere log at) s q (eq-eqb (s .reader .record_id) (idThere log at) i))
         ∙ ap (λ (id : ℕ). withId id (restIn d log (s .reader))) (sym i)
+
+-- a record that replay takes under an id is read again under that id: there is no other
+pub record-is-again : (d : Directory) (log : List ℕ) (at id : ℕ) (ws : List Written) (end : ℕ) → recordAt d log at id ≡ walked ws end → recordAgain d log at ≡ walked (record { id = id; actions = ws }) end
+record-is-again d log at id ws end e =
+    let w = opening.whole-record d log at id ws end e in
+    again-by d log at
+    ∙ ap (byAny (restIn d log)) (w .opens) ∙ ap (withId (w .s .reader .record_id)) (w .rest)
+    ∙ ap (λ (i : ℕ). walked (record { id = i; actions = ws }) end) (eqb-true (w .s .reader .record_id) id (w .id))
 
 -- ---- what the check answered
 

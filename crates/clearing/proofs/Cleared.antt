@@ -3,7 +3,6 @@ use mathlib.Core.Path.{_≡_}
 use mathlib.Core.Bool.{true}
 use mathlib.Core.List.{List, [], _∷_}
 use Prim.Native.Nat.{ℕ}
-use Rattle.directory.specs.declared.table.TableKind.{TableKind}
 use Rattle.effect.specs.Effect.{Written}
 use Rattle.keys.specs.Keys.{rank}
 use Rattle.replay.specs.Replay.{Walked, fault, walked}
@@ -12,7 +11,7 @@ use Rattle.memory.specs.Parts.{Parts, partsKept}
 use Rattle.memory.specs.Overlays.{Overlays}
 use Rattle.memory.proofs.Spans.{remove-kept}
 use Rattle.clearing.specs.Clear.{namedBy, clearedKey, clearedBy}
-use Rattle.clearing.specs.EndRead.{Again, endedBy}
+use Rattle.clearing.specs.EndRead.{Again, endReadBy}
 use Rattle.clearing.specs.declared.clear.NamedKey.{NamedKey}
 use Rattle.clearing.specs.declared.clear.NamedKey.the-variants.{Key, Nothing}
 
@@ -27,6 +26,6 @@ module _ (id : ℕ) where
   cleared-kept (w ∷ ws) p ok = cleared-kept ws (clearedKey id (namedBy (w .action)) p) (key-kept (namedBy (w .action)) p ok)
 
 -- "Rules of a state": whatever `end_read` answers, overlays that kept their rules keep them
-pub ended-kept : (at : ℕ) (s : Overlays) (next : ℕ) (g : Walked Again) → partsKept holder.Shared (s .parts) ≡ true → partsKept holder.Shared (endedBy at s next g .overlays .parts) ≡ true
+pub ended-kept : (at : ℕ) (s : Overlays) (next : ℕ) (g : Walked Again) → partsKept holder.Shared (s .parts) ≡ true → partsKept holder.Shared (endReadBy at s next g .overlays .parts) ≡ true
 ended-kept at s next (fault x) ok = ok
 ended-kept at s next (walked g end) ok = cleared-kept (g .id) (g .actions) (s .parts) ok

@@ -1,45 +1,28 @@
 -- What is left in the overlays: of a key that the record names the entry of another id, of any other key what stood there. Assumes nothing.
-use mathlib.Core.Path.{_≡_, refl, sym, ap, _∙_}
-use mathlib.Core.Bool.{Bool, true, false, _&&_, _||_}
+use mathlib.Core.Path.{_≡_, refl, ap, _∙_}
+use mathlib.Core.Bool.{Bool, true, false, _||_}
 use mathlib.Core.List.{List, [], _∷_}
 use mathlib.Core.Option.{Option, none, some}
 use Prim.Native.Nat.{ℕ, _+_, _<_, _≤_}
 use native.Mathlib.Omega.{arith}
 use lib.Dec.{eqb, ltb}
-use borrow.Author.Tests.{eqb-true, eq-eqb, ne-eqb, ltb-true, ltb-false}
+use borrow.Author.Tests.{eq-eqb, ne-eqb, ltb-true, ltb-false}
 use Rattle.words.specs.Choice.{if_then_else_}
-use Rattle.directory.specs.Table.{sameKind}
 use Rattle.directory.specs.declared.table.TableKind.{TableKind}
-use Rattle.directory.specs.declared.table.TableKind.the-variants.{Index, Value, RefCount}
 use Rattle.effect.specs.Effect.{Written}
 use Rattle.keys.specs.Keys.{rank}
-use Rattle.overlay.specs.Rules.{Overlay}
-use Rattle.overlay.specs.Overlay.{removedFrom}
-use Rattle.overlay.specs.Entries.{Entry, entriesOf, findEntry}
+use Rattle.overlay.specs.Entries.{Entry}
 use Rattle.overlay.proofs.Entries.{unless}
-use Rattle.overlay.proofs.Removals.{findEntry-after-remove}
 use Rattle.memory.specs.declared.span.Holder.the-variants as holder
-use Rattle.memory.specs.Parts.{Parts, spanOf, ofKind, partsKept, removeFrom}
-use Rattle.memory.proofs.Spans.{all-shows, remove-of}
-use Rattle.clearing.specs.Clear.{namedBy, clearedKey, clearedBy}
+use Rattle.memory.specs.Parts.{Parts, entryUnder, partsKept}
+use Rattle.memory.proofs.Under.{under-remove}
+use Rattle.clearing.specs.Clear.{namedBy, clearedKey, clearedBy, hits, names}
 use Rattle.clearing.specs.EndRead.{nextAfter}
 use Rattle.clearing.specs.declared.clear.NamedKey.{NamedKey}
 use Rattle.clearing.specs.declared.clear.NamedKey.the-variants.{Key, Nothing}
 use Rattle.clearing.proofs.Cleared.{key-kept}
 
--- whether an action, or a record's actions, name a key of a kind
-abbrev pub hits : TableKind → ℕ → NamedKey → Bool
-hits kind k Nothing = false
-hits kind k (Key own table index) = sameKind own kind && eqb (rank table index) k
-
-abbrev pub names : TableKind → ℕ → List Written → Bool
-names kind k [] = false
-names kind k (w ∷ ws) = hits kind k (namedBy (w .action)) || names kind k ws
-
 module _ (kind : TableKind) (id k : ℕ) where
-  abbrev found : Parts → Option Entry
-  found p = findEntry k (entriesOf kind (ofKind kind p))
-
   -- what goes once is gone
   once : (e : Option Entry) → unless id (unless id e) ≡ unless id e
   once none = refl
@@ -49,27 +32,19 @@ module _ (kind : TableKind) (id k : ℕ) where
       by true q = refl
       by false q = rw q
 
-  key-found : (n : NamedKey) (p : Parts) → partsKept holder.Shared p ≡ true → found (clearedKey id n p) ≡ (if hits kind k n then unless id (found p) else found p)
+  key-found : (n : NamedKey) (p : Parts) → partsKept holder.Shared p ≡ true → entryUnder kind k (clearedKey id n p) ≡ (if hits kind k n then unless id (entryUnder kind k p) else entryUnder kind k p)
   key-found Nothing p ok = refl
-  key-found (Key own table index) p ok = ap (λ (o : Overlay). findEntry k (entriesOf kind o)) (remove-of own kind p (rank table index) id) ∙ by (sameKind own kind)
-    where
-      at : (b : Bool) → eqb (rank table index) k ≡ b → (if b then unless id (findEntry (rank table index) (entriesOf kind (ofKind kind p))) else found p) ≡ (if b then unless id (found p) else found p)
-      at true e = ap (λ (x : ℕ). unless id (findEntry x (entriesOf kind (ofKind kind p)))) (eqb-true (rank table index) k e)
-      at false e = refl
-
-      by : (b : Bool) → findEntry k (entriesOf kind (if b then removedFrom kind (ofKind kind p) (rank table index) id else ofKind kind p)) ≡ (if b && eqb (rank table index) k then unless id (found p) else found p)
-      by true =
-          findEntry-after-remove kind (spanOf holder.Shared kind .room) (ofKind kind p) (all-shows holder.Shared p ok .each kind) (rank table index) id k ∙ at (eqb (rank table index) k) refl
-      by false = refl
+  key-found (Key own table index) p ok = under-remove holder.Shared p ok own kind k (rank table index) id
 
   -- what a lookup finds after a record was cleared
-  pub found-after : (ws : List Written) (p : Parts) → partsKept holder.Shared p ≡ true → found (clearedBy id ws p) ≡ (if names kind k ws then unless id (found p) else found p)
+  pub found-after : (ws : List Written) (p : Parts) → partsKept holder.Shared p ≡ true
+      → entryUnder kind k (clearedBy id ws p) ≡ (if names kind k ws then unless id (entryUnder kind k p) else entryUnder kind k p)
   unfolding clearedBy
   found-after [] p ok = refl
   found-after (w ∷ ws) p ok =
       found-after ws (clearedKey id (namedBy (w .action)) p) (key-kept id (namedBy (w .action)) p ok)
       ∙ ap (λ (e : Option Entry). if names kind k ws then unless id e else e) (key-found (namedBy (w .action)) p ok)
-      ∙ by (hits kind k (namedBy (w .action))) (names kind k ws) (found p)
+      ∙ by (hits kind k (namedBy (w .action))) (names kind k ws) (entryUnder kind k p)
     where
       by : (a b : Bool) (e : Option Entry) → (if b then unless id (if a then unless id e else e) else if a then unless id e else e) ≡ (if a || b then unless id e else e)
       by true true e = once e
@@ -78,19 +53,19 @@ module _ (kind : TableKind) (id k : ℕ) where
 
   module _ (ws : List Written) (p : Parts) (ok : partsKept holder.Shared p ≡ true) where
     -- "An entry goes only if its stored id equals the record's"
-    pub own-cleared : (e : Entry) → names kind k ws ≡ true → found p ≡ some e → e .id ≡ id → found (clearedBy id ws p) ≡ none
+    pub own-cleared : (e : Entry) → names kind k ws ≡ true → entryUnder kind k p ≡ some e → e .id ≡ id → entryUnder kind k (clearedBy id ws p) ≡ none
     own-cleared e n f i = found-after ws p ok ∙ rw (n, f, eq-eqb (e .id) id i)
 
     -- "a newer one stays"
-    pub newer-left : (e : Entry) → found p ≡ some e → (e .id ≡ id → ⊥) → found (clearedBy id ws p) ≡ some e
+    pub newer-left : (e : Entry) → entryUnder kind k p ≡ some e → (e .id ≡ id → ⊥) → entryUnder kind k (clearedBy id ws p) ≡ some e
     newer-left e f i = found-after ws p ok ∙ by (names kind k ws)
       where
-        by : (b : Bool) → (if b then unless id (found p) else found p) ≡ some e
+        by : (b : Bool) → (if b then unless id (entryUnder kind k p) else entryUnder kind k p) ≡ some e
         by true = rw (f, ne-eqb (e .id) id i)
         by false = f
 
     -- and so does what stands under a key that the record doesn't name
-    pub others-left : names kind k ws ≡ false → found (clearedBy id ws p) ≡ found p
+    pub others-left : names kind k ws ≡ false → entryUnder kind k (clearedBy id ws p) ≡ entryUnder kind k p
     others-left n = found-after ws p ok ∙ rw n
 
 -- the next id is then above the record's, and no smaller than it was: no id is handed out twice

@@ -2,21 +2,20 @@
 use mathlib.Core.Path.{_≡_, refl, sym, ap, _∙_}
 use mathlib.Core.Bool.{Bool, true, false, true≢false, not, _||_}
 use mathlib.Core.List.{List, [], _∷_}
-use Prim.Native.Nat.{ℕ, _+_, _-_, _≤_, _<_}
+use Prim.Native.Nat.{ℕ, _+_, _-_}
 use native.Mathlib.Omega.{arith}
 use lib.Dec.{eqb, ltb}
 use lib.ListN.{length, getD, take, drop}
 use borrow.Author.Tests.{ltb-true, ltb-false}
 use Rattle.words.specs.Choice.{if_then_else_}
 use Rattle.words.specs.Words.{little, littleAt}
-use Rattle.words.proofs.Choices.{if-true, if-false}
 use Rattle.checksum.specs.Checksum.{checksumOf}
-use Rattle.answer.specs.declared.answer.Answer.{Answer}
-use Rattle.answer.specs.declared.answer.Answer.the-variants.{OutOfPlace, WrongSum}
+use Rattle.answer.specs.declared.answer.Answer.the-variants.{UnknownTag, OutOfPlace, WrongSum}
 use Rattle.directory.specs.declared.directory.Directory.{Directory}
-use Rattle.record.specs.Format.{Format, need, refuse, give, Got, stopped, got, readAt, _>>_, test}
+use Rattle.record.specs.Format.{Format, need, refuse, give, stopped, got, readAt, _>>_, test}
 use Rattle.record.specs.Record.{begunId, early, earlyEnd, openingBy, opening}
 use Rattle.record.specs.Next.{forwardTo, beginning, opened, readerAt, stepOf}
+use Rattle.record.specs.declared.reader.LogReader.{LogReader}
 use Rattle.record.specs.declared.reader.Stepped.{Stepped}
 use Rattle.record.specs.declared.reader.Step.the-variants.{Took}
 use Rattle.record.proofs.Parts.{begun-short, begun-met, opening-short, opening-met}
@@ -24,7 +23,7 @@ use Rattle.record.proofs.Steps.{Read, within-record, at-opening, taken}
 use Rattle.clearing.specs.EndRead.{idThere}
 
 -- a format that comes to nothing but refusals
-Silent : Format ℕ → Type 0
+abbrev Silent : Format ℕ → Type 0
 Silent (need k short f) = (bs : List ℕ) → Silent (f bs)
 Silent (refuse answer) = Unit {0}
 Silent (give a) = ⊥
@@ -39,9 +38,9 @@ silent-gives (need k short f) s at log a end e = by (ltb (length log - at) k) e 
 silent-gives (refuse answer) s at log a end e = let z : _≡_ {A = ℕ} 0 1 = cc in omega arith
 silent-gives (give b) s at log a end e = s
 
-silent-if : (b : Bool) {f g : Format ℕ} → Silent f → Silent g → Silent (if b then f else g)
-silent-if true s t = s
-silent-if false s t = t
+silent-if : (b : Bool) (f g : Format ℕ) → Silent f → Silent g → Silent (if b then f else g)
+silent-if true f g s t = s
+silent-if false f g s t = t
 
 early-silent : (k : ℕ) → Silent (early k)
 unfolding early
@@ -69,11 +68,11 @@ module _ (log : List ℕ) where
     where
       rest : Format ℕ
       rest =
-          if eqb tag 2 then early 10 else if eqb tag 3 then early 10 else if eqb tag 4 then earlyEnd validate else if eqb tag 5 then early 2 else if eqb tag 6 then early 10 else if eqb tag 7 then early 2 else refuse Rattle.answer.specs.declared.answer.Answer.the-variants.UnknownTag
+          if eqb tag 2 then early 10 else if eqb tag 3 then early 10 else if eqb tag 4 then earlyEnd validate else if eqb tag 5 then early 2 else if eqb tag 6 then early 10 else if eqb tag 7 then early 2 else refuse UnknownTag
 
       silent : Silent rest
       silent =
-          silent-if (eqb tag 2) (early-silent 10) (silent-if (eqb tag 3) (early-silent 10) (silent-if (eqb tag 4) (end-silent validate) (silent-if (eqb tag 5) (early-silent 2) (silent-if (eqb tag 6) (early-silent 10) (silent-if (eqb tag 7) (early-silent 2) tt)))))
+          silent-if (eqb tag 2) _ _ (early-silent 10) (silent-if (eqb tag 3) _ _ (early-silent 10) (silent-if (eqb tag 4) _ _ (end-silent validate) (silent-if (eqb tag 5) _ _ (early-silent 2) (silent-if (eqb tag 6) _ _ (early-silent 10) (silent-if (eqb tag 7) (early 2) (refuse UnknownTag) (early-silent 2) tt)))))
 
       by : (b : Bool) → readAt (if b then begunId else rest) p log ≡ got id end → id ≡ littleAt 8 log p
       by true q = begun-id p id end q
@@ -87,13 +86,13 @@ module _ (log : List ℕ) where
       by false h = by-id validate (getD log at 0) (at + 1) id end (sym (opening-met at log validate (getD log at 0) (ltb-false (length log - at) 1 h) refl) ∙ e)
 
 -- the id of a reader behind an opening
+reader-id : (log : List ℕ) (r : LogReader) (s : Stepped) (id end : ℕ) → Took s ≡ opened log r (got id end) → s .reader .record_id ≡ id
+unfolding forwardTo
+reader-id log r s id end f = let p : s .reader ≡ forwardTo log (beginning r id) end = cc in ap (λ (x : LogReader). x .record_id) p
+
 pub id-there : (d : Directory) (log : List ℕ) (at : ℕ) (s : Stepped) → stepOf d log (readerAt at true) ≡ Took s → s .reader .record_id ≡ idThere log at
 id-there d log at s e = by (taken d log (readerAt at true) s e .read)
   where
     by : Read d log (readerAt at true) s → s .reader .record_id ≡ idThere log at
     by (within-record b i end q f) = absurd (true≢false (sym b))
-    by (at-opening b id end q f) = read id end f ∙ opening-id log true at id end q
-      where
-        read : (id end : ℕ) → Took s ≡ opened log (readerAt at true) (got id end) → s .reader .record_id ≡ id
-        unfolding forwardTo
-        read id end f = let p : s .reader ≡ forwardTo log (beginning (readerAt at true) id) end = cc in ap (λ (r : Rattle.record.specs.declared.reader.LogReader.LogReader). r .record_id) p
+    by (at-opening b id end q f) = reader-id log (readerAt at true) s id end f ∙ opening-id log true at id end q

@@ -4,6 +4,8 @@ use mathlib.Core.Bool.{true, false, false≢true}
 use mathlib.Core.List.{List}
 use Prim.Native.Nat.{ℕ}
 use Rattle.directory.specs.declared.directory.Directory.{Directory}
+use Rattle.directory.specs.declared.table.TableKind.{TableKind}
+use Rattle.keys.specs.Keys.{rank}
 use Rattle.record.specs.Next.{isEnd, stepOf}
 use Rattle.record.specs.declared.action.LogAction.{LogAction}
 use Rattle.record.specs.declared.reader.LogReader.{LogReader}
@@ -14,15 +16,20 @@ use Rattle.replay.specs.Inner.{isWalked}
 use Rattle.replay.specs.Replay.{Walked, fault, walked, writtenIn, addFirst, restIn}
 use Rattle.replay.proofs.Rest.{last, more}
 use Rattle.memory.specs.declared.span.Holder.the-variants as holder
-use Rattle.memory.specs.Parts.{Parts, partsKept}
+use Rattle.memory.specs.Parts.{Parts, partsKept, removeFrom}
 use Rattle.clearing.specs.Clear.{namedBy, clearedKey, clearedBy}
 use Rattle.clearing.specs.Inner.{clearedWalk}
 use Rattle.clearing.specs.declared.clear.NamedKey.{NamedKey}
+use Rattle.clearing.specs.declared.clear.NamedKey.the-variants.{Key, Nothing}
 use Rattle.clearing.proofs.Cleared.{key-kept}
 
--- an action's key, as it was found
-pub by-key : (id : ℕ) (action : LogAction) (p : Parts) {k n : NamedKey} → k ≡ namedBy action → k ≡ n → clearedKey id n p ≡ clearedKey id (namedBy action) p
-by-key id action p e f = ap (λ (x : NamedKey). clearedKey id x p) (sym f ∙ e)
+-- an action's key, as it was found: none, or one that is taken out
+module _ (id : ℕ) (action : LogAction) (p : Parts) {k : NamedKey} (e : k ≡ namedBy action) where
+  pub no-key : k ≡ Nothing → p ≡ clearedKey id (namedBy action) p
+  no-key f = ap (λ (x : NamedKey). clearedKey id x p) (sym f ∙ e)
+
+  pub one-key : (kind : TableKind) (table index : ℕ) → k ≡ Key kind table index → {q : Parts} → q ≡ removeFrom kind p (rank table index) id → q ≡ clearedKey id (namedBy action) p
+  one-key kind table index f d = d ∙ ap (λ (x : NamedKey). clearedKey id x p) (sym f ∙ e)
 
 module _ (id : ℕ) (d : Directory) (log : List ℕ) (r : LogReader) (s : Stepped) (p : Parts) (e : stepOf d log r ≡ Took s) where
   pub last-cleared : isEnd (s .action) ≡ true → p ≡ clearedWalk id (restIn d log r) p

@@ -1,7 +1,11 @@
 -- What a record takes out of the overlays (document 01: "Clearing reads an accepted record again in place of `Cleared`."; log.rs: `Cleared`,
 -- lines 204 to 209, filled at lines 276, 285 and 294, and `end_read`, lines 905 to 932).
+use mathlib.Core.Bool.{Bool, false, _&&_, _||_}
 use mathlib.Core.List.{List, [], _∷_}
 use Prim.Native.Nat.{ℕ}
+use lib.Dec.{eqb}
+use Rattle.directory.specs.Table.{sameKind}
+use Rattle.directory.specs.declared.table.TableKind.{TableKind}
 use Rattle.directory.specs.declared.table.TableKind.the-variants.{Index, Value, RefCount}
 use Rattle.record.specs.declared.action.LogAction.{LogAction}
 use Rattle.record.specs.declared.action.LogAction.the-variants.{BeginRecord, InsertIndex, InsertValue, InsertRefCount, EndRecord, DropTable, DropRefCountTable}
@@ -30,3 +34,12 @@ clearedKey id (Key kind table index) p = removeFrom kind p (rank table index) id
 unfoldable pub clearedBy : ℕ → List Written → Parts → Parts
 clearedBy id [] p = p
 clearedBy id (w ∷ ws) p = clearedBy id ws (clearedKey id (namedBy (w .action)) p)
+
+-- whether an action, or a record's actions, name a key of a kind
+abbrev pub hits : TableKind → ℕ → NamedKey → Bool
+hits kind key Nothing = false
+hits kind key (Key own table index) = sameKind own kind && eqb (rank table index) key
+
+abbrev pub names : TableKind → ℕ → List Written → Bool
+names kind key [] = false
+names kind key (w ∷ ws) = hits kind key (namedBy (w .action)) || names kind key ws

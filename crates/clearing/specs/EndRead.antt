@@ -59,9 +59,9 @@ pub record Ending : Type 0 where
   pub overlays : Overlays
 
 -- a refusal "clears nothing"; a record takes its entries along, and the last ids stay
-abbrev pub endedBy : ℕ → Overlays → ℕ → Walked Again → Ending
-endedBy at s next (fault x) = record { answer = x .answer; position = at; recordId = 0; nextRecordId = next; overlays = s }
-endedBy at s next (walked g end) = record {
+abbrev pub endReadBy : ℕ → Overlays → ℕ → Walked Again → Ending
+endReadBy at s next (fault x) = record { answer = x .answer; position = at; recordId = 0; nextRecordId = next; overlays = s }
+endReadBy at s next (walked g end) = record {
   answer = Done;
   position = end;
   recordId = g .id;
@@ -70,7 +70,7 @@ endedBy at s next (walked g end) = record {
 }
 
 abbrev pub endRead : Directory → List ℕ → ℕ → Overlays → ℕ → Ending
-endRead d log at s next = endedBy at s next (toClear d log at s next)
+endRead d log at s next = endReadBy at s next (toClear d log at s next)
 
 -- the same from what the call hands back and the two memories as it leaves them
 abbrev pub endReadOf : EndRead → List ℕ → List ℕ → Ending

@@ -1,11 +1,12 @@
 // The end of reading a record.
 ghost use mathlib.Core.Path.{_≡_};
 ghost use mathlib.Core.Bool.{true};
+ghost use Rattle.answer.specs.Answer.{lastRecordId};
 ghost use Rattle.directory.specs.Directory.{directoryKept};
 ghost use Rattle.memory.specs.declared.span.Holder.the-variants.{Shared};
 ghost use Rattle.memory.specs.Parts.{partsOf, partsKept};
 ghost use Rattle.memory.specs.Overlays.{overlaysOf};
-ghost use Rattle.clearing.specs.EndRead.{recordAgain, clearable, nextAfter, endedBy, endRead, endReadOf};
+ghost use Rattle.clearing.specs.EndRead.{recordAgain, clearable, nextAfter, endReadBy, endRead, endReadOf};
 ghost use Rattle.clearing.specs.Inner.{nothingRead};
 use super::clear::clear_rest;
 use answer::Answer;
@@ -36,7 +37,7 @@ fn nothing_read(answer: Answer, position: usize, overlays: LogOverlays, next: u6
 
 // No id of a record that was read is handed out again.
 fn raised(next: u64, id: u64) -> u64
-    requires { ⌜ (id ≡ 18446744073709551615 → ⊥) ⌝ }
+    requires { ⌜ (id ≡ lastRecordId → ⊥) ⌝ }
     ensures { λ r. ⌜ r ≡ nextAfter next id ⌝ }
 {
     if id < next { next } else { id + 1 }
@@ -54,10 +55,13 @@ pub fn end_read_kept(
 ) -> EndRead
     requires { ⌜ (directoryKept directory ≡ true) × (partsKept Shared (partsOf Shared (overlays .counts) (now words) (now bytes)) ≡ true) × (next ≡ 0 → ⊥) ⌝ }
     ensures { λ r. ⌜ endReadOf r (now (words .exit)) (now (bytes .exit))
-        ≡ endedBy position (overlaysOf overlays (now (words .entry)) (now (bytes .entry))) next (clearable (recordAgain directory (now (log .entry)) position)) ⌝ }
+        ≡ endReadBy position (overlaysOf overlays (now (words .entry)) (now (bytes .entry))) next (clearable (recordAgain directory (now (log .entry)) position)) ⌝ }
 {
     match replay::check_record_kept(directory, log, position) {
-        WholeAnswer::NotWhole(x) => nothing_read(x.answer, position, overlays, next),
+        WholeAnswer::NotWhole(x) => {
+            let a = x.answer;
+            nothing_read(a, position, overlays, next)
+        }
         WholeAnswer::Whole(w) => {
             let opened = w.opened;
             let id = opened.record_id;

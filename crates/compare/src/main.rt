@@ -1,13 +1,12 @@
 // Answers the run protocol on standard input and output, so that runs of the port can be compared with runs of the Rust.
 mod dispatch;
-mod session;
 
 ghost use Rattle.compare.specs.Bounds.{Running};
+use compare_console::Input;
+use compare_console::Output;
+use compare_console::TURNS;
+use compare_session::Session;
 use dispatch::dispatch;
-use lines::Input;
-use lines::Output;
-use lines::TURNS;
-use session::Session;
 
 pub struct Run {
     pub input: Input,

@@ -1,7 +1,5 @@
 -- The laws, for other crates to cite.
 pub mod Decided
-pub mod Ended
-pub mod LastIds
+pub mod Left
 pub mod Meaning
-pub mod Puts
-pub mod Rules
+pub mod Tests

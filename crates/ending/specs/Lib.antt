@@ -1,4 +1,3 @@
--- What the contracts cite.
+-- What the contracts cite: the end of a record, and what the inner functions are told.
 pub mod EndRecord
-pub mod Listed
-pub mod Ready
+pub mod Inner

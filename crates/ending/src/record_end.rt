@@ -1,21 +1,16 @@
 // The end of a record: log.rs lines 844 to 899.
 ghost use mathlib.Core.Path.{_≡_};
-ghost use mathlib.Core.Bool.{true, false};
-ghost use lib.ListN.{length};
-ghost use Rattle.change.specs.Listed.{stateKept};
-ghost use Rattle.overlay.specs.Shared.{sharedOf, sharedKept};
-ghost use Rattle.ending.specs.Listed.{sharedEnded, anyCrowded, overlaysEnded};
-ghost use Rattle.ending.specs.EndRecord.{refusedBy, sharedAfter, outputAfter, endedBy};
-use super::last_id::last_ids;
-use super::listed::put_listed;
-use super::refusal::ending;
+ghost use mathlib.Core.Bool.{true};
+ghost use Rattle.ending.specs.EndRecord.{handedOf, handedKept, endStateOf, endRecord};
+ghost use Rattle.ending.specs.Inner.{refusedBy};
+use super::refusal::file_for;
+use super::refusal::handed_kept;
 use answer::Answer;
 use change::LogChange;
 use directory::Directory;
-use directory::TableKind;
 use files::FileSource;
 use files::Queues;
-use overlay::LogOverlays;
+use memory::LogOverlays;
 
 pub struct Ended {
     pub answer: Answer,
@@ -39,109 +34,34 @@ fn refused(answer: Answer, overlays: LogOverlays, queues: Queues) -> Ended
     }
 }
 
-// The entries of the three kinds over the shared ones.
-fn put_all(
+// Behind 13: nothing is written or put before all was tested.
+pub fn end_record_kept<'a>(
     directory: Directory,
     list: LogChange,
-    local: &[u8],
+    list_words: &'a [u64],
+    list_bytes: &'a [u8],
     overlays: LogOverlays,
-    irows: &mut [u64],
-    iorder: &mut [u64],
-    ibytes: &mut [u8],
-    vrows: &mut [u64],
-    vorder: &mut [u64],
-    vbytes: &mut [u8],
-    crows: &mut [u64],
-    corder: &mut [u64],
-    cbytes: &mut [u8],
-) -> LogOverlays
-    requires { ⌜ (stateKept directory list (length (now local)) ≡ true)
-        × (sharedKept (sharedOf overlays (now irows) (now iorder) (now ibytes) (now vrows) (now vorder) (now vbytes) (now crows) (now corder) (now cbytes)) ≡ true)
-        × (anyCrowded list (sharedOf overlays (now irows) (now iorder) (now ibytes) (now vrows) (now vorder) (now vbytes) (now crows) (now corder) (now cbytes)) ≡ false) ⌝ }
-    ensures { λ r. ⌜ (r ≡ overlaysEnded directory list overlays (sharedEnded list (now (local .entry)) (sharedOf overlays (now (irows .entry)) (now (iorder .entry)) (now (ibytes .entry)) (now (vrows .entry)) (now (vorder .entry)) (now (vbytes .entry)) (now (crows .entry)) (now (corder .entry)) (now (cbytes .entry)))))
-        × (sharedOf r (now (irows .exit)) (now (iorder .exit)) (now (ibytes .exit)) (now (vrows .exit)) (now (vorder .exit)) (now (vbytes .exit)) (now (crows .exit)) (now (corder .exit)) (now (cbytes .exit))
-        ≡ sharedEnded list (now (local .entry)) (sharedOf overlays (now (irows .entry)) (now (iorder .entry)) (now (ibytes .entry)) (now (vrows .entry)) (now (vorder .entry)) (now (vbytes .entry)) (now (crows .entry)) (now (corder .entry)) (now (cbytes .entry)))) ⌝ }
-{
-    let id = list.record_id;
-    let index = list.local_index;
-    let values = list.local_values;
-    let counts = list.local_ref_count;
-    let mut o = last_ids(directory, overlays, id, values);
-    o.index = put_listed(
-        TableKind::Index,
-        irows,
-        iorder,
-        ibytes,
-        overlays.index,
-        id,
-        index,
-        local,
-    );
-    o.value = put_listed(
-        TableKind::Value,
-        vrows,
-        vorder,
-        vbytes,
-        overlays.value,
-        id,
-        values,
-        local,
-    );
-    o.ref_count = put_listed(
-        TableKind::RefCount,
-        crows,
-        corder,
-        cbytes,
-        overlays.ref_count,
-        id,
-        counts,
-        local,
-    );
-    o
-}
-
-// Writes the record at the output's front and puts its entries over the shared ones; `next` is the next id. A refusal changes nothing.
-pub fn end_record(
-    directory: Directory,
-    list: LogChange,
-    local: &[u8],
-    overlays: LogOverlays,
-    irows: &mut [u64],
-    iorder: &mut [u64],
-    ibytes: &mut [u8],
-    vrows: &mut [u64],
-    vorder: &mut [u64],
-    vbytes: &mut [u8],
-    crows: &mut [u64],
-    corder: &mut [u64],
-    cbytes: &mut [u8],
+    words: &mut [u64],
+    bytes: &mut [u8],
     queues: Queues,
     next: u64,
     out: &mut [u8],
 ) -> Ended
-    ensures { λ r. ⌜ (let s = sharedOf overlays (now (irows .entry)) (now (iorder .entry)) (now (ibytes .entry)) (now (vrows .entry)) (now (vorder .entry)) (now (vbytes .entry)) (now (crows .entry)) (now (corder .entry)) (now (cbytes .entry)) in
-        let e = Rattle.ending.specs.EndRecord.ending directory list (length (now (local .entry))) s queues next (length (now (out .entry))) in
-        (r ≡ endedBy directory list (now (local .entry)) overlays s queues e)
-        × (sharedOf (r .overlays) (now (irows .exit)) (now (iorder .exit)) (now (ibytes .exit)) (now (vrows .exit)) (now (vorder .exit)) (now (vbytes .exit)) (now (crows .exit)) (now (corder .exit)) (now (cbytes .exit)) ≡ sharedAfter list (now (local .entry)) s e)
-        × (now (out .exit) ≡ outputAfter list (now (local .entry)) (now (out .entry)) e)) ⌝ }
+    requires { ⌜ handedKept directory (handedOf list (now «list_words») (now «list_bytes») overlays (now words) (now bytes) queues next (now out)) ≡ true ⌝ }
+    ensures { λ r. ⌜ endStateOf r (now (words .exit)) (now (bytes .exit)) (now (out .exit))
+        ≡ endRecord directory (handedOf list (now («list_words» .entry)) (now («list_bytes» .entry)) overlays (now (words .entry)) (now (bytes .entry)) queues next (now (out .entry))) ⌝ }
 {
-    let t = ending(
+    let t = file_for(
         directory,
         list,
-        local,
+        list_words,
+        list_bytes,
         overlays,
-        irows,
-        iorder,
-        ibytes,
-        vrows,
-        vorder,
-        vbytes,
-        crows,
-        corder,
-        cbytes,
+        words,
+        bytes,
         queues,
         next,
-        out.len(),
+        out,
     );
     let answer = t.answer;
     let source = t.source;
@@ -149,21 +69,17 @@ pub fn end_record(
     if answer.number() != 0 {
         return refused(answer, overlays, queues);
     }
-    let length = writer::flush_to_file(list, directory, local, out).length;
-    let o = put_all(
+    let length = writer::flush_to_file_kept(list, list_words, list_bytes, out).length;
+    let counts = list.counts;
+    let o = putting::put_list(
         directory,
-        list,
-        local,
+        list.record_id,
+        counts,
+        list_words,
+        list_bytes,
         overlays,
-        irows,
-        iorder,
-        ibytes,
-        vrows,
-        vorder,
-        vbytes,
-        crows,
-        corder,
-        cbytes,
+        words,
+        bytes,
     );
     Ended {
         answer: Answer::Done,
@@ -173,4 +89,47 @@ pub fn end_record(
         overlays: o,
         queues: taken,
     }
+}
+
+// Writes the record at the output's front and puts its entries over the shared ones; `next` is the next id. A refusal changes nothing.
+pub fn end_record<'a>(
+    directory: Directory,
+    list: LogChange,
+    list_words: &'a [u64],
+    list_bytes: &'a [u8],
+    overlays: LogOverlays,
+    words: &mut [u64],
+    bytes: &mut [u8],
+    queues: Queues,
+    next: u64,
+    out: &mut [u8],
+) -> Ended
+    ensures { λ r. ⌜ endStateOf r (now (words .exit)) (now (bytes .exit)) (now (out .exit))
+        ≡ endRecord directory (handedOf list (now («list_words» .entry)) (now («list_bytes» .entry)) overlays (now (words .entry)) (now (bytes .entry)) queues next (now (out .entry))) ⌝ }
+{
+    if !handed_kept(
+        directory,
+        list,
+        list_words,
+        list_bytes,
+        overlays,
+        words,
+        bytes,
+        queues,
+        next,
+    ) {
+        return refused(Answer::BadState, overlays, queues);
+    }
+    end_record_kept(
+        directory,
+        list,
+        list_words,
+        list_bytes,
+        overlays,
+        words,
+        bytes,
+        queues,
+        next,
+        out,
+    )
 }

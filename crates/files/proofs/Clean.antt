@@ -6,7 +6,6 @@ use lib.ListN.{length}
 use lib.Dec.{ltb}
 use lib.Seq.{length-take-le}
 use Rattle.numbers.specs.Queue.{listOf, firstOf, withoutFirst, allSortedIn}
-use Rattle.numbers.specs.Numbers.{least}
 use Rattle.numbers.specs.declared.queue.NumberQueue.{NumberQueue}
 use Rattle.numbers.proofs.Laws.{least-le}
 use Rattle.numbers.proofs.QueueLists.{all-sorted-count}

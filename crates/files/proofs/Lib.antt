@@ -1,5 +1,6 @@
 -- The laws, for other crates to cite.
 pub mod Rule
+pub mod Made
 pub mod Gather
 pub mod Clean
 pub mod Kept
@@ -10,3 +11,4 @@ pub mod Cases
 pub mod ReadOf
 pub mod ReadKept
 pub mod OpenKept
+pub mod QueueOrder

@@ -3,7 +3,7 @@
 -- before it, those made (added) and those removed (taken away). Once at most: `KeepsRules`. Assumes nothing; `Sized` as there.
 use Prim.Native.Nat.{ℕ, _+_, _<_}
 use mathlib.Core.Bool.{Bool, true, false}
-use mathlib.Core.List.{List, [], _∷_, _++_}
+use mathlib.Core.List.{List, [], _∷_}
 use mathlib.Core.Path.{_≡_, refl, sym, ap, _∙_}
 use native.Mathlib.Omega.{arith}
 use lib.Dec.{eqb}
@@ -12,7 +12,7 @@ use Rattle.numbers.specs.Numbers.{times}
 use Rattle.numbers.specs.Queue.{listOf}
 use Rattle.numbers.proofs.Laws.{one-le}
 use Rattle.numbers.proofs.QueueLists.{push-if-list}
-use Rattle.files.specs.Queues.{poolOf, readingOf, sizeOf, filesOf, queuesKept}
+use Rattle.files.specs.Queues.{sizeOf, filesOf, queuesKept}
 use Rattle.files.specs.Moves.{withDirty, readingCleaned, replayCleaned}
 use Rattle.files.specs.Calls.{flushes, flushOneKept, flushOne, replayNextKept, replayNext, clearReplayLogs, cleanLogsKept, cleanLogs, killLogs, fileSetFull, filesUsedUp, goesOn, madeNew, fromPool, takenBy, takeFileKept, takeFile}
 use Rattle.files.specs.declared.queues.Queues.{Queues}

@@ -13,7 +13,7 @@ use Rattle.words.specs.Choice.{if_then_else_}
 use Rattle.numbers.specs.Numbers.{times, allBelow, distinct}
 use Rattle.numbers.specs.Queue.{listOf}
 use Rattle.answer.specs.Answer.{numberOf}
-use Rattle.record.specs.Next.{readerAt}
+use Rattle.record.specs.Next.{readerAt, openingOf}
 use Rattle.answer.specs.declared.answer.Answer.{Answer}
 use Rattle.answer.specs.declared.answer.Answer.the-variants.{Done, EndOfLog}
 use Rattle.record.specs.declared.reader.LogReader.{LogReader}
@@ -30,7 +30,8 @@ use Rattle.found.proofs.Answers.{logs-told, logs-all}
 use Rattle.files.specs.Queues.{replayOf, sizeOf, filesOf, queuesKept}
 use Rattle.files.specs.Moves.{firstIds, readingCleaned}
 use Rattle.files.specs.Open.{openedWith, openLogs}
-use Rattle.files.specs.Read.{hasFile, nowReading, notRead, openingAt, readBy, readNextKept, readNext}
+use Rattle.files.specs.Read.{nowReading, notRead, readBy, readNextKept, readNext}
+use Rattle.files.specs.Inner.{hasFile}
 use Rattle.files.specs.declared.queues.Queues.{Queues}
 use Rattle.files.specs.declared.read.ReadNext.{ReadNext}
 use Rattle.files.proofs.Rule.{Sized, Kept, kept-facts, kept-makes, behind-door}
@@ -117,11 +118,11 @@ module _ (q : Queues) (s : Sized q) (ok : queuesKept q ≡ true) where
     read-cases P f g = by (q .reading .some) refl (eqb (q .«read_queue» .count) 0) refl
       where
         by : (a : Bool) → q .reading .some ≡ a → (b : Bool) → eqb (q .«read_queue» .count) 0 ≡ b → P (readNextKept q log p w)
-        by true e b z = rw (next-reading q log p w e) (f (has-reading q e) (readerAt p w) (openingAt log (readerAt p w)))
+        by true e b z = rw (next-reading q log p w e) (f (has-reading q e) (readerAt p w) (openingOf log (readerAt p w)))
         by false e true z = rw (next-none q log p w e (eqb-true (q .«read_queue» .count) 0 z)) (g EndOfLog (readerAt p w))
         by false e false z =
             let d = eqb-false (q .«read_queue» .count) 0 z in
-            rw (next-front q log p w e d) (f (has-waiting q e d) (readerAt p w) (openingAt log (readerAt 0 w)))
+            rw (next-front q log p w e d) (f (has-waiting q e d) (readerAt p w) (openingOf log (readerAt 0 w)))
 
     pub read-next-kept-keeps : queuesKept (readNextKept q log p w .queues) ≡ true
     read-next-kept-keeps = read-cases (λ (x : ReadNext). queuesKept (x .queues) ≡ true) (λ h r step. by-keeps h r step) (λ a r. ok)

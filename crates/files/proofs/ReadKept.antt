@@ -6,7 +6,8 @@ use Rattle.words.specs.Choice.{if_then_else_}
 use Rattle.numbers.specs.Numbers.{times}
 use Rattle.files.specs.Queues.{filesOf}
 use Rattle.files.specs.Moves.{frontRead}
-use Rattle.files.specs.Read.{hasFile, nowReading}
+use Rattle.files.specs.Read.{nowReading}
+use Rattle.files.specs.Inner.{hasFile}
 use Rattle.files.specs.declared.queues.Queues.{Queues}
 use Rattle.files.proofs.Rule.{Sized, Kept}
 use Rattle.files.proofs.Kept.{front-times, front-kept, front-sized}

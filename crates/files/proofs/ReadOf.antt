@@ -9,14 +9,13 @@ use borrow.Author.Tests.{eqb-false, eq-eqb, ne-eqb}
 use Rattle.words.specs.Choice.{if_then_else_}
 use Rattle.words.proofs.Choices.{if-true, if-false}
 use Rattle.numbers.specs.Numbers.{oneIf}
-use Rattle.numbers.proofs.Laws.{one-true}
 use Rattle.answer.specs.Answer.{numberOf}
-use Rattle.record.specs.Next.{readerAt}
+use Rattle.record.specs.Next.{readerAt, openingOf}
 use Rattle.answer.specs.declared.answer.Answer.{Answer}
 use Rattle.answer.specs.declared.answer.Answer.the-variants.{EndOfLog}
-use Rattle.files.specs.Queues.{queuesKept}
 use Rattle.files.specs.Moves.{frontRead, readingCleaned}
-use Rattle.files.specs.Read.{openingAt, hasFile, nowReading, notRead, readBy, readNextKept}
+use Rattle.files.specs.Read.{nowReading, notRead, readBy, readNextKept}
+use Rattle.files.specs.Inner.{hasFile}
 use Rattle.files.specs.declared.queues.Queues.{Queues}
 use Rattle.files.proofs.Rule.{Room}
 
@@ -62,7 +61,7 @@ module _ (q : Queues) where
   not-at-end a n e d = sym (if-false (eqb (numberOf a) 1) (readingCleaned (nowReading q)) q (ne-eqb (numberOf a) 1 (λ z. d (e ∙ z))))
 
   module _ (log : List ℕ) (p : ℕ) (v : Bool) where
-    pub next-reading : q .reading .some ≡ true → readNextKept q log p v ≡ readBy q (readerAt p v) (openingAt log (readerAt p v))
+    pub next-reading : q .reading .some ≡ true → readNextKept q log p v ≡ readBy q (readerAt p v) (openingOf log (readerAt p v))
     unfolding readNextKept
     next-reading e = if-true (q .reading .some) _ _ e
 
@@ -71,6 +70,6 @@ module _ (q : Queues) where
       unfolding readNextKept
       next-none e = if-false (q .reading .some) _ _ n ∙ if-true (eqb (q .«read_queue» .count) 0) _ _ (eq-eqb (q .«read_queue» .count) 0 e)
 
-      pub next-front : (q .«read_queue» .count ≡ 0 → ⊥) → readNextKept q log p v ≡ readBy q (readerAt p v) (openingAt log (readerAt 0 v))
+      pub next-front : (q .«read_queue» .count ≡ 0 → ⊥) → readNextKept q log p v ≡ readBy q (readerAt p v) (openingOf log (readerAt 0 v))
       unfolding readNextKept
       next-front d = if-false (q .reading .some) _ _ n ∙ if-false (eqb (q .«read_queue» .count) 0) _ _ (ne-eqb (q .«read_queue» .count) 0 d)

@@ -1,26 +1,20 @@
 -- The rules of the queues as facts, and how they are put together again. Assumes nothing.
 use Prim.Native.Nat.{ℕ, _+_, _-_, _≤_, _<_}
-use mathlib.Core.Bool.{Bool, true, false, _&&_, _||_}
+use mathlib.Core.Bool.{Bool, true, false, _||_}
 use mathlib.Core.List.{List, _++_}
 use mathlib.Core.Path.{_≡_, refl, sym, ap, _∙_}
 use native.Mathlib.Omega.{arith}
 use lib.ListN.{length}
-use lib.Dec.{leb, eqb}
+use lib.Dec.{leb}
 use borrow.Author.Tests.{ltb-true, lt-ltb, le-leb, leb-true, leb-false, lt-leb, eq-eqb}
 use Rattle.words.specs.Choice.{if_then_else_}
 use Rattle.numbers.specs.Numbers.{times, allBelow, distinct, ascends, oneIf}
 use Rattle.numbers.proofs.Laws.{both, left-of, right-of, one-true}
 use Rattle.numbers.proofs.Sort.{times-append, less-distinct, less-under}
 use Rattle.files.specs.Queues.{poolOf, cleanupOf, readQueueOf, replayOf, appendingOf, readingOf, sizeOf, filesOf, fileCount, roomKept, queuesKept}
-use Rattle.numbers.specs.Queue.{frontOf, withoutFirst}
-use Rattle.numbers.specs.declared.queue.NumberQueue.{NumberQueue}
 use Rattle.numbers.proofs.QueueLists.{push-if-count}
-use Rattle.answer.specs.declared.answer.Answer.the-variants.{Done}
-use Rattle.files.specs.Moves.{readingFile, withReading, withPool, withReplay, readingCleaned, firstIds, frontReplayed}
-use Rattle.files.specs.Calls.{needsNew, lacksNumber, filesUsedUp, grown, fromPool, tookFrom}
-use Rattle.files.specs.declared.queues.Reading.{Reading}
-use Rattle.files.specs.declared.reading.ReplayNext.{ReplayNext}
-use Rattle.files.specs.declared.writing.FileSource.the-variants.{Pool}
+use Rattle.files.specs.Moves.{readingCleaned}
+use Rattle.files.specs.Calls.{needsNew, lacksNumber, filesUsedUp}
 use Rattle.files.specs.declared.queues.Queues.{Queues}
 
 -- an array of the code has its length; a list of the definitions may have any
@@ -159,20 +153,6 @@ cleaned-replay q = refl
 pub cleaned-cleanup : (q : Queues) → readingCleaned q .«cleanup_queue» .count ≡ q .«cleanup_queue» .count + oneIf (q .reading .some)
 unfolding readingCleaned
 cleaned-cleanup q = push-if-count (q .«cleanup_queue») (q .reading .some) (q .reading .id)
-
--- answers made of what the calls before them gave
-pub replayed-as : (q q′ : Queues) (n : ℕ) → n ≡ frontOf (q .«replay_queue») → q′ ≡ frontReplayed (readingCleaned q)
-    → _≡_ {A = ReplayNext} (record { answer = Done; found = true; number = n; queues = q′ }) (record { answer = Done; found = true; number = frontOf (q .«replay_queue»); queues = frontReplayed (readingCleaned q) })
-replayed-as q q′ n e f = rw (e, f)
-
-pub taken-as : (q : Queues) (length id size : ℕ) (l : NumberQueue) (q′ : Queues) → size ≡ sizeOf q → id ≡ frontOf (q .«log_pool») → l ≡ withoutFirst 1 (q .«log_pool»)
-    → q′ ≡ grown (withPool q l) id (size + length) → tookFrom Pool id q′ ≡ tookFrom Pool (frontOf (q .«log_pool»)) (fromPool q (sizeOf q + length))
-taken-as q length id size l q′ e f g h = rw (h, e, f, g)
-
-pub front-as : (q : Queues) (l i : NumberQueue) (n : ℕ) (r : Reading) → l ≡ withoutFirst 1 (q .«replay_queue») → i ≡ withoutFirst 1 (firstIds q)
-    → n ≡ frontOf (q .«replay_queue») → r ≡ readingFile n → withReading (withReplay q l (i .numbers)) r ≡ frontReplayed q
-unfolding frontReplayed
-front-as q l i n r e f g h = rw (h, e, f, g)
 
 -- ---- the two doors of a call: what holds of the answer behind the test, and of the refusal, holds of the call
 module _ {A : Type 0} (P : A → Type 0) {x : A} where

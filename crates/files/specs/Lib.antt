@@ -4,3 +4,4 @@ pub mod Moves
 pub mod Calls
 pub mod Open
 pub mod Read
+pub mod Inner

@@ -1,14 +1,14 @@
 // The next record of the files that are read.
 ghost use mathlib.Core.Path.{_≡_};
-ghost use mathlib.Core.Bool.{true, false};
+ghost use mathlib.Core.Bool.{true};
 ghost use Prim.Native.Nat.{_≤_};
 ghost use Rattle.files.specs.Queues.{queuesKept};
 ghost use Rattle.files.specs.Moves.{frontRead};
-ghost use Rattle.files.specs.Read.{openingAt, hasFile, nowReading, notRead, readBy, readNextKept, readNext};
+ghost use Rattle.files.specs.Read.{nowReading, notRead, readBy, readNextKept, readNext};
+ghost use Rattle.files.specs.Inner.{hasFile};
 use super::queues::Queues;
 use super::queues::Reading;
 use answer::Answer;
-use directory::Directory;
 use record::LogReader;
 use record::Step;
 
@@ -18,14 +18,6 @@ pub struct ReadNext {
     pub number: u64,
     pub reader: LogReader,
     pub queues: Queues,
-}
-
-// An opening looks at no table.
-fn opening_at(log: &[u8], reader: LogReader) -> Step
-    requires { ⌜ reader .inside ≡ false ⌝ }
-    ensures { λ r. ⌜ r ≡ openingAt (now (log .entry)) reader ⌝ }
-{
-    reader.step(Directory::new(), log)
 }
 
 impl Queues {
@@ -92,13 +84,13 @@ impl Queues {
     {
         let reader = LogReader::new(position, validate);
         if self.reading.some {
-            let step = opening_at(log, reader);
+            let step = reader.open(log);
             return self.read(step, reader);
         }
         if self.read_queue.count == 0 {
             return self.not_read(Answer::EndOfLog, reader);
         }
-        let step = opening_at(log, LogReader::new(0, validate));
+        let step = LogReader::new(0, validate).open(log);
         self.read(step, reader)
     }
 

@@ -10,7 +10,7 @@ use lib.Dec.{ltb}
 use borrow.Author.Tests.{lt-ltb, le-ltb, ltb-false}
 use Rattle.numbers.specs.Numbers.{has, allBelow, distinct, over}
 use Rattle.answer.specs.declared.answer.Answer.{Answer}
-use Rattle.answer.specs.declared.answer.Answer.the-variants.{Done, NoRoom, UsedUp, BadState}
+use Rattle.answer.specs.declared.answer.Answer.the-variants.{Done, NoRoom, ShortOutput, UsedUp, BadState}
 use Rattle.found.specs.Names.{saidBy}
 use Rattle.found.specs.Logs.{LogFile, fileNumber, takenNumbers, removed, inOrder, belong, foundKept, answered, toReplay, logFiles}
 use Rattle.found.specs.Inner.{filesIn, Gathered}
@@ -28,11 +28,11 @@ pub told-all : (d d′ l : List ℕ) (k : ℕ) (fs : List LogFile) (f : LogFiles
 told-all d d′ l k fs f e g = e ∙ ap (λ (x : LogFiles). over d l (x .«remove_count»)) (sym g)
 
 module _ (n m l h : List ℕ) (r : ℕ) where
-  pub logs-apart : belong n m l h r ≡ false → logFiles n m l h r ≡ answered BadState 0 []
+  pub logs-apart : belong n m l h ≡ false → logFiles n m l h r ≡ answered BadState 0 []
   unfolding logFiles foundKept
   logs-apart e = rw e
 
-  module _ (b : belong n m l h r ≡ true) where
+  module _ (b : belong n m l h ≡ true) where
     pub logs-twice : distinct (takenNumbers (saidBy n m)) ≡ false → logFiles n m l h r ≡ answered BadState 0 []
     unfolding logFiles foundKept
     logs-twice o = rw (b, o)
@@ -54,9 +54,13 @@ module _ (n m l h : List ℕ) (r : ℕ) where
         logs-used u = rw (b, o, le-ltb 64 _ fits, same ∙ u)
 
         module _ (u : has 4294967295 (take (s .count) (s .numbers)) ≡ false) where
-          pub logs-done : logFiles n m l h r ≡ answered Done (length (removed (saidBy n m) l)) (filesIn s)
+          pub logs-short : r < length (removed (saidBy n m) l) → logFiles n m l h r ≡ answered ShortOutput 0 []
           unfolding logFiles foundKept toReplay
-          logs-done = rw (b, o, le-ltb 64 _ fits, same ∙ u) (ap (answered Done (length (removed (saidBy n m) l))) (sym (g .held fits)))
+          logs-short f = rw (b, o, le-ltb 64 _ fits, same ∙ u, lt-ltb r _ f)
+
+          pub logs-done : length (removed (saidBy n m) l) ≤ r → logFiles n m l h r ≡ answered Done (length (removed (saidBy n m) l)) (filesIn s)
+          unfolding logFiles foundKept toReplay
+          logs-done f = rw (b, o, le-ltb 64 _ fits, same ∙ u, le-ltb r _ f) (ap (answered Done (length (removed (saidBy n m) l))) (sym (g .held fits)))
 
           pub logs-below : allBelow 4294967295 (take (s .count) (s .numbers)) ≡ true
           logs-below =
@@ -80,32 +84,34 @@ none a f e = record { answer = a; toRemove = 0; files = []; told = e; few = omeg
 module _ (n m l h : List ℕ) (r : ℕ) where
   pub logs-told : Told (logFiles n m l h r)
   unfolding logFiles toReplay
-  logs-told = by (foundKept n m l h r) refl (ltb 64 (length (inOrder (saidBy n m) l h))) refl (has 4294967295 (map fileNumber (inOrder (saidBy n m) l h))) refl
+  logs-told = by (foundKept n m l h) refl (ltb 64 (length (inOrder (saidBy n m) l h))) refl (has 4294967295 (map fileNumber (inOrder (saidBy n m) l h))) refl (ltb r (length (removed (saidBy n m) l))) refl
     where
-      by : (a : Bool) → foundKept n m l h r ≡ a → (b : Bool) → ltb 64 (length (inOrder (saidBy n m) l h)) ≡ b
-          → (c : Bool) → has 4294967295 (map fileNumber (inOrder (saidBy n m) l h)) ≡ c → Told (logFiles n m l h r)
-      by false e b f c g = none BadState _ (rw e)
-      by true e true f c g = none NoRoom _ (rw (e, f))
-      by true e false f true g = none UsedUp _ (rw (e, f, g))
-      by true e false f false g = record {
+      by : (a : Bool) → foundKept n m l h ≡ a → (b : Bool) → ltb 64 (length (inOrder (saidBy n m) l h)) ≡ b
+          → (c : Bool) → has 4294967295 (map fileNumber (inOrder (saidBy n m) l h)) ≡ c → (d : Bool) → ltb r (length (removed (saidBy n m) l)) ≡ d → Told (logFiles n m l h r)
+      by false e b f c g d k = none BadState _ (rw e)
+      by true e true f c g d k = none NoRoom _ (rw (e, f))
+      by true e false f true g d k = none UsedUp _ (rw (e, f, g))
+      by true e false f false g true k = none ShortOutput _ (rw (e, f, g, k))
+      by true e false f false g false k = record {
         answer = Done;
         toRemove = length (removed (saidBy n m) l);
         files = inOrder (saidBy n m) l h;
-        told = rw (e, f, g);
+        told = rw (e, f, g, k);
         few = ltb-false 64 _ f;
-        once = order-once (saidBy n m) l h (found-once n m l h r e);
+        once = order-once (saidBy n m) l h (found-once n m l h e);
         ordered = in-order (saidBy n m) l h;
       }
 
   -- they are all told where nothing is refused
   pub logs-all : logFiles n m l h r .answer ≡ Done → logFiles n m l h r ≡ answered Done (length (removed (saidBy n m) l)) (inOrder (saidBy n m) l h)
   unfolding logFiles toReplay
-  logs-all = by (foundKept n m l h r) refl (ltb 64 (length (inOrder (saidBy n m) l h))) refl (has 4294967295 (map fileNumber (inOrder (saidBy n m) l h))) refl
+  logs-all = by (foundKept n m l h) refl (ltb 64 (length (inOrder (saidBy n m) l h))) refl (has 4294967295 (map fileNumber (inOrder (saidBy n m) l h))) refl (ltb r (length (removed (saidBy n m) l))) refl
     where
-      by : (a : Bool) → foundKept n m l h r ≡ a → (b : Bool) → ltb 64 (length (inOrder (saidBy n m) l h)) ≡ b
-          → (c : Bool) → has 4294967295 (map fileNumber (inOrder (saidBy n m) l h)) ≡ c → logFiles n m l h r .answer ≡ Done
+      by : (a : Bool) → foundKept n m l h ≡ a → (b : Bool) → ltb 64 (length (inOrder (saidBy n m) l h)) ≡ b
+          → (c : Bool) → has 4294967295 (map fileNumber (inOrder (saidBy n m) l h)) ≡ c → (d : Bool) → ltb r (length (removed (saidBy n m) l)) ≡ d → logFiles n m l h r .answer ≡ Done
           → logFiles n m l h r ≡ answered Done (length (removed (saidBy n m) l)) (inOrder (saidBy n m) l h)
-      by false e b f c g d = let z : BadState ≡ Done = rw e at d in let w : _≡_ {A = ℕ} 0 1 = cc in absurd (omega arith)
-      by true e true f c g d = let z : NoRoom ≡ Done = rw (e, f) at d in let w : _≡_ {A = ℕ} 0 1 = cc in absurd (omega arith)
-      by true e false f true g d = let z : UsedUp ≡ Done = rw (e, f, g) at d in let w : _≡_ {A = ℕ} 0 1 = cc in absurd (omega arith)
-      by true e false f false g d = rw (e, f, g)
+      by false e b f c g d k y = let z : BadState ≡ Done = rw e at y in let w : _≡_ {A = ℕ} 0 1 = cc in absurd (omega arith)
+      by true e true f c g d k y = let z : NoRoom ≡ Done = rw (e, f) at y in let w : _≡_ {A = ℕ} 0 1 = cc in absurd (omega arith)
+      by true e false f true g d k y = let z : UsedUp ≡ Done = rw (e, f, g) at y in let w : _≡_ {A = ℕ} 0 1 = cc in absurd (omega arith)
+      by true e false f false g true k y = let z : ShortOutput ≡ Done = rw (e, f, g, k) at y in let w : _≡_ {A = ℕ} 0 1 = cc in absurd (omega arith)
+      by true e false f false g false k y = rw (e, f, g, k)

@@ -1,6 +1,5 @@
 // The names of log files.
 ghost use mathlib.Core.Path.{_≡_};
-ghost use mathlib.Core.Bool.{true};
 ghost use Prim.Native.Nat.{_<_};
 ghost use lib.ListN.{length, drop};
 ghost use Rattle.found.specs.Names.{beginsLog, digitOf, decimalFrom, logName};

@@ -32,9 +32,8 @@ pub(crate) fn belong<'a>(
     name_lengths: &'a [usize],
     lengths: &'a [u64],
     heads: &'a [u8],
-    room: usize,
 ) -> bool
-    ensures { λ r. ⌜ r ≡ belong (now (names .entry)) (now («name_lengths» .entry)) (now (lengths .entry)) (now (heads .entry)) room ⌝ }
+    ensures { λ r. ⌜ r ≡ belong (now (names .entry)) (now («name_lengths» .entry)) (now (lengths .entry)) (now (heads .entry)) ⌝ }
 {
     let n = name_lengths.len();
     if !make_up(name_lengths, names.len()) {
@@ -46,10 +45,7 @@ pub(crate) fn belong<'a>(
     if heads.len() / 9 != n {
         return false;
     }
-    if heads.len() != 9 * n {
-        return false;
-    }
-    room == n
+    heads.len() == 9 * n
 }
 
 // What the name of n bytes at a place says.

@@ -1,58 +1,51 @@
 -- A RECORD ENDED AND THEN READ: what `end_record` writes is what `flush_to_file` writes and what replay accepts, and `end_read` of those bytes,
 -- with nothing between, leaves no key of the record in the overlays. Assumes nothing.
-use mathlib.Core.Path.{_≡_, refl, ap, _∙_}
+use mathlib.Core.Path.{_≡_, refl, sym, ap, _∙_}
 use mathlib.Core.Bool.{Bool, true, false, not, _||_}
 use mathlib.Core.List.{List, [], _∷_, _++_, map}
-use mathlib.Core.Option.{Option, none}
+use mathlib.Core.Option.{none}
 use Prim.Native.Nat.{ℕ, zero, suc, _+_, _≤_, _<_}
 use native.Mathlib.Nat.{zero-add, not-suc-le-zero, le-of-suc-le-suc}
 use native.Mathlib.Omega.{arith}
 use lib.Dec.{eqb}
 use lib.ListN.{length, getD, take, drop}
 use lib.Seq.{getD-take, length-take-le}
-use borrow.Author.Tests.{eq-eqb, ne-eqb, eqb-true}
+use borrow.Author.Tests.{eq-eqb, ne-eqb}
 use Rattle.words.specs.Choice.{if_then_else_}
 use Rattle.words.proofs.Choices.{if-true, if-false}
 use Rattle.directory.specs.Directory.{imageLength}
 use Rattle.directory.specs.declared.table.TableKind.{TableKind}
 use Rattle.directory.specs.declared.table.TableKind.the-variants.{Index, Value, RefCount}
 use Rattle.directory.specs.declared.directory.Directory.{Directory}
-use Rattle.answer.specs.Answer.{numberOf}
-use Rattle.record.specs.Format.{Got, got}
-use Rattle.answer.specs.declared.answer.Answer.the-variants.{Done, NoRoom, NotNext, BadState}
+use Rattle.answer.specs.Answer.{lastRecordId}
+use Rattle.answer.specs.declared.answer.Answer.the-variants.{Done}
 use Rattle.effect.specs.Effect.{Written}
-use Rattle.replay.specs.Replay.{judged, replayedAs}
-use Rattle.replay.specs.Run.{lastId}
+use Rattle.replay.specs.Replay.{Walked, walked, judged, replayedAs}
 use Rattle.keys.specs.Keys.{keyAt}
 use Rattle.keys.proofs.Places.{both}
-use Rattle.change.specs.Listed.{localOf, stateKept}
-use Rattle.change.specs.declared.overlay.LogOverlayLocal.{LogOverlayLocal}
-use Rattle.change.specs.declared.change.LogChange.{LogChange}
-use Rattle.change.proofs.Accepted.{state-directory, state-list, local-kept, local-room}
-use Rattle.change.proofs.Kept.{Shaped}
-use Rattle.change.proofs.Plans.{room-most}
 use Rattle.overlay.specs.Rules.{Overlay}
-use Rattle.overlay.specs.Entries.{Entry, entriesOf, lookup}
-use Rattle.overlay.specs.LastIds.{noOverlays}
-use Rattle.overlay.specs.Shared.{Shared, sharedKept}
-use Rattle.clearing.specs.Clear.{namedBy, clearedOf}
+use Rattle.memory.specs.Parts.{Parts, ofKind, partsKept, entryUnder}
+use Rattle.memory.specs.Overlays.{Overlays}
+use Rattle.memory.specs.declared.span.Holder.the-variants as holder
+use Rattle.change.specs.Change.{Change, changeKept}
+use Rattle.change.specs.Size.{recordSize}
+use Rattle.change.proofs.Rules.{kept-directory, kept-ruled, kept-parts}
+use Rattle.clearing.specs.Clear.{namedBy, hits, names}
 use Rattle.clearing.specs.EndRead as read
 use Rattle.clearing.proofs.Again.{record-is-again}
-use Rattle.clearing.proofs.Meaning.{hits, names, own-cleared}
+use Rattle.clearing.proofs.Meaning.{own-cleared}
 use Rattle.writer.specs.Bytes.{recordOf}
-use Rattle.writer.specs.Flush as flush
-use Rattle.writer.specs.Size.{recordSize}
+use Rattle.writer.specs.Flush.{flushToFile}
+use Rattle.writer.specs.Typed.{Typed}
 use Rattle.writer.proofs.Sizes.{length-record}
-use Rattle.written.specs.Actions.{insertAt, inserts, allInserts, allDrops, actions, Words}
+use Rattle.written.specs.Actions.{insertAt, inserts, allInserts, allDrops, listActions}
 use Rattle.written.proofs.Accepted.{accepted}
 use Rattle.written.proofs.Replayed.{output-is, replayed-done}
-use Rattle.files.specs.Calls.{notTaken, takeFile}
-use Rattle.files.specs.declared.queues.Queues.{Queues}
-use Rattle.files.specs.declared.writing.Taken.{Taken}
-use Rattle.ending.specs.Listed.{overlayEnded, sharedEnded, anyCrowded}
-use Rattle.ending.specs.EndRecord.{allKept, tested, isDone, byFile, ending, sharedAfter, outputAfter}
+use Rattle.putting.proofs.OneKind.{kind-kept}
+use Rattle.putting.proofs.Places.{order-holds}
+use Rattle.ending.specs.EndRecord.{Handed, EndState, endAnswer, isDone, endRecord}
 use Rattle.ending.proofs.Decided as decided
-use Rattle.ending.proofs.Meaning.{shared-stays, ended-kept, listed-found, as-flushed}
+use Rattle.ending.proofs.Meaning.{as-flushed, listed-found, shared-stays}
 
 -- ---- the actions of a list name its keys
 
@@ -74,160 +67,113 @@ module _ (kind : TableKind) (k : ℕ) where
   names-right (v ∷ vs) ws e = either (hits kind k (namedBy (v .action))) _ (names-right vs ws e)
 
 -- an insert names the key in its place
-hit : (kind : TableKind) (rows local : List ℕ) (p : ℕ) → hits kind (keyAt rows p) (namedBy (insertAt kind rows local p .action)) ≡ true
+hit : (kind : TableKind) (o : Overlay) (p : ℕ) → hits kind (keyAt (o .rows) p) (namedBy (insertAt kind o p .action)) ≡ true
 unfolding insertAt
-hit Index rows local p = eq-eqb (keyAt rows p) (keyAt rows p) refl
-hit Value rows local p = eq-eqb (keyAt rows p) (keyAt rows p) refl
-hit RefCount rows local p = eq-eqb (keyAt rows p) (keyAt rows p) refl
+hit Index o p = eq-eqb (keyAt (o .rows) p) (keyAt (o .rows) p) refl
+hit Value o p = eq-eqb (keyAt (o .rows) p) (keyAt (o .rows) p) refl
+hit RefCount o p = eq-eqb (keyAt (o .rows) p) (keyAt (o .rows) p) refl
 
-named-at : (kind : TableKind) (rows local ps : List ℕ) (j : ℕ) → j < length ps → names kind (keyAt rows (getD ps j 0)) (map (insertAt kind rows local) ps) ≡ true
-named-at kind rows local [] j h = absurd (not-suc-le-zero h)
-named-at kind rows local (p ∷ ps) zero h = rw (hit kind rows local p)
-named-at kind rows local (p ∷ ps) (suc j) h =
-    either (hits kind (keyAt rows (getD ps j 0)) (namedBy (insertAt kind rows local p .action))) _ (named-at kind rows local ps j (le-of-suc-le-suc h))
+named-at : (kind : TableKind) (o : Overlay) (ps : List ℕ) (j : ℕ) → j < length ps → names kind (keyAt (o .rows) (getD ps j 0)) (map (insertAt kind o) ps) ≡ true
+named-at kind o [] j h = absurd (not-suc-le-zero h)
+named-at kind o (p ∷ ps) zero h = rw (hit kind o p)
+named-at kind o (p ∷ ps) (suc j) h =
+    either (hits kind (keyAt (o .rows) (getD ps j 0)) (namedBy (insertAt kind o p .action))) _ (named-at kind o ps j (le-of-suc-le-suc h))
 
 -- so the j-th listed key is named
-listed-named : (kind : TableKind) (k : LogOverlayLocal) (local : List ℕ) (j : ℕ) → j < k .count → k .count ≤ length (k .order) → names kind (keyAt (k .rows) (getD (k .order) j 0)) (inserts kind k local) ≡ true
+listed-named : (kind : TableKind) (o : Overlay) (j : ℕ) → j < o .count → o .count ≤ length (o .order) → names kind (keyAt (o .rows) (getD (o .order) j 0)) (inserts kind o) ≡ true
 unfolding inserts
-listed-named kind k local j h w =
-    let n = named-at kind (k .rows) local (take (k .count) (k .order)) j (rw (length-take-le (k .count) (k .order) w) h) in
-    rw (getD-take (k .count) (k .order) j 0 h) at n
+listed-named kind o j h w =
+    let n = named-at kind o (take (o .count) (o .order)) j (rw (length-take-le (o .count) (o .order) w) h) in
+    rw (getD-take (o .count) (o .order) j 0 h) at n
 
 -- those of a kind are among all
-of-kind : (kind : TableKind) (k : ℕ) (l : LogChange) (local : List ℕ) → names kind k (inserts kind (localOf kind l) local) ≡ true → names kind k (actions l local) ≡ true
-unfolding actions allInserts
-of-kind kind k l local e = names-left kind k (allInserts l local) (allDrops l) (among kind e)
+of-kind : (kind : TableKind) (k : ℕ) (l : Change) → names kind k (inserts kind (ofKind kind (l .parts))) ≡ true → names kind k (listActions l) ≡ true
+unfolding listActions allInserts
+of-kind kind k l e = names-left kind k (allInserts l) (allDrops l) (among kind e)
   where
     a : List Written
-    a = inserts Index (l .«local_index») local
+    a = inserts Index (l .parts .index)
 
     b : List Written
-    b = inserts Value (l .«local_values») local
+    b = inserts Value (l .parts .value)
 
     c : List Written
-    c = inserts RefCount (l .«local_ref_count») local
+    c = inserts RefCount (l .parts .refCount)
 
-    among : (x : TableKind) → names kind k (inserts x (localOf x l) local) ≡ true → names kind k (a ++ b ++ c) ≡ true
+    among : (x : TableKind) → names kind k (inserts x (ofKind x (l .parts))) ≡ true → names kind k (a ++ b ++ c) ≡ true
     among Index f = names-left kind k (a ++ b) c (names-left kind k a b f)
     among Value f = names-left kind k (a ++ b) c (names-right kind k a b f)
     among RefCount f = names-right kind k (a ++ b) c f
 
--- ---- the list's id is the one before the next
-
-tested-next : (d : Directory) (l : LogChange) (room : ℕ) (s : Shared) (q : Queues) (next : ℕ) → isDone (tested d l room s q next) ≡ true → l .«record_id» + 1 ≡ next
-unfolding tested
-tested-next d l room s q next = by (allKept d l room s q next) (eqb (l .«record_id» + 1) next) refl (anyCrowded l s)
-  where
-    by : (a b : Bool) → eqb (l .«record_id» + 1) next ≡ b → (f : Bool) → isDone (if not a then BadState else if not b then NotNext else if f then NoRoom else Done) ≡ true → l .«record_id» + 1 ≡ next
-    by true true e f h = eqb-true (l .«record_id» + 1) next e
-    by true false e f h = let z : _≡_ {A = ℕ} 0 1 = cc in absurd (omega arith)
-    by false b e f h = let z : _≡_ {A = ℕ} 0 1 = cc in absurd (omega arith)
-
-ended-next : (d : Directory) (l : LogChange) (room : ℕ) (s : Shared) (q : Queues) (next out : ℕ) → isDone (ending d l room s q next out .answer) ≡ true → l .«record_id» + 1 ≡ next
-unfolding ending
-ended-next d l room s q next out h = tested-next d l room s q next (by (isDone (tested d l room s q next)) refl h)
-  where
-    by : (b : Bool) → isDone (tested d l room s q next) ≡ b
-        → isDone ((if b then byFile l q out (takeFile q (recordSize l)) else notTaken (tested d l room s q next) q) .answer) ≡ true → isDone (tested d l room s q next) ≡ true
-    by true e f = e
-    by false e f = f
-
--- ---- the overlay of a kind, of all three
-
-ended-of : (kind : TableKind) (l : LogChange) (local : List ℕ) (s : Shared) → decided.sharedFor kind (sharedEnded l local s) ≡ overlayEnded kind l local (decided.sharedFor kind s)
-unfolding sharedEnded
-ended-of Index l local s = refl
-ended-of Value l local s = refl
-ended-of RefCount l local s = refl
-
-cleared-of : (kind : TableKind) (s : Shared) (g : read.Again) (end : ℕ) → decided.sharedFor kind (read.sharedAfter s (got g end)) ≡ clearedOf kind (g .id) (g .actions) (decided.sharedFor kind s)
-cleared-of Index s g end = refl
-cleared-of Value s g end = refl
-cleared-of RefCount s g end = refl
-
 -- ---- the theorem
 
 module _
-    (d : Directory) (l : LogChange) (local : List ℕ) (s : Shared) (q : Queues) (next : ℕ) (out : List ℕ)
-    (shaped : Shaped l) (words : Words l)  -- the list's arrays and numbers are those of their types
-    (small : next < 18446744073709551616)  -- so is the next id
-    (done : isDone (ending d l (length local) s q next (length out) .answer) ≡ true)  -- `end_record` answers 0
+    (d : Directory) (h : Handed)
+    (words : Typed (h .list))  -- the list's arrays and numbers are those of their types
+    (small : h .next < 18446744073709551616)  -- so is the next id
+    (done : isDone (endAnswer d h) ≡ true)  -- `end_record` answers 0
   where
-    abbrev e : Taken
-    e = ending d l (length local) s q next (length out)
+    abbrev l : Change
+    l = h .list
 
-    -- what the call leaves: the overlays, and the output
-    abbrev pub ended : Shared
-    ended = sharedAfter l local s e
-
-    abbrev pub output : List ℕ
-    output = outputAfter l local out e
+    -- what the call leaves
+    abbrev pub left : EndState
+    left = endRecord d h
 
     -- the record as it is read again
     abbrev pub again : read.Again
-    again = record { id = l .«record_id»; actions = actions l local }
+    again = record { id = l .id; actions = listActions l }
 
-    taken : decided.Accepted d l (length local) s q next (length out) e
-    taken = decided.accepted d l (length local) s q next (length out) e refl (eqb-true (numberOf (e .answer)) 0 done)
+    taken : decided.Accepted d h
+    taken = decided.accepted d h done
 
-    state : stateKept d l (length local) ≡ true
-    state = decided.state-of d l (length local) s q next (taken .kept)
-
-    kept : sharedKept s ≡ true
-    kept = decided.shared-of d l (length local) s q next (taken .kept)
-
-    is-next : l .«record_id» + 1 ≡ next
-    is-next = ended-next d l (length local) s q next (length out) done
+    kept : changeKept d l ≡ true
+    kept = decided.list-kept d h (taken .kept)
 
     abbrev more : List ℕ
-    more = drop (length (recordOf l local)) out
+    more = drop (length (recordOf l)) (h .output)
 
     -- "What `end_record` writes is what `flush_to_file` writes ..
-    pub as-flush-writes : output ≡ flush.outputAfter d l local out
-    as-flush-writes = as-flushed d l local noOverlays s q next out shaped done
+    pub as-flush-writes : left .output ≡ flushToFile d l (h .output) .output
+    as-flush-writes = as-flushed d h done
 
-    record-first : output ≡ recordOf l local ++ more
-    record-first = as-flush-writes ∙ output-is d l local out state (taken .fits)
+    record-first : left .output ≡ recordOf l ++ more
+    record-first = as-flush-writes ∙ output-is d l (h .output) kept (taken .fits)
 
     -- .. and what replay accepts": with the list's id it answers 0 and the length that `end_record` answered
     pub replay-accepts : (image : List ℕ)
         → length image ≡ imageLength d  -- any other gives 13
-        → replayedAs 0 (judged d output 0 (l .«record_id») image) ≡ record { answer = Done; position = recordSize l }
+        → replayedAs 0 (judged d (left .output) 0 (l .id) image) ≡ record { answer = Done; position = recordSize l }
     replay-accepts image long =
-        ap (λ (log : List ℕ). replayedAs 0 (judged d log 0 (l .«record_id») image)) record-first ∙ replayed-done d l local more image state words long shaped
+        ap (λ (log : List ℕ). replayedAs 0 (judged d log 0 (l .id) image)) record-first ∙ replayed-done d l kept words more image long
 
-    reads : read.recordAgain d output 0 ≡ got again (recordSize l)
+    reads : read.recordAgain d (left .output) 0 ≡ walked again (recordSize l)
     reads =
         ap (λ (log : List ℕ). read.recordAgain d log 0) record-first
-        ∙ record-is-again d (recordOf l local ++ more) 0 again (recordSize l)
-        (accepted d l local state words [] more
-        ∙ ap (got (actions l local)) (zero-add (length (recordOf l local)) ∙ length-record d l local (record { shaped = shaped; words = words .rows }) state))
+        ∙ record-is-again d (recordOf l ++ more) 0 (l .id) (listActions l) (recordSize l)
+        (accepted d l kept words [] more ∙ ap (walked (listActions l)) (zero-add (length (recordOf l)) ∙ length-record l (kept-ruled d l kept) words))
 
     -- `end_read` of those bytes, behind all its tests, takes them as the record of the list's id and actions, of that length
-    pub accepted-again : read.toClear d ended next output 0 ≡ got again (recordSize l)
+    pub accepted-again : read.toClear d (left .output) 0 (left .overlays) (h .next) ≡ walked again (recordSize l)
     unfolding read.toClear
     accepted-again =
         if-true _ _ _
-        (both (state-directory d l (length local) state)
-        (both (shared-stays d l local noOverlays s q next out shaped kept) (ap not (ne-eqb next 0 (λ z. omega (arith, is-next))))))
+        (both (kept-directory d l kept)
+        (both (shared-stays d h (decided.shared-kept d h (taken .kept))) (ap not (ne-eqb (h .next) 0 (λ z. omega (arith, taken .next))))))
         ∙ ap read.clearable reads
-        ∙ if-false (eqb (l .«record_id») lastId) _ _ (ne-eqb (l .«record_id») lastId (λ z. omega (arith, is-next, small)))
+        ∙ if-false (eqb (l .id) lastRecordId) _ _ (ne-eqb (l .id) lastRecordId (λ z. omega (arith, taken .next, small)))
 
     -- "After `end_record` and then `end_read` of its bytes, with nothing between, the overlays hold no key of the record": of no kind
     pub none-left : (kind : TableKind) (j : ℕ)
-        → j < localOf kind l .count  -- the j-th listed key of the kind
-        → lookup (keyAt (localOf kind l .rows) (getD (localOf kind l .order) j 0)) (entriesOf kind (decided.sharedFor kind (read.sharedAfter ended (read.toClear d ended next output 0)))) ≡ none
-    none-left kind j h =
-        ap found (ap (λ (g : Got read.Again). decided.sharedFor kind (read.sharedAfter ended g)) accepted-again ∙ cleared-of kind ended again (recordSize l)
-        ∙ ap (clearedOf kind (l .«record_id») (actions l local)) (ap (decided.sharedFor kind) (if-true (isDone (e .answer)) (sharedEnded l local s) s done) ∙ ended-of kind l local s))
-        ∙ own-cleared kind (l .«record_id») key (actions l local) (overlayEnded kind l local (decided.sharedFor kind s)) (ended-kept kind d l local s shaped state kept (taken .free))
-        _ (of-kind kind key l local named) (listed-found kind d l local s shaped state kept (taken .free) j h) refl
+        → j < ofKind kind (l .parts) .count  -- the j-th listed key of the kind
+        → entryUnder kind (keyAt (ofKind kind (l .parts) .rows) (getD (ofKind kind (l .parts) .order) j 0)) (read.endRead d (left .output) 0 (left .overlays) (h .next) .overlays .parts) ≡ none
+    none-left kind j i =
+        ap (λ (g : Walked read.Again). entryUnder kind key (read.endReadBy 0 (left .overlays) (h .next) g .overlays .parts)) accepted-again
+        ∙ own-cleared kind (l .id) key (listActions l) (left .overlays .parts) (shared-stays d h (decided.shared-kept d h (taken .kept))) _
+        (of-kind kind key l named) (listed-found d h done kind j i) refl
       where
         key : ℕ
-        key = keyAt (localOf kind l .rows) (getD (localOf kind l .order) j 0)
+        key = keyAt (ofKind kind (l .parts) .rows) (getD (ofKind kind (l .parts) .order) j 0)
 
-        found : Overlay → Option Entry
-        found x = lookup key (entriesOf kind x)
-
-        named : names kind key (inserts kind (localOf kind l) local) ≡ true
-        named = listed-named kind (localOf kind l) local j h (omega (arith, local-room d kind (localOf kind l) (local-kept kind d l (state-list d l (length local) state)), room-most kind, shaped .orders kind))
+        named : names kind key (inserts kind (ofKind kind (l .parts))) ≡ true
+        named = listed-named kind (ofKind kind (l .parts)) j i (order-holds kind _ (ofKind kind (l .parts)) (kind-kept holder.List kind (l .parts) (kept-parts d l kept)))

@@ -1,4 +1,4 @@
+-- The theorems over several parts, for other crates to cite.
 pub mod Begins
-pub mod Clears
 pub mod EndThenRead
 pub mod Kept

@@ -1,6 +1,6 @@
-// The beginning of a record.
+// The beginning of a record: log.rs lines 839 to 842.
 ghost use mathlib.Core.Path.{_≡_};
-ghost use Rattle.log.specs.Begin.{notBegun, begun};
+ghost use Rattle.log.specs.Begin.{firstRecordId, notBegun, beginRecord};
 use answer::Answer;
 use change::LogChange;
 
@@ -11,24 +11,31 @@ pub struct Begun {
     pub list: LogChange,
 }
 
+// The next id of a log that has no record.
+pub fn first_record_id() -> u64
+    ensures { λ r. ⌜ r ≡ firstRecordId ⌝ }
+{
+    1
+}
+
 fn not_begun(answer: Answer, next: u64) -> Begun
     ensures { λ r. ⌜ r ≡ notBegun answer next ⌝ }
 {
     Begun {
         answer,
         next_record_id: next,
-        list: LogChange::new(0),
+        list: LogChange::new(answer::LAST_RECORD_ID),
     }
 }
 
 // Hands out the next id.
 pub fn begin_record(next: u64) -> Begun
-    ensures { λ r. ⌜ r ≡ begun next ⌝ }
+    ensures { λ r. ⌜ r ≡ beginRecord next ⌝ }
 {
     if next == 0 {
         return not_begun(Answer::BadState, next);
     }
-    if next == 18446744073709551615 {
+    if next == answer::LAST_RECORD_ID {
         return not_begun(Answer::UsedUp, next);
     }
     Begun {

@@ -1,70 +1,50 @@
-// The files to replay given up.
+// What was to be replayed, cleared: log.rs lines 816 to 837.
 ghost use mathlib.Core.Path.{_≡_};
-ghost use Rattle.overlay.specs.Shared.{sharedOf};
-ghost use Rattle.log.specs.ClearReplay.{byQueues, replayCleared};
+ghost use mathlib.Core.Bool.{true};
+ghost use Rattle.files.specs.Queues.{queuesKept};
+ghost use Rattle.log.specs.ClearReplay.{logsClearedKept, logsCleared};
 use answer::Answer;
 use files::Queues;
-use files::ReplayCleared;
-use overlay::LogOverlays;
+use memory::Holder;
+use memory::LogOverlays;
 
-pub struct Cleared {
+pub struct LogsCleared {
     pub answer: Answer,
     pub overlays: LogOverlays,
     pub queues: Queues,
 }
 
-fn by_queues(overlays: LogOverlays, c: ReplayCleared) -> Cleared
-    ensures { λ r. ⌜ r ≡ byQueues overlays c ⌝ }
+// Behind 13: the overlays that were are not asked.
+pub fn clear_replay_logs_kept(queues: Queues) -> LogsCleared
+    requires { ⌜ queuesKept queues ≡ true ⌝ }
+    ensures { λ r. ⌜ r ≡ logsClearedKept queues ⌝ }
 {
-    let answer = c.answer;
-    let queues = c.queues;
-    if answer.number() == 0 {
-        return Cleared {
-            answer,
-            overlays: LogOverlays::new(),
-            queues,
-        };
-    }
-    Cleared {
-        answer,
-        overlays,
-        queues,
+    let q = queues.clear_replay_logs_kept().queues;
+    LogsCleared {
+        answer: Answer::Done,
+        overlays: LogOverlays::new(),
+        queues: q,
     }
 }
 
-// Sends the file being read and those to replay to cleanup, and empties the overlays.
-pub fn clear_replay_logs<'a>(
+// Empties overlays and what was to be replayed; the overlays' memory is only read.
+pub fn clear_replay_logs(
     overlays: LogOverlays,
-    irows: &'a [u64],
-    iorder: &'a [u64],
-    ibytes: &'a [u8],
-    vrows: &'a [u64],
-    vorder: &'a [u64],
-    vbytes: &'a [u8],
-    crows: &'a [u64],
-    corder: &'a [u64],
-    cbytes: &'a [u8],
+    words: &[u64],
+    bytes: &[u8],
     queues: Queues,
-) -> Cleared
-    ensures { λ r. ⌜ r ≡ replayCleared overlays (sharedOf overlays (now (irows .entry)) (now (iorder .entry)) (now (ibytes .entry)) (now (vrows .entry)) (now (vorder .entry)) (now (vbytes .entry)) (now (crows .entry)) (now (corder .entry)) (now (cbytes .entry))) queues ⌝ }
+) -> LogsCleared
+    ensures { λ r. ⌜ r ≡ logsCleared overlays (now (words .entry)) (now (bytes .entry)) queues ⌝ }
 {
-    if !overlay::all_kept(
-        overlays,
-        irows,
-        iorder,
-        ibytes,
-        vrows,
-        vorder,
-        vbytes,
-        crows,
-        corder,
-        cbytes,
-    ) {
-        return Cleared {
-            answer: Answer::BadState,
-            overlays,
-            queues,
-        };
+    let counts = overlays.counts;
+    if memory::all_kept(Holder::Shared, counts, words, bytes) {
+        if queues.kept() {
+            return clear_replay_logs_kept(queues);
+        }
     }
-    by_queues(overlays, queues.clear_replay_logs())
+    LogsCleared {
+        answer: Answer::BadState,
+        overlays,
+        queues,
+    }
 }

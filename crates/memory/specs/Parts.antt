@@ -2,12 +2,14 @@
 use mathlib.Core.Path.{_≡_}
 use mathlib.Core.Bool.{Bool, false, _&&_}
 use mathlib.Core.List.{List}
+use mathlib.Core.Option.{Option}
 use Prim.Native.Nat.{ℕ, _-_, _<_}
 use lib.Dec.{eqb}
 use lib.ListN.{take, drop, length}
 use Rattle.directory.specs.declared.table.TableKind.{TableKind}
 use Rattle.directory.specs.declared.table.TableKind.the-variants.{Index, Value, RefCount}
 use Rattle.overlay.specs.Rules.{Overlay, overlayOf, overlayKept}
+use Rattle.overlay.specs.Entries.{Entry, entriesOf, findEntry}
 use Rattle.overlay.specs.Overlay.{standsIn, putOver, removedFrom}
 use Rattle.memory.specs.declared.counts.Counts.{Counts}
 use Rattle.memory.specs.declared.span.Holder.{Holder}
@@ -79,6 +81,10 @@ abbrev pub ofKind : TableKind → Parts → Overlay
 ofKind Index p = p .index
 ofKind Value p = p .value
 ofKind RefCount p = p .refCount
+
+-- what stands under a key of a kind
+abbrev pub entryUnder : TableKind → ℕ → Parts → Option Entry
+entryUnder kind key p = findEntry key (entriesOf kind (ofKind kind p))
 
 -- one kind changed, the others as they were
 abbrev pub withKind : TableKind → Parts → Overlay → Parts

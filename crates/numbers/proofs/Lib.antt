@@ -2,3 +2,4 @@
 pub mod Laws
 pub mod Sort
 pub mod QueueLists
+pub mod Spots

@@ -5,7 +5,7 @@ use mathlib.Core.List.{List, [], _∷_, _++_, append-nil}
 use mathlib.Core.Path.{_≡_, refl, sym, ap, _∙_}
 use native.Mathlib.Omega.{arith}
 use native.Mathlib.Numerals.{add-one}
-use lib.ListN.{getD, set, take, drop, length, length-set, length-drop}
+use lib.ListN.{set, take, drop, length, length-set, length-drop}
 use lib.Seq.{take-paste, length-paste, take-suc-set, drop-cons}
 use Rattle.words.proofs.Cut.{drop-take}
 use Rattle.numbers.specs.Numbers.{someOf, oneIf, insert, insertAll, spot}

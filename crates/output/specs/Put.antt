@@ -1,4 +1,4 @@
--- What writing bytes into a lent slice means: they stand from a position on, and all else stays. In log.rs: `file.write_all`, lines 383 to 387.
+-- What writing bytes into a lent slice means: they stand from a position on, and all else stays. In log.rs: `file.write_all`, lines 384 to 389.
 use mathlib.Core.Path.{_≡_}
 use mathlib.Core.List.{List, [], _∷_, _++_}
 use Prim.Native.Nat.{ℕ, zero, suc, _+_, _/_, _%_}

@@ -1,4 +1,4 @@
-// Bytes written into a lent slice, one after the other: each call gives the place behind what it wrote. log.rs lines 383 to 387.
+// Bytes written into a lent slice, one after the other: each call gives the place behind what it wrote. log.rs lines 384 to 389.
 ghost use Prim.Native.Nat.{_+_, _≤_};
 ghost use lib.ListN.{length};
 ghost use Rattle.output.specs.Put.{Wrote, le};

@@ -7,8 +7,8 @@ use native.Mathlib.Omega.{arith}
 use lib.ListN.{length}
 use Rattle.words.specs.Choice.{if_then_else_}
 use Rattle.directory.specs.declared.table.TableKind.{TableKind}
+use Rattle.numbers.proofs.Laws.{left-of}
 use Rattle.keys.specs.Keys.{cutOut, renameAll}
-use Rattle.keys.proofs.Places.{left-of}
 use Rattle.overlay.specs.Rules.{Overlay, slotSize, overlayKept, listsOf}
 use Rattle.overlay.specs.declared.seat.Leaving.{Leaving}
 use Rattle.overlay.specs.declared.seat.Leaving.the-variants.{At, Stays}

@@ -9,8 +9,10 @@ use lib.ListN.{getD, take, drop, length}
 use lib.Seq.{paste}
 use borrow.Author.Tests.{ltb-true, ltb-false, lt-ltb}
 use Rattle.directory.specs.declared.table.TableKind.{TableKind}
-use Rattle.keys.specs.Keys.{rank, keyAt, idAt, markAt, rowPut, keysOf, every, ascends}
-use Rattle.keys.proofs.Places.{both, left-of, right-of, rule-under, rule-rises}
+use Rattle.numbers.proofs.Laws.{both, left-of, right-of}
+use Rattle.numbers.specs.Numbers.{ascends}
+use Rattle.keys.specs.Keys.{rank, keyAt, idAt, markAt, rowPut, keysOf, every}
+use Rattle.keys.proofs.Places.{rule-under, rule-rises}
 use Rattle.keys.proofs.Kept.{table-here, index-here, id-here, mark-here, word-other}
 use Rattle.overlay.specs.Rules.{storedLength, Overlay, slotSize, markRuled, rowRuled, listsOf}
 use Rattle.overlay.specs.Entries.{entryAt, entriesOf}

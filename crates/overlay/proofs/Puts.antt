@@ -11,7 +11,8 @@ use lib.ListN.{getD, take, drop, length, length-append, length-drop, length-set}
 use lib.Seq.{paste, length-paste, length-take-le, take-length}
 use Rattle.words.specs.Choice.{if_then_else_}
 use Rattle.directory.specs.declared.table.TableKind.{TableKind}
-use Rattle.keys.specs.Keys.{rank, keyAt, rowPut, keysOf, every, spot, holds, putIn}
+use Rattle.numbers.specs.Numbers.{spot, putIn}
+use Rattle.keys.specs.Keys.{rank, keyAt, rowPut, keysOf, every, holds}
 use Rattle.keys.proofs.Kept.{over-ruled, next-ruled}
 use Rattle.overlay.specs.Rules.{storedLength, Overlay, slotSize, markRuled, rowRuled, overlayKept, listsOf}
 use Rattle.overlay.specs.Overlay.{spotIn, standsIn, putOver}

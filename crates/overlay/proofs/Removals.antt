@@ -12,7 +12,8 @@ use lib.Seq.{length-paste, length-take-le, take-take}
 use borrow.Author.Tests.{eqb-true, eqb-false, eq-eqb, ne-eqb}
 use Rattle.words.specs.Choice.{if_then_else_}
 use Rattle.directory.specs.declared.table.TableKind.{TableKind}
-use Rattle.keys.specs.Keys.{keyAt, idAt, markAt, keysOf, every, ascends, spot, holds, cutOut, renamed, renameAll}
+use Rattle.numbers.specs.Numbers.{ascends, spot}
+use Rattle.keys.specs.Keys.{keyAt, idAt, markAt, keysOf, every, holds, cutOut, renamed, renameAll}
 use Rattle.keys.proofs.Places.{rule-under, rule-rises, rule-make}
 use Rattle.keys.proofs.Kept.{key-here, key-other, table-here, mark-here}
 use Rattle.overlay.specs.Rules.{storedLength, Overlay, slotSize, rowRuled, overlayKept, listsOf}

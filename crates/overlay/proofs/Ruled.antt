@@ -9,8 +9,8 @@ use lib.ListN.{take, length}
 use borrow.Author.Tests.{leb-true, le-leb, eqb-true, eq-eqb}
 use Rattle.directory.specs.declared.table.TableKind.{TableKind}
 use Rattle.directory.specs.declared.table.TableKind.the-variants.{Index, Value, RefCount}
+use Rattle.numbers.proofs.Laws.{both, left-of, right-of}
 use Rattle.keys.specs.Keys.{every, ruled}
-use Rattle.keys.proofs.Places.{both, left-of, right-of}
 use Rattle.overlay.specs.Rules.{storedLength, Overlay, slotSize, markRuled, rowRuled, keysRuled, overlayKept}
 
 pub slot-most : (kind : TableKind) → slotSize kind ≤ 1024

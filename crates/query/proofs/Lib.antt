@@ -1,5 +1,4 @@
--- The laws, for other crates to cite.
-pub mod Copies
+-- The laws, for other crates to cite: the bytes found are an entry's; what is copied; what a lookup finds, and what it finds after a put or a removal.
 pub mod Found
+pub mod Copies
 pub mod Looks
-pub mod Spotted

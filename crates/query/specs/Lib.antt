@@ -1,3 +1,3 @@
--- What the contracts cite.
+-- What the contracts cite: what a lookup answers, then what the inner functions hand on.
 pub mod Query
-pub mod Spots
+pub mod Inner

@@ -1,7 +1,7 @@
 // Lookups: in a shared overlay alone, or in a change list first and then in the shared overlay.
 mod copy;
+mod find;
 pub mod listed;
 pub mod shared;
-mod spot;
 
 pub use copy::Copied;

@@ -1,207 +1,325 @@
-// Lookups in a change list first, then in the shared overlay: log.rs lines 545 to 611.
+// Lookups in a change list first, then in the shared overlay: log.rs lines 545 to 611. The list is handed in whole, of the overlays the kind's
+// part. The second door of each is for whoever has tested both already.
 ghost use mathlib.Core.Path.{_≡_};
-ghost use Prim.Native.Nat.{_≤_};
-ghost use lib.ListN.{length, drop};
+ghost use mathlib.Core.Bool.{true};
 ghost use Rattle.directory.specs.declared.table.TableKind.the-variants.{Index, Value, RefCount};
-ghost use Rattle.answer.specs.Answer.{numberOf};
 ghost use Rattle.keys.specs.Keys.{rank};
-ghost use Rattle.change.specs.Room.{roomOf, slotAt};
-ghost use Rattle.overlay.specs.Rules.{overlayOf};
-ghost use Rattle.query.specs.Query.{partKept, listedLook, bytesOf, copiedOver, copiedBy};
-ghost use Rattle.query.specs.Spots.{storedOf, Within};
+ghost use Rattle.overlay.specs.Rules.{overlayKept};
+ghost use Rattle.memory.specs.Parts.{partsOf, ofKind, partsKept};
+ghost use Rattle.memory.specs.declared.span.Holder.the-variants.{List};
+ghost use Rattle.change.specs.Change.{changeOf, changeRuled};
+ghost use Rattle.query.specs.Query.{sharedPart, listedLook, bytesOf, HandsOut, CopiesOut};
+ghost use Rattle.query.specs.Inner.{foundIn};
 use super::copy::Copied;
 use super::copy::copy_value;
-use super::spot::Spot;
-use super::spot::find;
-use super::spot::part;
+use super::find::find_in;
+use super::shared;
 use change::LogChange;
-use change::LogOverlayLocal;
 use directory::IndexTableId;
 use directory::RefCountTableId;
 use directory::TableKind;
 use directory::ValueTableId;
+use memory::Counts;
+use memory::Holder;
+use memory::LogOverlays;
 
-// How many keys of a kind a list holds.
-fn room(kind: TableKind) -> usize
-    ensures { λ r. ⌜ (r ≡ roomOf kind) × (r ≤ 32) ⌝ }
-{
-    match kind {
-        TableKind::Index => 32,
-        TableKind::Value => 32,
-        TableKind::RefCount => 16,
-    }
-}
-
-fn part_kept(kind: TableKind, k: LogOverlayLocal, local: &[u8]) -> bool
-    ensures { λ r. ⌜ r ≡ partKept kind k (now (local .entry)) ⌝ }
-{
-    if local.len() != 49152 {
-        return false;
-    }
-    overlay::keys_ruled(kind, room(kind), &k.rows, &k.order, k.count)
-}
-
-// From the local memory, or else the shared one.
-fn stored<'a>(
+// In the list alone.
+fn find_listed<'a>(
     kind: TableKind,
-    here: Spot,
-    local: &'a [u8],
-    there: Spot,
+    counts: Counts,
+    words: &'a [u64],
     bytes: &'a [u8],
+    table: u16,
+    index: u64,
 ) -> &'a [u8]
-    requires { ⌜ (slotAt kind 0 ≤ length (now local)) × (Within kind here (length (drop (slotAt kind 0) (now local)))) × (Within kind there (length (now bytes))) ⌝ }
-    ensures { λ r. ⌜ now r ≡ storedOf kind here (now (local .entry)) there (now (bytes .entry)) ⌝ }
+    requires { ⌜ partsKept List (partsOf List counts (now words) (now bytes)) ≡ true ⌝ }
+    ensures { λ r. ⌜ now r ≡ foundIn kind (ofKind kind (partsOf List counts (now (words .entry)) (now (bytes .entry)))) (rank table index) ⌝ }
 {
-    match here {
-        Spot::At(_, _) => {
-            let a = change::slot_at(kind, 0);
-            part(kind, here, &local[a..])
-        }
-        Spot::Nothing => part(kind, there, bytes),
-    }
+    let s = memory::span_of(Holder::List, kind);
+    let a = s.words_at;
+    let e = s.words_end;
+    let b = s.bytes_at;
+    let f = s.bytes_end;
+    find_in(
+        kind,
+        s.room,
+        &words[a..e],
+        &bytes[b..f],
+        counts.of(kind),
+        table,
+        index,
+    )
 }
 
-// The one path of the three kinds.
+// The one path of the three kinds, behind 13: the list's entry if there is one, else the shared one. No entry has no bytes.
+fn look_kept<'a>(
+    kind: TableKind,
+    list: LogChange,
+    local_words: &'a [u64],
+    local_bytes: &'a [u8],
+    overlays: LogOverlays,
+    words: &'a [u64],
+    bytes: &'a [u8],
+    table: u16,
+    index: u64,
+) -> &'a [u8]
+    requires { ⌜ (changeRuled (changeOf list (now «local_words») (now «local_bytes»)) ≡ true) × (overlayKept kind 256 (sharedPart kind overlays (now words) (now bytes)) ≡ true) ⌝ }
+    ensures { λ r. ⌜ now r ≡ bytesOf (listedLook kind (changeOf list (now («local_words» .entry)) (now («local_bytes» .entry))) (sharedPart kind overlays (now (words .entry)) (now (bytes .entry))) (rank table index) .entry) ⌝ }
+{
+    let counts = list.counts;
+    let mine = find_listed(kind, counts, local_words, local_bytes, table, index);
+    if 0 < mine.len() {
+        return mine;
+    }
+    shared::look_kept(kind, overlays, words, bytes, table, index)
+}
+
 fn look<'a>(
     kind: TableKind,
-    k: LogOverlayLocal,
-    local: &'a [u8],
-    rows: &'a [u64],
-    order: &'a [u64],
+    list: LogChange,
+    local_words: &'a [u64],
+    local_bytes: &'a [u8],
+    overlays: LogOverlays,
+    words: &'a [u64],
     bytes: &'a [u8],
-    n: usize,
     table: u16,
     index: u64,
     number: &mut u64,
 ) -> &'a [u8]
-    ensures { λ r. ⌜ (now (number .exit) ≡ numberOf (listedLook kind k (now (local .entry)) (overlayOf (now (rows .entry)) (now (order .entry)) (now (bytes .entry)) n) (rank table index) .answer))
-        × (now r ≡ bytesOf (listedLook kind k (now (local .entry)) (overlayOf (now (rows .entry)) (now (order .entry)) (now (bytes .entry)) n) (rank table index) .entry)) ⌝ }
+    ensures { λ r. ⌜ HandsOut (listedLook kind (changeOf list (now («local_words» .entry)) (now («local_bytes» .entry))) (sharedPart kind overlays (now (words .entry)) (now (bytes .entry))) (rank table index)) (now (number .exit)) (now r) ⌝ }
 {
     *number = 13;
-    if !part_kept(kind, k, local) {
+    if !list.ruled(local_words, local_bytes) {
         return &bytes[0..0];
     }
-    if !overlay::kept(kind, rows, order, bytes, n) {
+    let counts = overlays.counts;
+    if !overlay::kept(kind, 256, words, bytes, counts.of(kind)) {
         return &bytes[0..0];
     }
     *number = 0;
-    let here = find(kind, &k.rows, &k.order, k.count, table, index);
-    let there = find(kind, rows, order, n, table, index);
-    stored(kind, here, local, there, bytes)
+    look_kept(
+        kind,
+        list,
+        local_words,
+        local_bytes,
+        overlays,
+        words,
+        bytes,
+        table,
+        index,
+    )
 }
 
 pub fn with_index<'a>(
     list: LogChange,
-    local: &'a [u8],
-    rows: &'a [u64],
-    order: &'a [u64],
+    local_words: &'a [u64],
+    local_bytes: &'a [u8],
+    overlays: LogOverlays,
+    words: &'a [u64],
     bytes: &'a [u8],
-    n: usize,
     table: IndexTableId,
     index: u64,
     number: &mut u64,
 ) -> &'a [u8]
-    ensures { λ r. ⌜ (now (number .exit) ≡ numberOf (listedLook Index (list .«local_index») (now (local .entry)) (overlayOf (now (rows .entry)) (now (order .entry)) (now (bytes .entry)) n) (rank (table .0) index) .answer))
-        × (now r ≡ bytesOf (listedLook Index (list .«local_index») (now (local .entry)) (overlayOf (now (rows .entry)) (now (order .entry)) (now (bytes .entry)) n) (rank (table .0) index) .entry)) ⌝ }
+    ensures { λ r. ⌜ HandsOut (listedLook Index (changeOf list (now («local_words» .entry)) (now («local_bytes» .entry))) (sharedPart Index overlays (now (words .entry)) (now (bytes .entry))) (rank (table .0) index)) (now (number .exit)) (now r) ⌝ }
 {
-    let k = list.local_index;
     look(
         TableKind::Index,
-        k,
-        local,
-        rows,
-        order,
+        list,
+        local_words,
+        local_bytes,
+        overlays,
+        words,
         bytes,
-        n,
         table.0,
         index,
         number,
+    )
+}
+
+pub fn with_index_kept<'a>(
+    list: LogChange,
+    local_words: &'a [u64],
+    local_bytes: &'a [u8],
+    overlays: LogOverlays,
+    words: &'a [u64],
+    bytes: &'a [u8],
+    table: IndexTableId,
+    index: u64,
+) -> &'a [u8]
+    requires { ⌜ (changeRuled (changeOf list (now «local_words») (now «local_bytes»)) ≡ true) × (overlayKept Index 256 (sharedPart Index overlays (now words) (now bytes)) ≡ true) ⌝ }
+    ensures { λ r. ⌜ now r ≡ bytesOf (listedLook Index (changeOf list (now («local_words» .entry)) (now («local_bytes» .entry))) (sharedPart Index overlays (now (words .entry)) (now (bytes .entry))) (rank (table .0) index) .entry) ⌝ }
+{
+    look_kept(
+        TableKind::Index,
+        list,
+        local_words,
+        local_bytes,
+        overlays,
+        words,
+        bytes,
+        table.0,
+        index,
     )
 }
 
 pub fn value_ref<'a>(
     list: LogChange,
-    local: &'a [u8],
-    rows: &'a [u64],
-    order: &'a [u64],
+    local_words: &'a [u64],
+    local_bytes: &'a [u8],
+    overlays: LogOverlays,
+    words: &'a [u64],
     bytes: &'a [u8],
-    n: usize,
     table: ValueTableId,
     index: u64,
     number: &mut u64,
 ) -> &'a [u8]
-    ensures { λ r. ⌜ (now (number .exit) ≡ numberOf (listedLook Value (list .«local_values») (now (local .entry)) (overlayOf (now (rows .entry)) (now (order .entry)) (now (bytes .entry)) n) (rank (table .0) index) .answer))
-        × (now r ≡ bytesOf (listedLook Value (list .«local_values») (now (local .entry)) (overlayOf (now (rows .entry)) (now (order .entry)) (now (bytes .entry)) n) (rank (table .0) index) .entry)) ⌝ }
+    ensures { λ r. ⌜ HandsOut (listedLook Value (changeOf list (now («local_words» .entry)) (now («local_bytes» .entry))) (sharedPart Value overlays (now (words .entry)) (now (bytes .entry))) (rank (table .0) index)) (now (number .exit)) (now r) ⌝ }
 {
-    let k = list.local_values;
     look(
         TableKind::Value,
-        k,
-        local,
-        rows,
-        order,
+        list,
+        local_words,
+        local_bytes,
+        overlays,
+        words,
         bytes,
-        n,
         table.0,
         index,
         number,
+    )
+}
+
+pub fn value_ref_kept<'a>(
+    list: LogChange,
+    local_words: &'a [u64],
+    local_bytes: &'a [u8],
+    overlays: LogOverlays,
+    words: &'a [u64],
+    bytes: &'a [u8],
+    table: ValueTableId,
+    index: u64,
+) -> &'a [u8]
+    requires { ⌜ (changeRuled (changeOf list (now «local_words») (now «local_bytes»)) ≡ true) × (overlayKept Value 256 (sharedPart Value overlays (now words) (now bytes)) ≡ true) ⌝ }
+    ensures { λ r. ⌜ now r ≡ bytesOf (listedLook Value (changeOf list (now («local_words» .entry)) (now («local_bytes» .entry))) (sharedPart Value overlays (now (words .entry)) (now (bytes .entry))) (rank (table .0) index) .entry) ⌝ }
+{
+    look_kept(
+        TableKind::Value,
+        list,
+        local_words,
+        local_bytes,
+        overlays,
+        words,
+        bytes,
+        table.0,
+        index,
     )
 }
 
 pub fn ref_count<'a>(
     list: LogChange,
-    local: &'a [u8],
-    rows: &'a [u64],
-    order: &'a [u64],
+    local_words: &'a [u64],
+    local_bytes: &'a [u8],
+    overlays: LogOverlays,
+    words: &'a [u64],
     bytes: &'a [u8],
-    n: usize,
     table: RefCountTableId,
     index: u64,
     number: &mut u64,
 ) -> &'a [u8]
-    ensures { λ r. ⌜ (now (number .exit) ≡ numberOf (listedLook RefCount (list .«local_ref_count») (now (local .entry)) (overlayOf (now (rows .entry)) (now (order .entry)) (now (bytes .entry)) n) (rank (table .0) index) .answer))
-        × (now r ≡ bytesOf (listedLook RefCount (list .«local_ref_count») (now (local .entry)) (overlayOf (now (rows .entry)) (now (order .entry)) (now (bytes .entry)) n) (rank (table .0) index) .entry)) ⌝ }
+    ensures { λ r. ⌜ HandsOut (listedLook RefCount (changeOf list (now («local_words» .entry)) (now («local_bytes» .entry))) (sharedPart RefCount overlays (now (words .entry)) (now (bytes .entry))) (rank (table .0) index)) (now (number .exit)) (now r) ⌝ }
 {
-    let k = list.local_ref_count;
     look(
         TableKind::RefCount,
-        k,
-        local,
-        rows,
-        order,
+        list,
+        local_words,
+        local_bytes,
+        overlays,
+        words,
         bytes,
-        n,
         table.0,
         index,
         number,
     )
 }
 
+pub fn ref_count_kept<'a>(
+    list: LogChange,
+    local_words: &'a [u64],
+    local_bytes: &'a [u8],
+    overlays: LogOverlays,
+    words: &'a [u64],
+    bytes: &'a [u8],
+    table: RefCountTableId,
+    index: u64,
+) -> &'a [u8]
+    requires { ⌜ (changeRuled (changeOf list (now «local_words») (now «local_bytes»)) ≡ true) × (overlayKept RefCount 256 (sharedPart RefCount overlays (now words) (now bytes)) ≡ true) ⌝ }
+    ensures { λ r. ⌜ now r ≡ bytesOf (listedLook RefCount (changeOf list (now («local_words» .entry)) (now («local_bytes» .entry))) (sharedPart RefCount overlays (now (words .entry)) (now (bytes .entry))) (rank (table .0) index) .entry) ⌝ }
+{
+    look_kept(
+        TableKind::RefCount,
+        list,
+        local_words,
+        local_bytes,
+        overlays,
+        words,
+        bytes,
+        table.0,
+        index,
+    )
+}
+
 pub fn value<'a>(
     list: LogChange,
-    local: &'a [u8],
-    rows: &'a [u64],
-    order: &'a [u64],
+    local_words: &'a [u64],
+    local_bytes: &'a [u8],
+    overlays: LogOverlays,
+    words: &'a [u64],
     bytes: &'a [u8],
-    n: usize,
     table: ValueTableId,
     index: u64,
     dest: &mut [u8],
 ) -> Copied
-    ensures { λ r. ⌜ (r ≡ copiedBy (listedLook Value (list .«local_values») (now (local .entry)) (overlayOf (now (rows .entry)) (now (order .entry)) (now (bytes .entry)) n) (rank (table .0) index)))
-        × (now (dest .exit) ≡ copiedOver (bytesOf (listedLook Value (list .«local_values») (now (local .entry)) (overlayOf (now (rows .entry)) (now (order .entry)) (now (bytes .entry)) n) (rank (table .0) index) .entry)) (now (dest .entry))) ⌝ }
+    ensures { λ r. ⌜ CopiesOut (listedLook Value (changeOf list (now («local_words» .entry)) (now («local_bytes» .entry))) (sharedPart Value overlays (now (words .entry)) (now (bytes .entry))) (rank (table .0) index)) r (now (dest .entry)) (now (dest .exit)) ⌝ }
 {
     let mut number: u64 = 0;
     let stored = value_ref(
         list,
-        local,
-        rows,
-        order,
+        local_words,
+        local_bytes,
+        overlays,
+        words,
         bytes,
-        n,
         table,
         index,
         &mut number,
     );
     copy_value(number, stored, dest)
+}
+
+pub fn value_kept<'a>(
+    list: LogChange,
+    local_words: &'a [u64],
+    local_bytes: &'a [u8],
+    overlays: LogOverlays,
+    words: &'a [u64],
+    bytes: &'a [u8],
+    table: ValueTableId,
+    index: u64,
+    dest: &mut [u8],
+) -> Copied
+    requires { ⌜ (changeRuled (changeOf list (now «local_words») (now «local_bytes»)) ≡ true) × (overlayKept Value 256 (sharedPart Value overlays (now words) (now bytes)) ≡ true) ⌝ }
+    ensures { λ r. ⌜ CopiesOut (listedLook Value (changeOf list (now («local_words» .entry)) (now («local_bytes» .entry))) (sharedPart Value overlays (now (words .entry)) (now (bytes .entry))) (rank (table .0) index)) r (now (dest .entry)) (now (dest .exit)) ⌝ }
+{
+    let stored = value_ref_kept(
+        list,
+        local_words,
+        local_bytes,
+        overlays,
+        words,
+        bytes,
+        table,
+        index,
+    );
+    copy_value(0, stored, dest)
 }

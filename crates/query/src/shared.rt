@@ -1,127 +1,184 @@
-// Lookups in a shared overlay alone: log.rs lines 159 to 202. Each answers with a part of the lent memory and has its number beside it; `value` copies.
+// Lookups in a shared overlay alone: log.rs lines 159 to 202. Each is handed its kind's part of the two memories, answers with a part of the lent
+// bytes and has its number beside it; `value` copies. The second door of each is for whoever has tested the overlay already.
 ghost use mathlib.Core.Path.{_≡_};
+ghost use mathlib.Core.Bool.{true};
 ghost use Rattle.directory.specs.declared.table.TableKind.the-variants.{Index, Value, RefCount};
-ghost use Rattle.answer.specs.Answer.{numberOf};
 ghost use Rattle.keys.specs.Keys.{rank};
-ghost use Rattle.overlay.specs.Rules.{overlayOf};
-ghost use Rattle.query.specs.Query.{sharedLook, bytesOf, copiedOver, copiedBy};
+ghost use Rattle.overlay.specs.Rules.{overlayKept};
+ghost use Rattle.query.specs.Query.{sharedPart, sharedLook, bytesOf, HandsOut, CopiesOut};
 use super::copy::Copied;
 use super::copy::copy_value;
-use super::spot::find;
-use super::spot::part;
+use super::find::find_in;
 use directory::IndexTableId;
 use directory::RefCountTableId;
 use directory::TableKind;
 use directory::ValueTableId;
+use memory::LogOverlays;
 
-// The one path of the three kinds.
+// The one path of the three kinds, behind 13.
+pub(crate) fn look_kept<'a>(
+    kind: TableKind,
+    overlays: LogOverlays,
+    words: &'a [u64],
+    bytes: &'a [u8],
+    table: u16,
+    index: u64,
+) -> &'a [u8]
+    requires { ⌜ overlayKept kind 256 (sharedPart kind overlays (now words) (now bytes)) ≡ true ⌝ }
+    ensures { λ r. ⌜ now r ≡ bytesOf (sharedLook kind (sharedPart kind overlays (now (words .entry)) (now (bytes .entry))) (rank table index) .entry) ⌝ }
+{
+    let counts = overlays.counts;
+    find_in(kind, 256, words, bytes, counts.of(kind), table, index)
+}
+
 fn look<'a>(
     kind: TableKind,
-    rows: &'a [u64],
-    order: &'a [u64],
+    overlays: LogOverlays,
+    words: &'a [u64],
     bytes: &'a [u8],
-    n: usize,
     table: u16,
     index: u64,
     number: &mut u64,
 ) -> &'a [u8]
-    ensures { λ r. ⌜ (now (number .exit) ≡ numberOf (sharedLook kind (overlayOf (now (rows .entry)) (now (order .entry)) (now (bytes .entry)) n) (rank table index) .answer))
-        × (now r ≡ bytesOf (sharedLook kind (overlayOf (now (rows .entry)) (now (order .entry)) (now (bytes .entry)) n) (rank table index) .entry)) ⌝ }
+    ensures { λ r. ⌜ HandsOut (sharedLook kind (sharedPart kind overlays (now (words .entry)) (now (bytes .entry))) (rank table index)) (now (number .exit)) (now r) ⌝ }
 {
     *number = 13;
-    if !overlay::kept(kind, rows, order, bytes, n) {
+    let counts = overlays.counts;
+    if !overlay::kept(kind, 256, words, bytes, counts.of(kind)) {
         return &bytes[0..0];
     }
     *number = 0;
-    let there = find(kind, rows, order, n, table, index);
-    part(kind, there, bytes)
+    look_kept(kind, overlays, words, bytes, table, index)
 }
 
 pub fn with_index<'a>(
-    rows: &'a [u64],
-    order: &'a [u64],
+    overlays: LogOverlays,
+    words: &'a [u64],
     bytes: &'a [u8],
-    n: usize,
     table: IndexTableId,
     index: u64,
     number: &mut u64,
 ) -> &'a [u8]
-    ensures { λ r. ⌜ (now (number .exit) ≡ numberOf (sharedLook Index (overlayOf (now (rows .entry)) (now (order .entry)) (now (bytes .entry)) n) (rank (table .0) index) .answer))
-        × (now r ≡ bytesOf (sharedLook Index (overlayOf (now (rows .entry)) (now (order .entry)) (now (bytes .entry)) n) (rank (table .0) index) .entry)) ⌝ }
+    ensures { λ r. ⌜ HandsOut (sharedLook Index (sharedPart Index overlays (now (words .entry)) (now (bytes .entry))) (rank (table .0) index)) (now (number .exit)) (now r) ⌝ }
 {
     look(
         TableKind::Index,
-        rows,
-        order,
+        overlays,
+        words,
         bytes,
-        n,
         table.0,
         index,
         number,
     )
 }
 
-pub fn value_ref<'a>(
-    rows: &'a [u64],
-    order: &'a [u64],
+pub fn with_index_kept<'a>(
+    overlays: LogOverlays,
+    words: &'a [u64],
     bytes: &'a [u8],
-    n: usize,
+    table: IndexTableId,
+    index: u64,
+) -> &'a [u8]
+    requires { ⌜ overlayKept Index 256 (sharedPart Index overlays (now words) (now bytes)) ≡ true ⌝ }
+    ensures { λ r. ⌜ now r ≡ bytesOf (sharedLook Index (sharedPart Index overlays (now (words .entry)) (now (bytes .entry))) (rank (table .0) index) .entry) ⌝ }
+{
+    look_kept(TableKind::Index, overlays, words, bytes, table.0, index)
+}
+
+pub fn value_ref<'a>(
+    overlays: LogOverlays,
+    words: &'a [u64],
+    bytes: &'a [u8],
     table: ValueTableId,
     index: u64,
     number: &mut u64,
 ) -> &'a [u8]
-    ensures { λ r. ⌜ (now (number .exit) ≡ numberOf (sharedLook Value (overlayOf (now (rows .entry)) (now (order .entry)) (now (bytes .entry)) n) (rank (table .0) index) .answer))
-        × (now r ≡ bytesOf (sharedLook Value (overlayOf (now (rows .entry)) (now (order .entry)) (now (bytes .entry)) n) (rank (table .0) index) .entry)) ⌝ }
+    ensures { λ r. ⌜ HandsOut (sharedLook Value (sharedPart Value overlays (now (words .entry)) (now (bytes .entry))) (rank (table .0) index)) (now (number .exit)) (now r) ⌝ }
 {
     look(
         TableKind::Value,
-        rows,
-        order,
+        overlays,
+        words,
         bytes,
-        n,
         table.0,
         index,
         number,
     )
 }
 
-pub fn ref_count<'a>(
-    rows: &'a [u64],
-    order: &'a [u64],
+pub fn value_ref_kept<'a>(
+    overlays: LogOverlays,
+    words: &'a [u64],
     bytes: &'a [u8],
-    n: usize,
+    table: ValueTableId,
+    index: u64,
+) -> &'a [u8]
+    requires { ⌜ overlayKept Value 256 (sharedPart Value overlays (now words) (now bytes)) ≡ true ⌝ }
+    ensures { λ r. ⌜ now r ≡ bytesOf (sharedLook Value (sharedPart Value overlays (now (words .entry)) (now (bytes .entry))) (rank (table .0) index) .entry) ⌝ }
+{
+    look_kept(TableKind::Value, overlays, words, bytes, table.0, index)
+}
+
+pub fn ref_count<'a>(
+    overlays: LogOverlays,
+    words: &'a [u64],
+    bytes: &'a [u8],
     table: RefCountTableId,
     index: u64,
     number: &mut u64,
 ) -> &'a [u8]
-    ensures { λ r. ⌜ (now (number .exit) ≡ numberOf (sharedLook RefCount (overlayOf (now (rows .entry)) (now (order .entry)) (now (bytes .entry)) n) (rank (table .0) index) .answer))
-        × (now r ≡ bytesOf (sharedLook RefCount (overlayOf (now (rows .entry)) (now (order .entry)) (now (bytes .entry)) n) (rank (table .0) index) .entry)) ⌝ }
+    ensures { λ r. ⌜ HandsOut (sharedLook RefCount (sharedPart RefCount overlays (now (words .entry)) (now (bytes .entry))) (rank (table .0) index)) (now (number .exit)) (now r) ⌝ }
 {
     look(
         TableKind::RefCount,
-        rows,
-        order,
+        overlays,
+        words,
         bytes,
-        n,
         table.0,
         index,
         number,
     )
 }
 
-pub fn value<'a>(
-    rows: &'a [u64],
-    order: &'a [u64],
+pub fn ref_count_kept<'a>(
+    overlays: LogOverlays,
+    words: &'a [u64],
     bytes: &'a [u8],
-    n: usize,
+    table: RefCountTableId,
+    index: u64,
+) -> &'a [u8]
+    requires { ⌜ overlayKept RefCount 256 (sharedPart RefCount overlays (now words) (now bytes)) ≡ true ⌝ }
+    ensures { λ r. ⌜ now r ≡ bytesOf (sharedLook RefCount (sharedPart RefCount overlays (now (words .entry)) (now (bytes .entry))) (rank (table .0) index) .entry) ⌝ }
+{
+    look_kept(TableKind::RefCount, overlays, words, bytes, table.0, index)
+}
+
+pub fn value<'a>(
+    overlays: LogOverlays,
+    words: &'a [u64],
+    bytes: &'a [u8],
     table: ValueTableId,
     index: u64,
     dest: &mut [u8],
 ) -> Copied
-    ensures { λ r. ⌜ (r ≡ copiedBy (sharedLook Value (overlayOf (now (rows .entry)) (now (order .entry)) (now (bytes .entry)) n) (rank (table .0) index)))
-        × (now (dest .exit) ≡ copiedOver (bytesOf (sharedLook Value (overlayOf (now (rows .entry)) (now (order .entry)) (now (bytes .entry)) n) (rank (table .0) index) .entry)) (now (dest .entry))) ⌝ }
+    ensures { λ r. ⌜ CopiesOut (sharedLook Value (sharedPart Value overlays (now (words .entry)) (now (bytes .entry))) (rank (table .0) index)) r (now (dest .entry)) (now (dest .exit)) ⌝ }
 {
     let mut number: u64 = 0;
-    let stored = value_ref(rows, order, bytes, n, table, index, &mut number);
+    let stored = value_ref(overlays, words, bytes, table, index, &mut number);
     copy_value(number, stored, dest)
+}
+
+pub fn value_kept<'a>(
+    overlays: LogOverlays,
+    words: &'a [u64],
+    bytes: &'a [u8],
+    table: ValueTableId,
+    index: u64,
+    dest: &mut [u8],
+) -> Copied
+    requires { ⌜ overlayKept Value 256 (sharedPart Value overlays (now words) (now bytes)) ≡ true ⌝ }
+    ensures { λ r. ⌜ CopiesOut (sharedLook Value (sharedPart Value overlays (now (words .entry)) (now (bytes .entry))) (rank (table .0) index)) r (now (dest .entry)) (now (dest .exit)) ⌝ }
+{
+    let stored = value_ref_kept(overlays, words, bytes, table, index);
+    copy_value(0, stored, dest)
 }

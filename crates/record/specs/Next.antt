@@ -84,7 +84,7 @@ opened log r (stopped answer) = refused answer
 opened log r (got id end) = Took (record { action = BeginRecord; start = end; length = 0; reader = forwardTo log (beginning r id) end })
 
 -- a record's opening, tried at the reader's position: "then for reading 14, then faults in byte order". No directory has a say in it
--- (log.rs 1049-1063, `read_next`)
+-- (log.rs 1038-1063, `read_next`)
 unfoldable pub openingOf : List ℕ → LogReader → Step
 openingOf log r =
     if ltb (length log) (r .position) then refused BadArgument else

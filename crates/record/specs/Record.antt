@@ -165,7 +165,7 @@ openingBy validate tag =
     if eqb tag 7 then early 2 else
     refuse UnknownTag  -- 3
 
--- "At the position: no byte left gives 1. Otherwise a decision on the tag byte." (log.rs 1049-1063, `read_next`)
+-- "At the position: no byte left gives 1. Otherwise a decision on the tag byte." (log.rs 1038-1063, `read_next`)
 unfoldable pub opening : Bool → Format ℕ
 opening validate = do
   tag ← byte EndOfLog  -- 1

@@ -1,18 +1,6 @@
-// What can be wrong in a line of the directory's text, and how standard error is told.
+// How standard error is told what is wrong in a line of the directory's text.
+use directory_text::Fault;
 use libc::STDERR_FILENO;
-
-// A number is given by its place in its line, from 1 on.
-pub enum Fault {
-    None,
-    UnknownKind,
-    Missing(u8),
-    NotDecimal(u8),
-    TooLarge(u8),
-    MoreWords,
-    SeventeenthTable,
-    RuleBroken,
-    NameTaken,
-}
 
 fn tell_number(which: u8) {
     io::write_all(STDERR_FILENO, b"number ");
@@ -40,54 +28,45 @@ fn tell_number_fault(which: u8, text: &[u8]) {
     io::write_all(STDERR_FILENO, text);
 }
 
-impl Fault {
-    pub fn is_any(self) -> bool {
-        match self {
-            Fault::None => false,
-            _ => true,
+fn tell_text(fault: Fault) {
+    match fault {
+        Fault::None => {}
+        Fault::UnknownKind => {
+            io::write_all(
+                STDERR_FILENO,
+                b"the first word isn't index, value or refcount",
+            );
+        }
+        Fault::Missing(which) => tell_number_fault(which, b" is missing"),
+        Fault::NotDecimal(which) => tell_number_fault(which, b" is no decimal number"),
+        Fault::TooLarge(which) => tell_too_large(which),
+        Fault::MoreWords => {
+            io::write_all(STDERR_FILENO, b"a word stands behind the last number");
+        }
+        Fault::SeventeenthTable => {
+            io::write_all(STDERR_FILENO, b"a 17th table; a directory has at most 16");
+        }
+        Fault::RuleBroken => {
+            io::write_all(
+                STDERR_FILENO,
+                b"a rule is broken: column 0 to 7, count 1 to 4096, a value's length 1 to 512",
+            );
+        }
+        Fault::NameTaken => {
+            io::write_all(
+                STDERR_FILENO,
+                b"a line before has a table of this kind and number",
+            );
         }
     }
+}
 
-    fn tell_text(self) {
-        match self {
-            Fault::None => {}
-            Fault::UnknownKind => {
-                io::write_all(
-                    STDERR_FILENO,
-                    b"the first word isn't index, value or refcount",
-                );
-            }
-            Fault::Missing(which) => tell_number_fault(which, b" is missing"),
-            Fault::NotDecimal(which) => tell_number_fault(which, b" is no decimal number"),
-            Fault::TooLarge(which) => tell_too_large(which),
-            Fault::MoreWords => {
-                io::write_all(STDERR_FILENO, b"a word stands behind the last number");
-            }
-            Fault::SeventeenthTable => {
-                io::write_all(STDERR_FILENO, b"a 17th table; a directory has at most 16");
-            }
-            Fault::RuleBroken => {
-                io::write_all(
-                    STDERR_FILENO,
-                    b"a rule is broken: column 0 to 7, count 1 to 4096, a value's length 1 to 512",
-                );
-            }
-            Fault::NameTaken => {
-                io::write_all(
-                    STDERR_FILENO,
-                    b"a line before has a table of this kind and number",
-                );
-            }
-        }
-    }
-
-    pub fn tell(self, path: &[u8], line: u64) {
-        io::write_all(STDERR_FILENO, b"recover: ");
-        io::write_all(STDERR_FILENO, path);
-        io::write_all(STDERR_FILENO, b": line ");
-        io::print_decimal(STDERR_FILENO, line);
-        io::write_all(STDERR_FILENO, b": ");
-        self.tell_text();
-        io::write_all(STDERR_FILENO, b"\n");
-    }
+pub fn tell_fault(fault: Fault, path: &[u8], line: u64) {
+    io::write_all(STDERR_FILENO, b"recover: ");
+    io::write_all(STDERR_FILENO, path);
+    io::write_all(STDERR_FILENO, b": line ");
+    io::print_decimal(STDERR_FILENO, line);
+    io::write_all(STDERR_FILENO, b": ");
+    tell_text(fault);
+    io::write_all(STDERR_FILENO, b"\n");
 }

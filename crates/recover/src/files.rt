@@ -2,14 +2,14 @@
 ghost use Prim.Native.Nat.{_+_, _≤_};
 ghost use mathlib.Core.Path.{_≡_};
 ghost use lib.ListN.{length};
+use super::fault::tell_fault;
 use super::message::tell;
 use super::message::tell_lengths;
-use super::text::directory_of;
-use super::text::empty;
-use super::window::fill;
 use directory::Directory;
+use directory_text::directory_of;
 use libc::SEEK_END;
 use libc::SEEK_SET;
+use log_input::fill;
 
 // The longest text of a directory, and a byte more, by which a longer one shows.
 pub const TEXT_ROOM: usize = 65537;
@@ -28,7 +28,7 @@ pub enum Image {
 
 fn refused() -> Read {
     Read {
-        directory: empty(),
+        directory: Directory::new(),
         good: false,
     }
 }
@@ -37,7 +37,7 @@ fn read_text(path: &[u8], text: &[u8]) -> Read {
     let parsed = directory_of(text);
     let fault = parsed.fault;
     if fault.is_any() {
-        fault.tell(path, parsed.line);
+        tell_fault(fault, path, parsed.line);
         return refused();
     }
     let directory = parsed.directory;
@@ -115,6 +115,7 @@ pub fn read_image(path: &[u8], image: &mut [u8]) -> Image {
     let file = os::open_read(path);
     if file < 0 {
         if os::errno() == libc::ENOENT {
+            tell(path, b": there is no such file; an image of zeros is made");
             return Image::New;
         }
         os::fail(path);
@@ -143,12 +144,7 @@ fn new_name(path: &[u8], name: &mut [u8; 4100]) -> usize
 }
 
 // Writes a file whole, down to its device.
-fn write_file(name: &[u8], image: &[u8]) -> bool {
-    let file = os::open_overwrite(name);
-    if file < 0 {
-        os::fail(name);
-        return false;
-    }
+fn write_file(file: i32, name: &[u8], image: &[u8]) -> bool {
     let mut good = io::write_all(file, image);
     if good {
         good = 0 <= libc::fsync(file);
@@ -165,8 +161,15 @@ fn write_file(name: &[u8], image: &[u8]) -> bool {
     true
 }
 
+// A file of that name that is there already may be another run's.
 fn replace_by(name: &[u8], path: &[u8], image: &[u8]) -> bool {
-    if !write_file(name, image) {
+    let file = os::create(name);
+    if file < 0 {
+        os::fail(name);
+        tell(path, b": the image stays as it was");
+        return false;
+    }
+    if !write_file(file, name, image) {
         os::unlink(name);
         tell(path, b": the image stays as it was");
         return false;

@@ -1,32 +1,28 @@
 // Replays the records of a log onto the image of a directory's tables.
 mod fault;
 mod files;
-mod line;
 mod message;
-mod number;
-mod scan;
-mod text;
-mod window;
 
 ghost use Prim.Native.Nat.{_≤_};
 ghost use lib.ListN.{length};
 use directory::Directory;
+use directory_text::Number;
+use directory_text::number_of;
 use files::Image;
 use files::TEXT_ROOM;
 use files::read_directory;
 use files::read_image;
 use files::replace_image;
 use libc::STDOUT_FILENO;
+use log_input::Outcome;
+use log_input::ROOM;
+use log_input::Stop;
+use log_input::replay_file;
 use message::tell;
 use message::tell_answer;
+use message::tell_ids;
 use message::tell_lengths;
 use message::tell_record;
-use number::Number;
-use number::number_of;
-use window::Outcome;
-use window::ROOM;
-use window::Stop;
-use window::replay_file;
 
 // The image is replaced before anything is printed, so that whoever reads the line finds the image.
 fn finish(stop: Stop, path: &[u8], is_new: bool, image: &[u8])
@@ -45,6 +41,9 @@ fn finish(stop: Stop, path: &[u8], is_new: bool, image: &[u8])
     io::print_decimal(STDOUT_FILENO, stop.count);
     io::write_all(STDOUT_FILENO, b"\n");
     tell_answer(answer, stop.position);
+    if answer.number() == 5 {
+        tell_ids(stop.found, stop.expected);
+    }
 }
 
 fn replay_onto(

@@ -62,6 +62,15 @@ fn tell_meaning(answer: Answer) -> bool {
     }
 }
 
+// Which id stands there, and which was due.
+pub fn tell_ids(found: u64, expected: u64) {
+    io::write_all(STDERR_FILENO, b"recover: the record's id is ");
+    io::print_decimal(STDERR_FILENO, found);
+    io::write_all(STDERR_FILENO, b"; expected ");
+    io::print_decimal(STDERR_FILENO, expected);
+    io::write_all(STDERR_FILENO, b"\n");
+}
+
 // The answer's number, its meaning, and what became of the records.
 pub fn tell_answer(answer: Answer, position: u64) {
     io::print_decimal(STDERR_FILENO, answer.number() as u64);

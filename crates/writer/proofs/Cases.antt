@@ -8,10 +8,10 @@ use Rattle.checksum.specs.Checksum.{shift, bitsIn, updated, finished, checksumO
 use Rattle.answer.specs.declared.answer.Answer.the-variants.{Done, BadArgument}
 use Rattle.directory.specs.Table.{isTable, tableKept, description}
 use Rattle.directory.specs.Directory.{findFrom, findTable, stands, eachKept, apart, directoryKept}
-use Rattle.directory.specs.declared.table.TableKind.{TableKind}
 use Rattle.directory.specs.declared.table.TableKind.the-variants.{Index, Value, RefCount}
 use Rattle.directory.specs.declared.directory.Directory.{Directory}
-use Rattle.keys.specs.Keys.{markAt, keysOf, ruled, putIn}
+use Rattle.numbers.specs.Numbers.{putIn}
+use Rattle.keys.specs.Keys.{markAt, keysOf, ruled}
 use Rattle.overlay.specs.Rules.{rowRuled, keysRuled, overlayKept}
 use Rattle.overlay.specs.Overlay.{spotIn, standsIn, placeIn, putOver}
 use Rattle.memory.specs.Parts.{partsKept, putInto}

@@ -12,8 +12,8 @@ use Rattle.directory.specs.Table.{isTable, tableKept, description}
 use Rattle.directory.specs.Directory.{findFrom, findTable, stands, eachKept, apart, directoryKept}
 use Rattle.directory.specs.declared.table.TableKind.the-variants.{Index, Value, RefCount}
 use Rattle.directory.specs.declared.directory.Directory.{Directory}
+use Rattle.numbers.proofs.Laws.{left-of, right-of}
 use Rattle.keys.specs.Keys.{keysOf, allUnder, ruled}
-use Rattle.keys.proofs.Places.{left-of, right-of}
 use Rattle.overlay.specs.Rules.{rowRuled, keysRuled, overlayKept}
 use Rattle.memory.specs.Parts.{partsKept}
 use Rattle.change.specs.Change.{Change, changeOf, changeRuled, entryFits, entriesFit, dropsFit, changeFits, changeKept}

@@ -9,7 +9,6 @@ use Rattle.directory.specs.declared.table.TableKind.{TableKind}
 use Rattle.directory.specs.declared.table.TableKind.the-variants.{Index, Value, RefCount}
 use Rattle.memory.specs.Parts.{ofKind}
 use Rattle.change.specs.Change.{changeOf}
-use Rattle.change.specs.declared.drops.Drops.{Drops}
 use Rattle.change.specs.declared.change.LogChange.{LogChange}
 use Rattle.writer.specs.Typed.{Typed}
 

@@ -3,7 +3,7 @@ ghost use mathlib.Core.Path.{_≡_};
 ghost use mathlib.Core.Bool.{true};
 ghost use Prim.Native.Nat.{_≤_};
 ghost use lib.ListN.{length};
-ghost use Rattle.change.specs.Change.{changeOf, changeRuled, changeKept};
+ghost use Rattle.change.specs.Change.{changeOf, changeRuled};
 ghost use Rattle.output.specs.Put.{Wrote, put};
 ghost use Rattle.writer.specs.Bytes.{recordOf};
 ghost use Rattle.writer.specs.Flush.{flushedOf, flushToFileKept, flushToFile};

@@ -19,8 +19,9 @@ use Rattle.record.specs.Next.{isEnd}
 use Rattle.record.specs.declared.action.LogAction.{LogAction}
 use Rattle.effect.specs.Effect.{Written}
 use Rattle.replay.specs.Replay.{walked, recordAt}
+use Rattle.numbers.proofs.Laws.{both, left-of, right-of}
 use Rattle.keys.specs.Keys.{every, allUnder, ruled}
-use Rattle.keys.proofs.Places.{both, left-of, right-of, rule-under}
+use Rattle.keys.proofs.Places.{rule-under}
 use Rattle.overlay.specs.Rules.{slotSize, storedLength, rowRuled, overlayKept}
 use Rattle.overlay.proofs.Ruled.{shows}
 use Rattle.memory.specs.Parts.{spanOf, ofKind}

@@ -22,7 +22,7 @@ use Rattle.record.specs.Record.{Item, insertOf, maskedItem, droppedItem, inside
 use Rattle.record.specs.Next.{isEnd}
 use Rattle.record.specs.declared.action.LogAction.{LogAction}
 use Rattle.effect.specs.Effect.{written}
-use Rattle.keys.proofs.Places.{left-of, right-of}
+use Rattle.numbers.proofs.Laws.{left-of, right-of}
 use Rattle.overlay.specs.Rules.{markRuled}
 use Rattle.change.specs.Change.{markFits, keyFits}
 use Rattle.change.proofs.Fitting.{there}

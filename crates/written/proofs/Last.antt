@@ -23,7 +23,8 @@ use Rattle.effect.specs.Order.{Each}
 use Rattle.effect.proofs.Places.{stands}
 use Rattle.effect.proofs.Reach.{In, Under, one-table, drop-in}
 use Rattle.effect.proofs.Spots.{place-at, place-none}
-use Rattle.keys.specs.Keys.{rank, keyAt, keysOf, has}
+use Rattle.numbers.specs.Numbers.{has}
+use Rattle.keys.specs.Keys.{rank, keyAt, keysOf}
 use Rattle.keys.proofs.Places.{rule-under, rule-rises}
 use Rattle.overlay.specs.Rules.{slotSize, storedLength}
 use Rattle.memory.specs.Parts.{ofKind}

@@ -2,6 +2,7 @@
 pub mod Accepted
 pub mod Entries
 pub mod Here
+pub mod Inserted
 pub mod Last
 pub mod Lists
 pub mod Order

@@ -12,12 +12,14 @@ use Rattle.directory.specs.declared.directory.Directory.{Directory}
 use Rattle.effect.specs.Effect.{Written}
 use Rattle.effect.specs.Meaning.{says, lastSaid}
 use Rattle.effect.specs.Order.{Each}
-use Rattle.keys.specs.Keys.{has, every, above, ascends}
-use Rattle.keys.proofs.Places.{left-of, right-of, above-ascends}
+use Rattle.numbers.proofs.Sort.{above-ascends}
+use Rattle.numbers.proofs.Laws.{left-of, right-of}
+use Rattle.numbers.specs.Numbers.{has, above, ascends}
+use Rattle.keys.specs.Keys.{every}
 
 -- ---- members
 
-has-more : (q p : ℕ) (ps : List ℕ) → has q ps ≡ true → has q (p ∷ ps) ≡ true
+pub has-more : (q p : ℕ) (ps : List ℕ) → has q ps ≡ true → has q (p ∷ ps) ≡ true
 has-more q p ps h = by (eqb p q) refl
   where
     by : (b : Bool) → eqb p q ≡ b → (if b then true else has q ps) ≡ true

@@ -11,7 +11,8 @@ use Rattle.directory.specs.declared.table.TableKind.the-variants.{Index, Value,
 use Rattle.directory.specs.declared.directory.Directory.{Directory}
 use Rattle.record.specs.Record.{dropIndex, dropRefCount}
 use Rattle.effect.specs.Effect.{Written}
-use Rattle.keys.specs.Keys.{keyAt, keysOf, ascends}
+use Rattle.numbers.specs.Numbers.{ascends}
+use Rattle.keys.specs.Keys.{keyAt, keysOf}
 use Rattle.keys.proofs.Places.{rule-rises}
 use Rattle.overlay.specs.Rules.{Overlay}
 use Rattle.memory.specs.Parts.{ofKind}

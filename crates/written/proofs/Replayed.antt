@@ -24,8 +24,8 @@ use Rattle.effect.proofs.Demand2.{demand-2, touches-nothing-else}
 use Rattle.effect.proofs.Places.{stands}
 use Rattle.effect.proofs.Reach.{In}
 use Rattle.replay.specs.Replay.{walked, tablesKept, judged, replayedAs, imageAfter}
-use Rattle.keys.specs.Keys.{has}
-use Rattle.keys.proofs.Places.{both}
+use Rattle.numbers.proofs.Laws.{both}
+use Rattle.numbers.specs.Numbers.{has}
 use Rattle.overlay.specs.Rules.{slotSize}
 use Rattle.memory.specs.Parts.{ofKind}
 use Rattle.change.specs.Change.{Change, changeKept}

@@ -1,13 +1,13 @@
 -- What each action that a list is written as says of a byte of the image. Assumes nothing.
 use mathlib.Core.Path.{_≡_, refl, sym, ap, ap₂, _∙_}
-use mathlib.Core.Bool.{Bool, true, false, _&&_, not}
+use mathlib.Core.Bool.{Bool, true, false, _&&_}
 use mathlib.Core.List.{List, [], _∷_, _++_}
 use mathlib.Core.Option.{Option, none, some, orElse}
 use Prim.Native.Nat.{ℕ, zero, suc, _+_, _-_, _*_, _/_, _%_, _≤_, _<_}
 use native.Mathlib.Nat.{mul-le-mul-right, div-eq-of-lt-le, div-add-mod', div-lt-iff-lt-mul, mod-lt}
 use native.Mathlib.Omega.{arith}
 use lib.Count.{onesIn, ones}
-use lib.Dec.{eqb, leb, ltb}
+use lib.Dec.{eqb, leb}
 use lib.ListN.{length, take, drop, getD, length-append, length-drop, List·getD-append}
 use lib.Seq.{take-at, drop-at, getD-take, getD-drop, getD-append-add, length-take-le}
 use borrow.Author.Tests.{ltb-true, leb-true, lt-ltb, le-leb, eqb-true, eqb-false, ne-eqb}
@@ -28,10 +28,9 @@ use Rattle.effect.proofs.Exact.{record-said}
 use Rattle.effect.proofs.Places.{stands}
 use Rattle.effect.proofs.Reach.{Under, write-in}
 use Rattle.effect.proofs.Spots.{place-at}
-use Rattle.keys.proofs.Places.{both, left-of, right-of}
+use Rattle.numbers.proofs.Laws.{both, left-of, right-of}
 use Rattle.output.specs.Put.{le}
 use Rattle.output.proofs.Laws.{length-le, little-le}
-use Rattle.overlay.specs.Rules.{markRuled}
 use Rattle.writer.specs.Bytes.{setSlots, maskedBytes, payloadOf}
 use Rattle.writer.proofs.Sizes.{ones-in, length-slots}
 use Rattle.written.specs.Tables.{slotIn, tableStart, Width, eight, sixteen}

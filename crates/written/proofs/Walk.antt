@@ -25,8 +25,8 @@ use Rattle.effect.specs.Effect.{Written, written}
 use Rattle.replay.specs.Replay.{Walked, walked, addFirst, recordAt}
 use Rattle.replay.proofs.Opening.{record-opened}
 use Rattle.replay.proofs.Rest.{whole, last, more}
+use Rattle.numbers.proofs.Laws.{left-of, right-of}
 use Rattle.keys.specs.Keys.{every, allUnder}
-use Rattle.keys.proofs.Places.{left-of, right-of}
 use Rattle.output.specs.Put.{le, joined}
 use Rattle.output.proofs.Laws.{length-le}
 use Rattle.written.proofs.Here.{Here, front, on, room, number, tag-at}

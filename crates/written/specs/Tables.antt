@@ -14,7 +14,8 @@ use Rattle.directory.specs.declared.directory.Found.{Found}
 use Rattle.directory.specs.declared.directory.Found.the-variants.{At, Nothing}
 use Rattle.effect.specs.Meaning.{bit}
 use Rattle.replay.specs.Replay.{judged, imageAfter}
-use Rattle.keys.specs.Keys.{markAt, has}
+use Rattle.numbers.specs.Numbers.{has}
+use Rattle.keys.specs.Keys.{markAt}
 use Rattle.memory.specs.Parts.{ofKind}
 use Rattle.change.specs.Change.{Change}
 use Rattle.writer.specs.Bytes.{recordOf}
@@ -57,9 +58,13 @@ tableStart d kind number = startIn d (findTable d kind number)
 abbrev pub tableSize : Directory → TableKind → ℕ → ℕ
 tableSize d kind number = sizeIn (findTable d kind number)
 
--- where what lies under the key in place q begins: each index has a chunk of 512 or 1,024 bytes, or a value
+-- where what lies under an index of a table begins: each index has a chunk of 512 or 1,024 bytes, or a value
+abbrev pub startUnder : Directory → TableKind → ℕ → ℕ → ℕ
+startUnder d kind number index = tableStart d kind number + index * slotIn (findTable d kind number)
+
+-- and what lies under the key in place q
 abbrev pub keyStart : Directory → TableKind → Change → ℕ → ℕ
-keyStart d kind l q = tableStart d kind (tableAt kind l q) + indexAt kind l q * slotIn (findTable d kind (tableAt kind l q))
+keyStart d kind l q = startUnder d kind (tableAt kind l q) (indexAt kind l q)
 
 -- the image that replay leaves of the bytes that the list is written as, with whatever stands behind them
 abbrev pub imageLeft : Directory → Change → List ℕ → List ℕ → List ℕ

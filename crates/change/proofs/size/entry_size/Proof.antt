@@ -7,7 +7,7 @@ use lib.Dec.{leb}
 use borrow.Author.Tests.{leb-true}
 use Rattle.directory.specs.declared.table.TableKind.{TableKind}
 use Rattle.directory.specs.declared.table.TableKind.the-variants.{Value}
-use Rattle.keys.proofs.Places.{right-of}
+use Rattle.numbers.proofs.Laws.{right-of}
 use Rattle.overlay.specs.Rules.{markRuled}
 use borrow.Author.Needs.{needs}
 use Rattle.change.proofs.size.entry_size.Statement.{statement}

@@ -1,7 +1,7 @@
 -- `dispatch` meets its contract: a command has an opcode, and lies within its room. Assumes nothing.
 use native.Mathlib.Omega.{arith}
 use lib.ListN.{length-take, length-drop}
-use Rattle.lines.proofs.Cases.{command-of}
+use Rattle.compare_console.proofs.Cases.{command-of}
 use borrow.Author.Needs.{needs}
 use Rattle.compare.proofs.dispatch.dispatch.Statement.{statement}
 use Rattle.compare.proofs.dispatch.dispatch.Tie as tie

@@ -1,5 +1,5 @@
 -- `opened_with` meets its contract. Assumes nothing.
-use mathlib.Core.Path.{_≡_, refl, sym, ap, _∙_}
+use mathlib.Core.Path.{ap}
 use Rattle.files.specs.Moves.{withReplay, withNext}
 use Rattle.files.specs.declared.queues.Queues.{Queues}
 -- `opened_with` meets its contract. Assumes nothing.

@@ -23,17 +23,12 @@ returns-3 : tie.Need-returns-3
 unfolding belong
 returns-3 c = rw (sym (c .before .before .before .make-up .ensures) ∙ not-false _ (c .before .before .if1 .left), eq-eqb _ _ (c .before .if2 .left), ne-eqb _ _ (λ e. c .if3 .taken (div-eq-of-eq-mul-right (omega arith) e)))
 
-mul-if4 : tie.Need-mul-if4
-mul-if4 c = search needs
+mul-result : tie.Need-mul-result
+mul-result c = search needs
 
 returns-4 : tie.Need-returns-4
 unfolding belong
-returns-4 c = rw (sym (c .before .before .before .before .make-up .ensures) ∙ not-false _ (c .before .before .before .if1 .left), eq-eqb _ _ (c .before .before .if2 .left), ne-eqb _ _ (c .if4 .taken))
-
-returns-5 : tie.Need-returns-5
-unfolding belong
-returns-5 c = rw (sym (c .before .before .before .before .make-up .ensures) ∙ not-false _ (c .before .before .before .if1 .left), eq-eqb _ _ (c .before .before .if2 .left), eq-eqb _ _ (c .if4 .left))
+returns-4 c = rw (sym (c .before .before .before .make-up .ensures) ∙ not-false _ (c .before .before .if1 .left), eq-eqb _ _ (c .before .if2 .left))
 
 pub belong-spec : {M : Type 1} → statement M
-belong-spec =
-    tie.close (tie.spec make-up-requires returns returns-2 returns-3 mul-if4 returns-4 returns-5)
+belong-spec = tie.close (tie.spec make-up-requires returns returns-2 returns-3 mul-result returns-4)

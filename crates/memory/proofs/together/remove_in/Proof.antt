@@ -1,54 +1,55 @@
 -- `remove_in` meets its contract: the kind's two parts come back without the entry, the other parts as they were. Assumes nothing.
-use mathlib.Core.Path.{_≡_}
+use Prim.Native.Nat.{_≤_}
 use native.Mathlib.Omega.{arith}
 use lib.ListN.{length}
 use denote.Ref.{now}
 use Rattle.keys.specs.Keys.{rank}
 use Rattle.overlay.specs.Rules.{Overlay}
 use Rattle.overlay.specs.Overlay.{removedFrom}
-use Rattle.memory.specs.Parts.{wordsAll, bytesAll, removeFrom}
+use Rattle.memory.specs.Parts.{removeFrom}
 use Rattle.memory.proofs.Spans.{words-all, bytes-all}
-use Rattle.memory.proofs.Lent.{fits, lent-kept, comes-back}
+use Rattle.memory.proofs.Lent.{Fits, fits, lent-kept, comes-back}
 use borrow.Author.Needs.{needs}
 use Rattle.memory.proofs.together.remove_in.Statement.{statement}
 use Rattle.memory.proofs.together.remove_in.Tie as tie
 
--- the memories' lengths, by the rules
-abbrev WordsLong : tie.Start → Type 0
-WordsLong s = length (now (s .args .words)) ≡ wordsAll (s .args .holder)
+-- the kind's parts lie in the memories
+module _ (c : tie.After-span-of) where
+  abbrev start : tie.Start
+  start = c .before .before .before
 
-words-known : (s : tie.Start) → WordsLong s
-words-known s = words-all (s .args .holder) (s .args .counts) (now (s .args .words)) (now (s .args .bytes)) (s .pre)
+  lies : Fits (start .args .holder) (c .span-of .result)
+  lies = fits (start .args .holder) (start .args .kind) (c .span-of .result) (c .span-of .ensures)
 
-abbrev BytesLong : tie.Start → Type 0
-BytesLong s = length (now (s .args .bytes)) ≡ bytesAll (s .args .holder)
+  words-in : c .span-of .result .«words_end» ≤ length (now (start .args .words))
+  words-in = omega (arith, lies .words-in, words-all (start .args .holder) (start .args .counts) (now (start .args .words)) (now (start .args .bytes)) (start .pre))
 
-bytes-known : (s : tie.Start) → BytesLong s
-bytes-known s = bytes-all (s .args .holder) (s .args .counts) (now (s .args .words)) (now (s .args .bytes)) (s .pre)
+  bytes-in : c .span-of .result .«bytes_end» ≤ length (now (start .args .bytes))
+  bytes-in = omega (arith, lies .bytes-in, bytes-all (start .args .holder) (start .args .counts) (now (start .args .words)) (now (start .args .bytes)) (start .pre))
 
 span-of-requires : tie.Need-span-of-requires
 span-of-requires c κs = search needs
 
 mul-remove : tie.Need-mul-remove
-mul-remove c = let l = fits (c .before .before .before .args .holder) (c .before .before .before .args .kind) (c .span-of .result) (c .span-of .ensures) in omega (arith, l .words-rise, l .words-in, l .words-most)
+mul-remove c = let l = lies c in omega (arith, l .words-rise, l .words-in, l .words-most)
 
 sub-remove : tie.Need-sub-remove
-sub-remove c = fits (c .before .before .before .args .holder) (c .before .before .before .args .kind) (c .span-of .result) (c .span-of .ensures) .words-rise
+sub-remove c = lies c .words-rise
 
 part-remove-start : tie.Need-part-remove-start
-part-remove-start c = fits (c .before .before .before .args .holder) (c .before .before .before .args .kind) (c .span-of .result) (c .span-of .ensures) .words-rise
+part-remove-start c = lies c .words-rise
 
 part-remove-end : tie.Need-part-remove-end
-part-remove-end c = omega (arith, fits (c .before .before .before .args .holder) (c .before .before .before .args .kind) (c .span-of .result) (c .span-of .ensures) .words-in, words-known (c .before .before .before))
+part-remove-end c = words-in c
 
 sub-remove-2 : tie.Need-sub-remove-2
-sub-remove-2 c = fits (c .before .before .before .before .args .holder) (c .before .before .before .before .args .kind) (c .before .span-of .result) (c .before .span-of .ensures) .bytes-rise
+sub-remove-2 c = lies (c .before) .bytes-rise
 
 part-remove-start-2 : tie.Need-part-remove-start-2
-part-remove-start-2 c = fits (c .before .before .before .before .args .holder) (c .before .before .before .before .args .kind) (c .before .span-of .result) (c .before .span-of .ensures) .bytes-rise
+part-remove-start-2 c = lies (c .before) .bytes-rise
 
 part-remove-end-2 : tie.Need-part-remove-end-2
-part-remove-end-2 c = omega (arith, fits (c .before .before .before .before .args .holder) (c .before .before .before .before .args .kind) (c .before .span-of .result) (c .before .span-of .ensures) .bytes-in, bytes-known (c .before .before .before .before))
+part-remove-end-2 c = bytes-in (c .before)
 
 of-requires : tie.Need-of-requires
 of-requires c κs = search needs

@@ -10,16 +10,16 @@ use Rattle.query.proofs.copy.copy_over.Statement.{statement}
 use Rattle.query.proofs.copy.copy_over.Tie as tie
 
 slice-aggregate-copy-in : tie.Need-slice-aggregate-copy-in
-slice-aggregate-copy-in c = let a = c .before .before .before .before .before .args in sym (length-take-le (length (now (a .dest))) (now (a .bytes)) (omega arith))
+slice-aggregate-copy-in c = sym (length-take-le (length (now (c .before .before .before .before .before .args .dest))) (now (c .before .before .before .before .before .args .bytes)) (omega arith))
 
 copy-in-requires : tie.Need-copy-in-requires
-copy-in-requires c κs = let a = c .before .before .before .before .before .args in omega (arith, length-take-le (length (now (a .dest))) (now (a .bytes)) (omega arith))
+copy-in-requires c κs = omega (arith, length-take-le (length (now (c .before .before .before .before .before .args .dest))) (now (c .before .before .before .before .before .args .bytes)) (omega arith))
 
 same-length : tie.Need-same-length
 same-length c = search needs
 
 returns : tie.Need-returns
-returns c = let a = c .before .before .before .before .before .before .before .before .args in c .before .before .copy-in .ensures ∙ copied-short (now (a .bytes)) (now (a .dest)) (omega (arith, c .before .before .before .before .before .if1 .taken))
+returns c = c .before .before .copy-in .ensures ∙ copied-short (now (c .before .before .before .before .before .before .before .before .args .bytes)) (now (c .before .before .before .before .before .before .before .before .args .dest)) (omega (arith, c .before .before .before .before .before .if1 .taken))
 
 copy-in-requires-2 : tie.Need-copy-in-requires-2
 copy-in-requires-2 c κs = search needs
@@ -28,7 +28,7 @@ same-length-2 : tie.Need-same-length-2
 same-length-2 c = search needs
 
 returns-2 : tie.Need-returns-2
-returns-2 c = let a = c .before .before .before .before .before .before .before .args in c .before .before .copy-in2 .ensures ∙ copied-whole (now (a .bytes)) (now (a .dest)) (omega (arith, c .before .before .before .before .if1 .left))
+returns-2 c = c .before .before .copy-in2 .ensures ∙ copied-whole (now (c .before .before .before .before .before .before .before .args .bytes)) (now (c .before .before .before .before .before .before .before .args .dest)) (omega (arith, c .before .before .before .before .if1 .left))
 
 pub copy-over-spec : {M : Type 1} → statement M
 copy-over-spec =

@@ -1,20 +1,24 @@
--- `value` meets its contract: what `value_ref` answers with, copied. Assumes nothing.
-use mathlib.Core.Path.{_≡_, ap, _∙_}
+-- `value` meets its contract: what is found, copied. Assumes nothing.
+use mathlib.Core.Path.{ap, _∙_}
 use mathlib.Core.List.{List}
 use Prim.Native.Nat.{ℕ}
 use denote.Ref.{now}
-use lib.ListN.{length}
 use Rattle.directory.specs.declared.table.TableKind.the-variants.{Value}
 use Rattle.keys.specs.Keys.{rank}
-use Rattle.overlay.specs.Rules.{overlayOf}
-use Rattle.query.specs.Query.{copiedOver}
-use Rattle.query.proofs.Looks.{listed-copied}
+use Rattle.overlay.specs.Rules.{Overlay}
+use Rattle.query.specs.Query.{sharedPart, copiedOver}
+use Rattle.change.specs.Change.{Change, changeOf}
+use Rattle.query.proofs.Looks.{listed-copied, listed-done}
 use borrow.Author.Needs.{needs}
 use Rattle.query.proofs.listed.value.Statement.{statement}
 use Rattle.query.proofs.listed.value.Tie as tie
 
-long : (s : tie.Start) → length (s .args .list .«local_values» .order) ≡ 32
-long s = search needs
+module _ (s : tie.Start) where
+  abbrev own : Change
+  own = changeOf (s .args .list) (now (s .args .local-words)) (now (s .args .local-bytes))
+
+  abbrev over : Overlay
+  over = sharedPart Value (s .args .overlays) (now (s .args .words)) (now (s .args .bytes))
 
 value-ref-requires : tie.Need-value-ref-requires
 value-ref-requires c κs = search needs
@@ -26,13 +30,7 @@ same-length : tie.Need-same-length
 same-length c = search needs
 
 returns : tie.Need-returns
-returns c =
-    let a = c .before .before .before .before .before .before .before .before .before .before .before .args in
-    let o = overlayOf (now (a .rows)) (now (a .order)) (now (a .bytes)) (a .n) in (
-      c .before .before .copy-value .ensures .0
-          ∙ listed-copied Value (a .list .«local_values») (now (a .local)) o (rank (a .table .0) (a .index)) (long (c .before .before .before .before .before .before .before .before .before .before .before)) _ _ (c .before .before .before .before .value-ref .ensures .0) (c .before .before .before .before .value-ref .ensures .1),
-      c .before .before .copy-value .ensures .1 ∙ ap (λ (b : List ℕ). copiedOver b (now (a .dest))) (c .before .before .before .before .value-ref .ensures .1),
-    )
+returns c = (c .before .before .copy-value .ensures .0 ∙ listed-copied Value (own (c .before .before .before .before .before .before .before .before .before .before .before)) (over (c .before .before .before .before .before .before .before .before .before .before .before)) (rank (c .before .before .before .before .before .before .before .before .before .before .before .args .table .0) (c .before .before .before .before .before .before .before .before .before .before .before .args .index)) _ _ (c .before .before .before .before .value-ref .ensures), c .before .before .copy-value .ensures .1 ∙ ap (λ (b : List ℕ). copiedOver b (now (c .before .before .before .before .before .before .before .before .before .before .before .args .dest))) (c .before .before .before .before .value-ref .ensures .1))
 
 pub value-spec : {M : Type 1} → statement M
 value-spec = tie.close (tie.spec value-ref-requires copy-value-requires same-length returns)

@@ -1,25 +1,29 @@
--- `look` meets its contract: 13, or the part of the entry that is found. Assumes nothing.
-use Rattle.query.proofs.Looks.{shared-within, shared-refused, shared-found}
+-- `look` meets its contract: 13, or what is found. Assumes nothing.
 use mathlib.Core.Path.{_≡_, sym, ap, _∙_}
-use mathlib.Core.Bool.{true}
-use native.Mathlib.Omega.{arith}
+use mathlib.Core.Bool.{Bool}
+use Prim.Native.Nat.{ℕ}
 use borrow.Author.Tests.{not-true, not-false}
 use denote.Ref.{now}
 use Rattle.keys.specs.Keys.{rank}
 use Rattle.overlay.specs.Rules.{Overlay, overlayOf, overlayKept}
-use Rattle.overlay.proofs.Ruled.{shows}
-use Rattle.query.specs.Spots.{partOf}
-use Rattle.query.specs.declared.spot.Spot.{Spot}
+use Rattle.memory.specs.Parts.{countOf}
+use Rattle.query.specs.Query.{sharedPart}
+use Rattle.query.proofs.Looks.{shared-refused, shared-done}
 use borrow.Author.Needs.{needs}
 use Rattle.query.proofs.shared.look.Statement.{statement}
 use Rattle.query.proofs.shared.look.Tie as tie
 
--- the overlay handed in
-abbrev over : tie.Start → Overlay
-over s = overlayOf (now (s .args .rows)) (now (s .args .order)) (now (s .args .bytes)) (s .args .n)
+module _ (s : tie.Start) where
+  abbrev over : Overlay
+  over = sharedPart (s .args .kind) (s .args .overlays) (now (s .args .words)) (now (s .args .bytes))
 
-holds : (c : tie.Else1) → overlayKept (c .before .before .before .before .before .args .kind) (over (c .before .before .before .before .before)) ≡ true
-holds c = sym (c .before .kept .ensures) ∙ not-false _ (c .if1 .left)
+  -- the test, by the count that the code has
+  tested : (r : Bool) (n : ℕ) → r ≡ overlayKept (s .args .kind) 256 (overlayOf 256 (now (s .args .words)) (now (s .args .bytes)) n) → n ≡ countOf (s .args .kind) (s .args .overlays .counts)
+      → overlayKept (s .args .kind) 256 over ≡ r
+  tested r n e d = sym (e ∙ ap (λ (m : ℕ). overlayKept (s .args .kind) 256 (overlayOf 256 (now (s .args .words)) (now (s .args .bytes)) m)) d)
+
+of-requires : tie.Need-of-requires
+of-requires c κs = search needs
 
 kept-requires : tie.Need-kept-requires
 kept-requires c κs = search needs
@@ -34,29 +38,23 @@ part-result-end : tie.Need-part-result-end
 part-result-end c = search needs
 
 returns : tie.Need-returns
-returns c = let a = c .before .before .before .before .before .before .args in shared-refused (a .kind) (over (c .before .before .before .before .before .before)) (rank (a .table) (a .index)) (sym (c .before .before .kept .ensures) ∙ not-true _ (c .before .if1 .taken))
+returns c = shared-refused (c .before .before .before .before .before .before .before .args .kind) (over (c .before .before .before .before .before .before .before)) (rank (c .before .before .before .before .before .before .before .args .table) (c .before .before .before .before .before .before .before .args .index)) (tested (c .before .before .before .before .before .before .before) (c .before .before .kept .result) (c .before .before .before .of .result) (c .before .before .kept .ensures) (c .before .before .before .of .ensures) ∙ not-true _ (c .before .if1 .taken))
 
-find-requires : tie.Need-find-requires
-find-requires c κs = let k = shows (c .before .before .before .before .before .args .kind) (over (c .before .before .before .before .before)) (holds c) in (omega (arith, k .rows-long, k .room), omega (arith, k .order-long, k .room), k .in-order)
-
-part-requires : tie.Need-part-requires
-part-requires c κs = let a = c .before .before .before .before .before .before .args in rw (c .find .ensures) (shared-within (a .kind) (over (c .before .before .before .before .before .before)) (rank (a .table) (a .index)) (holds (c .before)))
+look-kept-requires : tie.Need-look-kept-requires
+look-kept-requires c κs = tested (c .before .before .before .before .before .before) (c .before .kept .result) (c .before .before .of .result) (c .before .kept .ensures) (c .before .before .of .ensures) ∙ not-false _ (c .if1 .left)
 
 returns-2 : tie.Need-returns-2
-returns-2 c =
-    let a = c .before .before .before .before .before .before .before .args in
-    let f = shared-found (a .kind) (over (c .before .before .before .before .before .before .before)) (rank (a .table) (a .index)) (holds (c .before .before)) in
-    (f .0, c .part .ensures ∙ ap (λ (s : Spot). partOf (a .kind) s (now (a .bytes))) (c .before .find .ensures) ∙ f .1)
+returns-2 c = shared-done (c .before .before .before .before .before .before .before .args .kind) (over (c .before .before .before .before .before .before .before)) (rank (c .before .before .before .before .before .before .before .args .table) (c .before .before .before .before .before .before .before .args .index)) (tested (c .before .before .before .before .before .before .before) (c .before .before .kept .result) (c .before .before .before .of .result) (c .before .before .kept .ensures) (c .before .before .before .of .ensures) ∙ not-false _ (c .before .if1 .left)) _ (c .look-kept .ensures)
 
 pub look-spec : {M : Type 1} → statement M
 look-spec =
     tie.close
     (tie.spec
+    of-requires
     kept-requires
     sub-result
     part-result-start
     part-result-end
     returns
-    find-requires
-    part-requires
+    look-kept-requires
     returns-2)

@@ -4,8 +4,6 @@ use lib.ListN.{length}
 use borrow.Author.Needs.{needs}
 use Rattle.recover.proofs.files.new_name.Statement.{statement}
 use Rattle.recover.proofs.files.new_name.Tie as tie
-use Rattle.recover.proofs.files.new_name.Reads as reads
-use Rattle.recover.proofs.files.new_name.Lts as lts
 
 abbrev Inv-loop : tie.InvT-loop
 Inv-loop path name₀ i₀ name i = i ≤ length path

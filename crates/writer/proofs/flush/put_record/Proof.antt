@@ -7,7 +7,7 @@ use lib.Seq.{length-take-le}
 use borrow.Author.Needs.{needs}
 use Rattle.checksum.specs.Checksum.{checksumOf}
 use Rattle.change.specs.Change.{Change, changeOf}
-use Rattle.output.specs.Put.{Wrote, le}
+use Rattle.output.specs.Put.{le}
 use Rattle.output.proofs.Laws.{_⨾_, wrote-front}
 use Rattle.writer.specs.Bytes.{body, recordOf}
 use Rattle.writer.specs.Inner.{changesOf}

@@ -4,8 +4,6 @@ use native.Mathlib.Omega.{arith}
 use lib.ListN.{length}
 use borrow.Author.Needs.{needs}
 use Rattle.memory.specs.declared.span.Holder.the-variants as holder
-use Rattle.memory.specs.declared.span.Span.{Span}
-use Rattle.memory.specs.Parts.{spanOf}
 use Rattle.memory.proofs.Spans.{words-all, bytes-all}
 use Rattle.memory.proofs.Lent.{Fits, fits, lent-is, lent-kept}
 use Rattle.writer.proofs.kinds.put_kind.Statement.{statement}

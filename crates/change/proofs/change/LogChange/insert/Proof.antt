@@ -1,3 +1,4 @@
+use mathlib.Core.Path.{refl}
 -- `LogChange::insert` meets its contract: 13, then as a list that keeps its rules. Assumes nothing.
 use mathlib.Core.Path.{sym, _∙_}
 use borrow.Author.Tests.{not-true, not-false}
@@ -10,13 +11,13 @@ use Rattle.change.proofs.change.LogChange.insert.Statement.{statement}
 use Rattle.change.proofs.change.LogChange.insert.Tie as tie
 
 kept-requires : tie.Need-kept-requires
-kept-requires c κs = search needs
+kept-requires c κs = tt
 
 same-length : tie.Need-same-length
-same-length c = search needs
+same-length c = refl
 
 same-length-2 : tie.Need-same-length-2
-same-length-2 c = search needs
+same-length-2 c = refl
 
 returns : tie.Need-returns
 unfolding inserted
@@ -26,10 +27,10 @@ insert-kept-requires : tie.Need-insert-kept-requires
 insert-kept-requires c κs = sym (c .before .before .before .kept .ensures) ∙ not-false _ (c .before .before .if1 .left)
 
 same-length-3 : tie.Need-same-length-3
-same-length-3 c = search needs
+same-length-3 c = c .before .before .before .words .given
 
 same-length-4 : tie.Need-same-length-4
-same-length-4 c = search needs
+same-length-4 c = c .before .bytes .given
 
 returns-2 : tie.Need-returns-2
 unfolding inserted

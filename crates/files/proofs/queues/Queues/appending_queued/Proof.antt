@@ -1,5 +1,5 @@
 -- `Queues::appending_queued` meets its contract. Assumes nothing.
-use Rattle.files.specs.Moves.{appendingQueued}
+use Rattle.files.proofs.Made.{queued-as}
 use borrow.Author.Needs.{needs}
 use Rattle.files.proofs.queues.Queues.appending_queued.Statement.{statement}
 use Rattle.files.proofs.queues.Queues.appending_queued.Tie as tie
@@ -15,8 +15,7 @@ none-requires : tie.Need-none-requires
 none-requires c κs = search needs
 
 returns : tie.Need-returns
-unfolding appendingQueued
-returns c = cc
+returns c = queued-as (c .before .before .args .self) _ _ (c .before .push-back .ensures) (c .none .ensures)
 
 pub appending-queued-spec : {M : Type 1} → statement M
 appending-queued-spec = tie.close (tie.spec push-back-requires none-requires returns)

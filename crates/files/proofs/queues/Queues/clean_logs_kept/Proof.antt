@@ -1,11 +1,7 @@
 -- `Queues::clean_logs_kept` meets its contract. Assumes nothing.
-use Prim.Native.Nat.{ℕ, _≤_}
 use native.Mathlib.Omega.{arith}
-use mathlib.Core.Path.{_≡_, refl, sym, ap, _∙_}
-use lib.ListN.{length}
-use Rattle.numbers.specs.Queue.{listOf, firstOf, allSortedIn}
+use mathlib.Core.Path.{ap}
 use Rattle.numbers.specs.declared.queue.NumberQueue.{NumberQueue}
-use Rattle.files.specs.Calls.{pooled, cleanupPooled, cleanLogsKept}
 use Rattle.files.proofs.Rule.{Sized, kept-facts}
 use Rattle.files.proofs.Clean.{moved-count, pooled-count, clean-as}
 use borrow.Author.Needs.{needs}

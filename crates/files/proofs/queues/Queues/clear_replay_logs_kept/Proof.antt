@@ -1,6 +1,6 @@
 -- `Queues::clear_replay_logs_kept` meets its contract. Assumes nothing.
 use native.Mathlib.Omega.{arith}
-use mathlib.Core.Path.{_≡_, refl, sym, ap, _∙_}
+use mathlib.Core.Path.{ap, _∙_}
 use Rattle.answer.specs.declared.answer.Answer.the-variants.{Done}
 use mathlib.Core.Bool.{false}
 use Rattle.files.specs.Moves.{withDirty, replayCleaned}

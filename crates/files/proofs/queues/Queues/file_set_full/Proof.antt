@@ -1,6 +1,6 @@
 -- `Queues::file_set_full` meets its contract. Assumes nothing.
 use Prim.Native.Nat.{ℕ}
-use mathlib.Core.Path.{_≡_, sym, ap, _∙_}
+use mathlib.Core.Path.{sym, ap, _∙_}
 use lib.Dec.{eqb}
 use Rattle.files.specs.Calls.{fileSetFull}
 use Rattle.files.proofs.Rule.{kept-facts}

@@ -1,9 +1,9 @@
 -- `Queues::files_used_up` meets its contract. Assumes nothing.
 use mathlib.Core.Bool.{Bool, _||_}
-use Prim.Native.Nat.{ℕ, _+_, _-_}
+use Prim.Native.Nat.{_+_}
 use lib.Dec.{leb}
 use native.Mathlib.Omega.{arith}
-use mathlib.Core.Path.{_≡_, refl, sym, ap, _∙_}
+use mathlib.Core.Path.{sym, ap, _∙_}
 use Rattle.files.specs.Queues.{sizeOf}
 use Rattle.files.specs.Calls.{filesUsedUp}
 use Rattle.files.proofs.Rule.{kept-facts, leb-moved}

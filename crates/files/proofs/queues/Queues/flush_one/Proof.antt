@@ -1,5 +1,5 @@
 -- `Queues::flush_one` meets its contract: the test, and what comes behind it. Assumes nothing.
-use mathlib.Core.Path.{_≡_, sym, ap, _∙_}
+use mathlib.Core.Path.{sym, _∙_}
 use borrow.Author.Tests.{not-true, not-false}
 use Rattle.words.proofs.Choices.{if-true, if-false}
 use Rattle.files.specs.Queues.{queuesKept}

@@ -1,14 +1,13 @@
 -- `Queues::flush_one_kept` meets its contract: a return at a time. Assumes nothing.
 use Prim.Native.Nat.{_<_, _≤_}
 use native.Mathlib.Omega.{arith}
-use mathlib.Core.Path.{_≡_, refl, sym, ap, _∙_}
+use mathlib.Core.Path.{sym, ap, _∙_}
 use Rattle.words.proofs.Choices.{if-true, if-false}
 use borrow.Author.Tests.{lt-ltb, le-ltb}
 use Rattle.files.specs.Queues.{sizeOf}
 use Rattle.files.specs.Calls.{flushes, flushOneKept}
 use Rattle.answer.specs.declared.answer.Answer.the-variants.{Done}
 use Rattle.files.specs.declared.queues.Queues.{Queues}
-use Rattle.files.specs.declared.writing.Flushed.{Flushed}
 use mathlib.Core.Bool.{true}
 use Rattle.files.proofs.Rule.{flush-room}
 use borrow.Author.Needs.{needs}

@@ -1,5 +1,5 @@
 -- `Queues::front_read` meets its contract. Assumes nothing.
-use Rattle.files.specs.Moves.{frontRead}
+use Rattle.files.proofs.Made.{read-as}
 use borrow.Author.Needs.{needs}
 use Rattle.files.proofs.queues.Queues.front_read.Statement.{statement}
 use Rattle.files.proofs.queues.Queues.front_read.Tie as tie
@@ -19,8 +19,7 @@ file-requires : tie.Need-file-requires
 file-requires c κs = search needs
 
 returns : tie.Need-returns
-unfolding frontRead
-returns c = cc
+returns c = read-as (c .before .before .before .args .self) _ _ _ (c .before .before .without-first .ensures) (c .before .front .ensures) (c .file .ensures)
 
 pub front-read-spec : {M : Type 1} → statement M
 front-read-spec = tie.close (tie.spec without-first-requires front-requires file-requires returns)

@@ -1,8 +1,7 @@
 -- `Queues::front_replayed` meets its contract. Assumes nothing.
-use Rattle.files.proofs.Rule.{front-as}
 -- `Queues::front_replayed` meets its contract. Assumes nothing.
-use Rattle.files.specs.Moves.{frontReplayed}
 use borrow.Author.Needs.{needs}
+use Rattle.files.proofs.Made.{front-as}
 use Rattle.files.proofs.queues.Queues.front_replayed.Statement.{statement}
 use Rattle.files.proofs.queues.Queues.front_replayed.Tie as tie
 use Rattle.files.proofs.queues.Queues.front_replayed.Reads as reads

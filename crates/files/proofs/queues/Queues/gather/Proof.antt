@@ -1,6 +1,5 @@
 -- `Queues::gather` meets its contract: the list grows by one place after the other. Assumes nothing.
 use native.Mathlib.Omega.{arith}
-use mathlib.Core.Path.{_≡_, refl, sym, ap, _∙_}
 use Rattle.files.specs.Queues.{filesOf}
 use Rattle.files.proofs.Rule.{Sized, room-facts}
 use Rattle.files.proofs.Gather.{holds-new, holds-push, holds-append}

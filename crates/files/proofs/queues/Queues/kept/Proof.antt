@@ -1,7 +1,7 @@
 -- `Queues::kept` meets its contract: the five rules in turn. Assumes nothing.
 use Prim.Native.Nat.{ℕ}
 use native.Mathlib.Omega.{arith}
-use mathlib.Core.Path.{_≡_, refl, sym, ap, _∙_}
+use mathlib.Core.Path.{_≡_, sym, ap, _∙_}
 use borrow.Author.Tests.{not-true, not-false}
 use lib.Dec.{ltb}
 use lib.ListN.{length}

@@ -2,7 +2,7 @@
 use Rattle.answer.specs.declared.answer.Answer.the-variants.{BadState}
 use Rattle.numbers.specs.declared.queue.NumberQueue.{NumberQueue}
 -- `Queues::kill_logs` meets its contract: the test, and what comes behind it. Assumes nothing.
-use mathlib.Core.Path.{_≡_, sym, ap, _∙_}
+use mathlib.Core.Path.{sym, ap, _∙_}
 use borrow.Author.Tests.{not-true, not-false}
 use Rattle.words.proofs.Choices.{if-true, if-false}
 use Rattle.files.specs.Queues.{queuesKept}

@@ -2,6 +2,7 @@
 use native.Mathlib.Omega.{arith}
 use Rattle.numbers.proofs.Laws.{one-le}
 use Rattle.files.proofs.Rule.{kept-facts}
+use Rattle.files.proofs.Made.{killed-as}
 use borrow.Author.Needs.{needs}
 use Rattle.files.proofs.queues.Queues.kill_logs_kept.Statement.{statement}
 use Rattle.files.proofs.queues.Queues.kill_logs_kept.Tie as tie
@@ -21,7 +22,7 @@ none-requires : tie.Need-none-requires
 none-requires c κs = search needs
 
 returns : tie.Need-returns
-returns c = cc
+returns c = killed-as (c .before .before .before .args .self) _ _ _ (c .before .before .push-if .ensures) (c .before .clear .ensures) (c .none .ensures)
 
 pub kill-logs-kept-spec : {M : Type 1} → statement M
 kill-logs-kept-spec = tie.close (tie.spec push-if-requires clear-requires none-requires returns)

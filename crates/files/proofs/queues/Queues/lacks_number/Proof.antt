@@ -1,5 +1,5 @@
 -- `Queues::lacks_number` meets its contract. Assumes nothing.
-use mathlib.Core.Path.{_≡_, refl, sym, ap, _∙_}
+use mathlib.Core.Path.{sym, _∙_}
 use Rattle.files.specs.Calls.{lacksNumber}
 use borrow.Author.Needs.{needs}
 use Rattle.files.proofs.queues.Queues.lacks_number.Statement.{statement}

@@ -1,4 +1,5 @@
 -- `Queues::not_cleaned` meets its contract. Assumes nothing.
+use Rattle.files.proofs.Made.{not-cleaned-as}
 use borrow.Author.Needs.{needs}
 use Rattle.files.proofs.queues.Queues.not_cleaned.Statement.{statement}
 use Rattle.files.proofs.queues.Queues.not_cleaned.Tie as tie
@@ -13,7 +14,7 @@ new-requires-2 : tie.Need-new-requires-2
 new-requires-2 c κs = search needs
 
 returns : tie.Need-returns
-returns c = cc
+returns c = not-cleaned-as (c .before .before .args .self) (c .before .before .args .answer) _ _ (c .before .new .ensures) (c .new2 .ensures)
 
 pub not-cleaned-spec : {M : Type 1} → statement M
 not-cleaned-spec = tie.close (tie.spec new-requires new-requires-2 returns)

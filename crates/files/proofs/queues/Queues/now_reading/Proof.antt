@@ -1,5 +1,5 @@
 -- `Queues::now_reading` meets its contract. Assumes nothing.
-use mathlib.Core.Path.{_≡_, refl, sym, ap, _∙_}
+use mathlib.Core.Path.{sym, _∙_}
 use Rattle.files.proofs.ReadOf.{now-on, now-front}
 use borrow.Author.Needs.{needs}
 use Rattle.files.proofs.queues.Queues.now_reading.Statement.{statement}

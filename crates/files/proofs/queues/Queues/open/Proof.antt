@@ -1,5 +1,5 @@
 -- `Queues::open` meets its contract. Assumes nothing.
-use mathlib.Core.Path.{_≡_, refl, sym, ap, _∙_}
+use mathlib.Core.Path.{ap, _∙_}
 use Rattle.files.specs.Open.{openedBy, openLogs}
 use Rattle.files.specs.declared.queues.Queues.{Queues}
 use borrow.Author.Needs.{needs}

@@ -1,11 +1,11 @@
 -- `Queues::read` meets its contract: what was opened, the end of a log, any other refusal. Assumes nothing.
-use Prim.Native.Nat.{ℕ, _+_}
+use Prim.Native.Nat.{_+_}
 use native.Mathlib.Omega.{arith}
-use mathlib.Core.Path.{_≡_, refl, sym, ap, _∙_}
+use mathlib.Core.Path.{sym, ap, _∙_}
 use Rattle.answer.specs.declared.answer.Answer.the-variants.{Done}
 use Rattle.numbers.specs.Numbers.{oneIf}
 use Rattle.files.specs.Moves.{readingCleaned}
-use Rattle.files.specs.Read.{nowReading, notRead, readBy}
+use Rattle.files.specs.Read.{notRead, readBy}
 use Rattle.files.specs.declared.queues.Queues.{Queues}
 use Rattle.files.proofs.Rule.{kept-facts}
 use Rattle.files.proofs.ReadOf.{now-room, at-end, not-at-end}
@@ -34,7 +34,7 @@ number-requires c κs = search needs
 reading-cleaned-requires : tie.Need-reading-cleaned-requires
 reading-cleaned-requires c κs =
     let q = c .before .before .before .before .before .before .args .self in
-    omega (arith, ap (λ (x : Queues). x .«cleanup_queue» .count + oneIf (x .reading .some)) (c .before .before .before .before .before .now-reading .ensures), now-room q (kept-facts q (c .before .before .before .before .before .before .pre .0) .room) (c .before .before .before .before .before .before .pre .1))
+    omega (arith, ap (λ (x : Queues). x .«cleanup_queue» .count + oneIf (x .reading .some)) (c .before .before .before .before .before .now-reading .ensures), now-room q (kept-facts q (c .before .before .before .before .before .before .pre .0) .room) (c .before .before .before .before .before .before .pre .1), kept-facts q (c .before .before .before .before .before .before .pre .0) .room .all)
 
 not-read-requires : tie.Need-not-read-requires
 not-read-requires c κs = search needs

@@ -1,5 +1,5 @@
 -- `Queues::read_next` meets its contract: the test, and what comes behind it. Assumes nothing.
-use mathlib.Core.Path.{_≡_, refl, sym, ap, _∙_}
+use mathlib.Core.Path.{sym, ap, _∙_}
 use borrow.Author.Tests.{not-true, not-false}
 use Rattle.words.proofs.Choices.{if-true, if-false}
 use Rattle.answer.specs.declared.answer.Answer.the-variants.{BadState}

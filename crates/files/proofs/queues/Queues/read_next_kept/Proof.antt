@@ -1,11 +1,10 @@
 -- `Queues::read_next_kept` meets its contract: a return at a time. Assumes nothing.
-use mathlib.Core.Bool.{Bool}
 use denote.Ref.{now}
-use mathlib.Core.Path.{_≡_, refl, sym, ap, _∙_}
+use mathlib.Core.Path.{sym, ap, _∙_}
 use Rattle.answer.specs.declared.answer.Answer.the-variants.{EndOfLog}
 use Rattle.record.specs.declared.reader.LogReader.{LogReader}
-use Rattle.record.specs.Next.{readerAt}
-use Rattle.files.specs.Read.{openingAt, notRead, readBy}
+use Rattle.record.specs.Next.{readerAt, openingOf}
+use Rattle.files.specs.Read.{notRead, readBy}
 use Rattle.files.proofs.ReadOf.{has-reading, has-waiting, next-reading, next-none, next-front}
 use borrow.Author.Needs.{needs}
 use Rattle.files.proofs.queues.Queues.read_next_kept.Statement.{statement}
@@ -14,14 +13,14 @@ use Rattle.files.proofs.queues.Queues.read_next_kept.Reads as reads
 use Rattle.files.proofs.queues.Queues.read_next_kept.Lts as lts
 use Rattle.files.proofs.queues.Queues.not_read.Reads as not-read-reads
 use Rattle.files.proofs.queues.Queues.read.Reads as read-reads
-use Rattle.files.proofs.read.opening_at.Reads as opening-at-reads
+use Rattle.record.proofs.reader.LogReader.open.Reads as open-reads
 use Rattle.record.proofs.reader.LogReader.new.Reads as new-reads
 
 new-requires : tie.Need-new-requires
 new-requires c κs = search needs
 
-opening-at-requires : tie.Need-opening-at-requires
-opening-at-requires c κs = ap (λ (r : LogReader). r .inside) (c .before .new .ensures)
+open-requires : tie.Need-open-requires
+open-requires c κs = search needs
 
 read-requires : tie.Need-read-requires
 read-requires c κs = (c .before .before .before .before .pre, has-reading (c .before .before .before .before .args .self) (c .before .if1 .taken))
@@ -29,8 +28,8 @@ read-requires c κs = (c .before .before .before .before .pre, has-reading (c .b
 returns : tie.Need-returns
 returns c =
     let a = c .before .before .before .before .before .args in
-    c .read .ensures ∙ ap (readBy (a .self) (c .before .before .before .new .result)) (c .before .opening-at .ensures)
-    ∙ ap (λ (r : LogReader). readBy (a .self) r (openingAt (now (a .log)) r)) (c .before .before .before .new .ensures) ∙ sym (next-reading (a .self) (now (a .log)) (a .position) (a .validate) (c .before .before .if1 .taken))
+    c .read .ensures ∙ ap (readBy (a .self) (c .before .before .before .new .result)) (c .before .open .ensures)
+    ∙ ap (λ (r : LogReader). readBy (a .self) r (openingOf (now (a .log)) r)) (c .before .before .before .new .ensures) ∙ sym (next-reading (a .self) (now (a .log)) (a .position) (a .validate) (c .before .before .if1 .taken))
 
 not-read-requires : tie.Need-not-read-requires
 not-read-requires c κs = search needs
@@ -43,8 +42,8 @@ returns-2 c =
 new-requires-2 : tie.Need-new-requires-2
 new-requires-2 c κs = search needs
 
-opening-at-requires-2 : tie.Need-opening-at-requires-2
-opening-at-requires-2 c κs = ap (λ (r : LogReader). r .inside) (c .new2 .ensures)
+open-requires-2 : tie.Need-open-requires-2
+open-requires-2 c κs = search needs
 
 read-requires-2 : tie.Need-read-requires-2
 read-requires-2 c κs = (c .before .before .before .before .before .before .before .pre, has-waiting (c .before .before .before .before .before .before .before .args .self) (c .before .before .before .before .if1 .left) (c .before .before .if2 .left))
@@ -52,8 +51,8 @@ read-requires-2 c κs = (c .before .before .before .before .before .before .befo
 returns-3 : tie.Need-returns-3
 returns-3 c =
     let a = c .before .before .before .before .before .before .before .before .args in
-    c .read2 .ensures ∙ ap (λ (r : LogReader). readBy (a .self) r (c .before .opening-at2 .result)) (c .before .before .before .before .before .before .new .ensures)
-    ∙ ap (readBy (a .self) (readerAt (a .position) (a .validate))) (c .before .opening-at2 .ensures ∙ ap (openingAt (now (a .log))) (c .before .before .new2 .ensures))
+    c .read2 .ensures ∙ ap (λ (r : LogReader). readBy (a .self) r (c .before .open2 .result)) (c .before .before .before .before .before .before .new .ensures)
+    ∙ ap (readBy (a .self) (readerAt (a .position) (a .validate))) (c .before .open2 .ensures ∙ ap (openingOf (now (a .log))) (c .before .before .new2 .ensures))
     ∙ sym (next-front (a .self) (now (a .log)) (a .position) (a .validate) (c .before .before .before .before .before .if1 .left) (c .before .before .before .if2 .left))
 
 pub read-next-kept-spec : {M : Type 1} → statement M
@@ -61,12 +60,12 @@ read-next-kept-spec =
     tie.close
     (tie.spec
     new-requires
-    opening-at-requires
+    open-requires
     read-requires
     returns
     not-read-requires
     returns-2
     new-requires-2
-    opening-at-requires-2
+    open-requires-2
     read-requires-2
     returns-3)

@@ -1,5 +1,5 @@
 -- `Queues::reading_cleaned` meets its contract. Assumes nothing.
-use Rattle.files.specs.Moves.{readingCleaned}
+use Rattle.files.proofs.Made.{cleaned-as}
 use borrow.Author.Needs.{needs}
 use Rattle.files.proofs.queues.Queues.reading_cleaned.Statement.{statement}
 use Rattle.files.proofs.queues.Queues.reading_cleaned.Tie as tie
@@ -15,8 +15,7 @@ none-requires : tie.Need-none-requires
 none-requires c κs = search needs
 
 returns : tie.Need-returns
-unfolding readingCleaned
-returns c = cc
+returns c = cleaned-as (c .before .before .args .self) _ _ (c .before .push-if .ensures) (c .none .ensures)
 
 pub reading-cleaned-spec : {M : Type 1} → statement M
 reading-cleaned-spec = tie.close (tie.spec push-if-requires none-requires returns)

@@ -1,5 +1,5 @@
 -- `Queues::replay_cleaned` meets its contract. Assumes nothing.
-use Rattle.files.specs.Moves.{replayCleaned}
+use Rattle.files.proofs.Made.{emptied-as}
 use borrow.Author.Needs.{needs}
 use Rattle.files.proofs.queues.Queues.replay_cleaned.Statement.{statement}
 use Rattle.files.proofs.queues.Queues.replay_cleaned.Tie as tie
@@ -15,8 +15,7 @@ clear-requires : tie.Need-clear-requires
 clear-requires c κs = search needs
 
 returns : tie.Need-returns
-unfolding replayCleaned
-returns c = cc
+returns c = emptied-as (c .before .before .args .self) _ _ (c .before .append .ensures) (c .clear .ensures)
 
 pub replay-cleaned-spec : {M : Type 1} → statement M
 replay-cleaned-spec = tie.close (tie.spec append-requires clear-requires returns)

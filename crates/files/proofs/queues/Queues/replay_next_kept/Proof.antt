@@ -1,15 +1,15 @@
 -- `Queues::replay_next_kept` meets its contract: a return at a time. Assumes nothing.
-use Prim.Native.Nat.{ℕ}
 use native.Mathlib.Omega.{arith}
-use mathlib.Core.Path.{_≡_, refl, sym, ap, _∙_}
+use mathlib.Core.Path.{sym, ap, _∙_}
 use Rattle.words.proofs.Choices.{if-true, if-false}
 use lib.Dec.{eqb}
 use borrow.Author.Tests.{eq-eqb, ne-eqb}
 use Rattle.answer.specs.declared.answer.Answer.the-variants.{Done}
-use Rattle.files.specs.Moves.{readingCleaned, frontReplayed}
+use Rattle.files.specs.Moves.{frontReplayed}
 use Rattle.files.specs.Calls.{noReplay, replayNextKept}
 use Rattle.files.specs.declared.queues.Queues.{Queues}
-use Rattle.files.proofs.Rule.{kept-facts, cleaned-replay, replayed-as}
+use Rattle.files.proofs.Made.{replayed-as}
+use Rattle.files.proofs.Rule.{kept-facts, cleaned-replay}
 use borrow.Author.Needs.{needs}
 use Rattle.files.proofs.queues.Queues.replay_next_kept.Statement.{statement}
 use Rattle.files.proofs.queues.Queues.replay_next_kept.Tie as tie

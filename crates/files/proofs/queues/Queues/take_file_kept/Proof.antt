@@ -1,8 +1,6 @@
 -- `Queues::take_file_kept` meets its contract: a return at a time. Assumes nothing.
-use Prim.Native.Nat.{_+_}
-use mathlib.Core.Path.{_≡_, refl, sym, ap, _∙_}
+use mathlib.Core.Path.{sym, _∙_}
 use Rattle.words.proofs.Choices.{if-true, if-false}
-use Rattle.files.specs.Queues.{sizeOf}
 use Rattle.files.specs.Calls.{fileSetFull, filesUsedUp, takeFileKept}
 use borrow.Author.Needs.{needs}
 use Rattle.files.proofs.queues.Queues.take_file_kept.Statement.{statement}

@@ -1,16 +1,16 @@
 -- `Queues::taken` meets its contract: from where the file comes. Assumes nothing.
 use Prim.Native.Nat.{ℕ, _+_}
 use native.Mathlib.Omega.{arith}
-use mathlib.Core.Path.{_≡_, refl, sym, ap, _∙_}
+use mathlib.Core.Path.{sym, ap, _∙_}
 use Rattle.words.proofs.Choices.{if-true, if-false}
 use lib.Dec.{eqb}
 use borrow.Author.Tests.{eq-eqb, ne-eqb}
 use Rattle.files.specs.Queues.{sizeOf}
-use Rattle.files.specs.Moves.{withPool, withNext}
+use Rattle.files.specs.Moves.{withNext}
 use Rattle.files.specs.Calls.{grown, tookFrom, takenBy}
-use Rattle.files.specs.declared.queues.Queues.{Queues}
-use Rattle.files.specs.declared.writing.FileSource.the-variants.{Appending, New, Pool}
-use Rattle.files.proofs.Rule.{kept-facts, number-left, size-low, taken-as}
+use Rattle.files.specs.declared.writing.FileSource.the-variants.{Appending, New}
+use Rattle.files.proofs.Made.{taken-as}
+use Rattle.files.proofs.Rule.{kept-facts, number-left, size-low}
 use borrow.Author.Needs.{needs}
 use Rattle.files.proofs.queues.Queues.taken.Statement.{statement}
 use Rattle.files.proofs.queues.Queues.taken.Tie as tie

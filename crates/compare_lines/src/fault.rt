@@ -1,0 +1,15 @@
+// Why the program stops.
+pub enum Fault {
+    NoDigit,
+    OddDigits,
+    LongLine,
+    ShortCommand,
+    LongCommand,
+    LongBlob,
+    LongImage,
+    LongOutput,
+    ManyNames,
+    UnknownKind,
+    NoInput,
+    NoOutput,
+}

@@ -1,0 +1,109 @@
+// NEWLIST, INS_INDEX, INS_VALUE, INS_REF, DROP and DROP_REF: the calls on a list.
+ghost use Prim.Native.Nat.{_≤_};
+use super::listed::Listed;
+use super::listed::replied;
+use change::Changed;
+use change::LogChange;
+use compare_lines::Blob;
+use compare_lines::Fault;
+use compare_lines::Reply;
+use compare_lines::check_blob;
+use compare_lines::last_blob;
+use compare_lines::put;
+use compare_lines::wrong_length;
+use directory::Directory;
+use directory::IndexTableId;
+use directory::RefCountTableId;
+use directory::TableKind;
+use directory::ValueTableId;
+
+pub fn new_list(list: LogChange, command: &[u8], answer: &mut [u8; 65536]) -> Listed {
+    if command.len() != 9 {
+        return replied(list, wrong_length(command.len(), 9));
+    }
+    put(answer, 0, 0, 1);
+    replied(LogChange::new(words::u64_at(command, 1)), Reply::Line(1))
+}
+
+fn answered(done: Changed, answer: &mut [u8; 65536]) -> Listed {
+    let number = done.answer;
+    put(answer, 0, number.number() as u64, 1);
+    let after = done.list;
+    replied(after, Reply::Line(1))
+}
+
+// In front of a chunk stands its slot; a value has none.
+fn blob_at(kind: TableKind) -> usize
+    ensures { λ r. ⌜ r ≤ 12 ⌝ }
+{
+    match kind {
+        TableKind::Index => 12,
+        TableKind::Value => 11,
+        TableKind::RefCount => 12,
+    }
+}
+
+pub fn insert(
+    list: LogChange,
+    directory: Directory,
+    kind: TableKind,
+    command: &[u8],
+    local: &mut [u8; 49152],
+    answer: &mut [u8; 65536],
+) -> Listed {
+    if command.len() < 12 {
+        return replied(list, Reply::Broken(Fault::ShortCommand));
+    }
+    let at = blob_at(kind);
+    if let Blob::Broken(fault) = check_blob(command, at) {
+        return replied(list, Reply::Broken(fault));
+    }
+    let number = words::u16_at(command, 1);
+    let index = words::u64_at(command, 3);
+    let slot = command[11];
+    let bytes = last_blob(command, at);
+    match kind {
+        TableKind::Index => {
+            let table = IndexTableId::from_u16(number);
+            answered(
+                list.insert_index(directory, local, table, index, slot, bytes),
+                answer,
+            )
+        }
+        TableKind::Value => {
+            let table = ValueTableId::from_u16(number);
+            answered(
+                list.insert_value(directory, local, table, index, bytes),
+                answer,
+            )
+        }
+        TableKind::RefCount => {
+            let table = RefCountTableId::from_u16(number);
+            answered(
+                list.insert_ref_count(directory, local, table, index, slot, bytes),
+                answer,
+            )
+        }
+    }
+}
+
+// No value table is dropped: any other kind is that of an index table.
+pub fn drop_table(
+    list: LogChange,
+    directory: Directory,
+    kind: TableKind,
+    command: &[u8],
+    local: &[u8; 49152],
+    answer: &mut [u8; 65536],
+) -> Listed {
+    if command.len() != 3 {
+        return replied(list, wrong_length(command.len(), 3));
+    }
+    let number = words::u16_at(command, 1);
+    if let TableKind::RefCount = kind {
+        let table = RefCountTableId::from_u16(number);
+        return answered(list.drop_ref_count_table(directory, local, table), answer);
+    }
+    let table = IndexTableId::from_u16(number);
+    answered(list.drop_table(directory, local, table), answer)
+}

@@ -1,0 +1,36 @@
+// What these commands keep, besides the memories of the overlays.
+use change::LogChange;
+use compare_lines::Reply;
+use files::Queues;
+use overlay::LogOverlays;
+
+pub struct Living {
+    pub overlays: LogOverlays,
+    pub next_record_id: u64,
+}
+
+pub struct Lived {
+    pub list: LogChange,
+    pub queues: Queues,
+    pub living: Living,
+    pub reply: Reply,
+}
+
+impl Living {
+    // As an open leaves it.
+    pub fn new() -> Living {
+        Living {
+            overlays: LogOverlays::new(),
+            next_record_id: 1,
+        }
+    }
+}
+
+pub fn replied(list: LogChange, queues: Queues, living: Living, reply: Reply) -> Lived {
+    Lived {
+        list: list,
+        queues: queues,
+        living: living,
+        reply: reply,
+    }
+}

@@ -1,0 +1,230 @@
+// One command, handed to the library that knows its opcode; the last one answers for those that none knows.
+ghost use Prim.Native.Nat.{_≤_};
+ghost use lib.ListN.{length};
+ghost use Rattle.compare_reading.specs.Bounds.{Kept};
+use super::session::Served;
+use super::session::Session;
+
+fn read(
+    session: Session,
+    command: &[u8],
+    log: &mut [u8; 80000],
+    image: &mut [u8; 300000],
+    answer: &mut [u8; 65536],
+) -> Served
+    requires { ⌜ (Kept (session .reading)) × (1 ≤ length (now command)) ⌝ }
+    ensures { λ r. ⌜ Kept (r .session .reading) ⌝ }
+{
+    let before = session.reading;
+    let done = compare_reading::serve(before, command, log, image, answer);
+    let after = done.reading;
+    let mut kept = session;
+    kept.reading = after;
+    let reply = done.reply;
+    kept.replied(reply)
+}
+
+fn queue(session: Session, command: &[u8], log: &[u8; 80000], answer: &mut [u8; 65536]) -> Served
+    requires { ⌜ (Kept (session .reading)) × (1 ≤ length (now command)) ⌝ }
+    ensures { λ r. ⌜ Kept (r .session .reading) ⌝ }
+{
+    let reading = session.reading;
+    let logged = reading.logged;
+    let room: &[u8] = log;
+    let before = session.queues;
+    let done = compare_queues::serve(before, command, &room[0..logged], answer);
+    let after = done.queues;
+    let mut kept = session;
+    kept.queues = after;
+    let reply = done.reply;
+    kept.replied(reply)
+}
+
+fn list(
+    session: Session,
+    command: &[u8],
+    local: &mut [u8; 49152],
+    written: &mut [u8; 60000],
+    answer: &mut [u8; 65536],
+) -> Served
+    requires { ⌜ (Kept (session .reading)) × (1 ≤ length (now command)) ⌝ }
+    ensures { λ r. ⌜ Kept (r .session .reading) ⌝ }
+{
+    let reading = session.reading;
+    let directory = reading.directory;
+    let before = session.list;
+    let done = compare_lists::serve(before, directory, command, local, written, answer);
+    let after = done.list;
+    let mut kept = session;
+    kept.list = after;
+    let reply = done.reply;
+    kept.replied(reply)
+}
+
+fn on_overlays(
+    session: Session,
+    command: &[u8],
+    local: &[u8; 49152],
+    written: &mut [u8; 60000],
+    irows: &mut [u64; 1024],
+    iorder: &mut [u64; 256],
+    ibytes: &mut [u8; 131072],
+    vrows: &mut [u64; 1024],
+    vorder: &mut [u64; 256],
+    vbytes: &mut [u8; 131072],
+    crows: &mut [u64; 1024],
+    corder: &mut [u64; 256],
+    cbytes: &mut [u8; 262144],
+    answer: &mut [u8; 65536],
+) -> Served
+    requires { ⌜ (Kept (session .reading)) × (1 ≤ length (now command)) ⌝ }
+    ensures { λ r. ⌜ Kept (r .session .reading) ⌝ }
+{
+    let list = session.list;
+    let living = session.living;
+    let before = living.overlays;
+    let done = compare_overlays::serve(
+        list,
+        before,
+        command,
+        local,
+        written,
+        irows,
+        iorder,
+        ibytes,
+        vrows,
+        vorder,
+        vbytes,
+        crows,
+        corder,
+        cbytes,
+        answer,
+    );
+    let after = done.overlays;
+    let mut kept = session;
+    let mut lived = living;
+    lived.overlays = after;
+    kept.living = lived;
+    let reply = done.reply;
+    kept.replied(reply)
+}
+
+fn live(
+    session: Session,
+    command: &[u8],
+    log: &[u8; 80000],
+    local: &[u8; 49152],
+    written: &mut [u8; 60000],
+    irows: &mut [u64; 1024],
+    iorder: &mut [u64; 256],
+    ibytes: &mut [u8; 131072],
+    vrows: &mut [u64; 1024],
+    vorder: &mut [u64; 256],
+    vbytes: &mut [u8; 131072],
+    crows: &mut [u64; 1024],
+    corder: &mut [u64; 256],
+    cbytes: &mut [u8; 262144],
+    answer: &mut [u8; 65536],
+) -> Served
+    requires { ⌜ (Kept (session .reading)) × (1 ≤ length (now command)) ⌝ }
+    ensures { λ r. ⌜ Kept (r .session .reading) ⌝ }
+{
+    let reading = session.reading;
+    let directory = reading.directory;
+    let logged = reading.logged;
+    let room: &[u8] = log;
+    let before = session.list;
+    let queues = session.queues;
+    let living = session.living;
+    let done = compare_log::serve(
+        before,
+        queues,
+        living,
+        directory,
+        command,
+        &room[0..logged],
+        local,
+        written,
+        irows,
+        iorder,
+        ibytes,
+        vrows,
+        vorder,
+        vbytes,
+        crows,
+        corder,
+        cbytes,
+        answer,
+    );
+    let after = done.list;
+    let moved = done.queues;
+    let lived = done.living;
+    let mut kept = session;
+    kept.list = after;
+    kept.queues = moved;
+    kept.living = lived;
+    let reply = done.reply;
+    kept.replied(reply)
+}
+
+pub fn serve(
+    session: Session,
+    command: &[u8],
+    log: &mut [u8; 80000],
+    image: &mut [u8; 300000],
+    local: &mut [u8; 49152],
+    written: &mut [u8; 60000],
+    irows: &mut [u64; 1024],
+    iorder: &mut [u64; 256],
+    ibytes: &mut [u8; 131072],
+    vrows: &mut [u64; 1024],
+    vorder: &mut [u64; 256],
+    vbytes: &mut [u8; 131072],
+    crows: &mut [u64; 1024],
+    corder: &mut [u64; 256],
+    cbytes: &mut [u8; 262144],
+    answer: &mut [u8; 65536],
+) -> Served
+    requires { ⌜ (Kept (session .reading)) × (1 ≤ length (now command)) ⌝ }
+    ensures { λ r. ⌜ Kept (r .session .reading) ⌝ }
+{
+    let opcode = command[0];
+    match opcode {
+        0x01..=0x04 | 0x0b..=0x0f => read(session, command, log, image, answer),
+        0x05..=0x0a | 0x21 | 0x23 | 0x24 | 0xf0 => list(session, command, local, written, answer),
+        0x14..=0x17 | 0x19 | 0x1f => queue(session, command, log, answer),
+        0x1a | 0x1b | 0x1d | 0x1e | 0x22 => on_overlays(
+            session,
+            command,
+            local,
+            written,
+            irows,
+            iorder,
+            ibytes,
+            vrows,
+            vorder,
+            vbytes,
+            crows,
+            corder,
+            cbytes,
+            answer,
+        ),
+        _ => live(
+            session,
+            command,
+            log,
+            local,
+            written,
+            irows,
+            iorder,
+            ibytes,
+            vrows,
+            vorder,
+            vbytes,
+            crows,
+            corder,
+            cbytes,
+            answer,
+        ),
+    }
+}

@@ -1,0 +1,4 @@
+-- Laws that belong to no one function.
+mod Laws
+mod Parts
+mod Whole

@@ -1,0 +1,5 @@
+pub mod Inner
+pub mod Line
+pub mod Number
+pub mod Scan
+pub mod Text

@@ -1,0 +1,20 @@
+// The calls that take a directory, over one that is lent as a slice of descriptions.
+mod entries;
+mod lists;
+mod slice;
+mod tables;
+
+pub use entries::next;
+pub use entries::replay;
+pub use entries::run;
+pub use lists::drop_ref_count_table;
+pub use lists::drop_table;
+pub use lists::insert_index;
+pub use lists::insert_ref_count;
+pub use lists::insert_value;
+pub use lists::record_size;
+pub use slice::gather;
+pub use tables::find;
+pub use tables::image_length;
+pub use tables::kept;
+pub use tables::start;

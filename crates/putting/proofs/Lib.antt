@@ -1,0 +1,9 @@
+-- The laws, for other crates to cite.
+pub mod Crowds
+pub mod OneKind
+pub mod Kept
+pub mod LastIds
+pub mod Meaning
+pub mod Parts
+pub mod Places
+pub mod Puts
