@@ -46,9 +46,15 @@ queuesFrom w = if queuesFormed w then queuesIn w else brokenQueues
 abbrev pub queueWords : NumberQueue → List ℕ
 queueWords q = q .count ∷ q .numbers
 
+-- the appending file, the read queue and the file being read; the three queues behind them
+abbrev pub frontWords : Queues → List ℕ
+frontWords q =
+    (oneIf (q .appending .some) ∷ q .appending .id ∷ q .appending .size ∷ []) ++ queueWords (q .«read_queue»)
+    ++ (oneIf (q .reading .some) ∷ q .reading .id ∷ [])
+
+abbrev pub behindWords : Queues → List ℕ
+behindWords q = queueWords (q .«cleanup_queue») ++ queueWords (q .«log_pool») ++ queueWords (q .«replay_queue»)
+
 -- and back
 abbrev pub queuesWords : Queues → List ℕ
-queuesWords q =
-    (oneIf (q .appending .some) ∷ q .appending .id ∷ q .appending .size ∷ []) ++ queueWords (q .«read_queue»)
-    ++ (oneIf (q .reading .some) ∷ q .reading .id ∷ []) ++ queueWords (q .«cleanup_queue») ++ queueWords (q .«log_pool»)
-    ++ queueWords (q .«replay_queue») ++ q .«replay_ids» ++ (q .«next_log_id» ∷ oneIf (q .dirty) ∷ [])
+queuesWords q = frontWords q ++ behindWords q ++ q .«replay_ids» ++ (q .«next_log_id» ∷ oneIf (q .dirty) ∷ [])

@@ -1,22 +1,22 @@
-// The file queues from words and back.
+// The file queues from words and back: any words load, those that are no queues as queues that break a rule.
 ghost use mathlib.Core.Path.{_≡_};
 ghost use mathlib.Core.Bool.{true};
 ghost use Prim.Native.Nat.{_+_, _≤_};
 ghost use lib.ListN.{length};
 ghost use Rattle.answer.specs.Answer.{numberOf};
 ghost use Rattle.output.specs.Put.{Wrote};
 ghost use Rattle.host_words.specs.Head.{headAfter};
-ghost use Rattle.host_words.specs.Queues.{queuesSize, queuesFormed, queueFrom, brokenQueues, queuesIn, queuesFrom, queueWords, queuesWords};
-use super::writing::flag;
-use super::writing::number;
-use super::writing::put_word;
-use super::writing::put_words;
-use super::writing::stored;
+ghost use Rattle.host_queues.specs.Queues.{queuesSize, queuesFormed, queueFrom, brokenQueues, queuesIn, queuesFrom, queueWords, frontWords, behindWords, queuesWords};
 use answer::Answer;
 use files::Appending;
 use files::NumberQueue;
 use files::Queues;
 use files::Reading;
+use host_words::flag;
+use host_words::number;
+use host_words::put_word;
+use host_words::put_words;
+use host_words::stored;
 
 fn formed(words: &[u64]) -> bool
     ensures { λ r. ⌜ r ≡ queuesFormed (now (words .entry)) ⌝ }
@@ -77,11 +77,10 @@ fn loaded(words: &[u64]) -> Queues
 fn broken() -> Queues
     ensures { λ r. ⌜ r ≡ brokenQueues ⌝ }
 {
+    let mut read = NumberQueue::new();
+    read.count = 65;
     let mut q = Queues::new();
-    q.read_queue = NumberQueue {
-        count: 65,
-        numbers: [0u64; 64],
-    };
+    q.read_queue = read;
     q
 }
 
@@ -103,26 +102,42 @@ fn put_queue(words: &mut [u64], at: usize, q: NumberQueue) -> usize
     put_words(words, a, &numbers)
 }
 
-fn store(words: &mut [u64], q: Queues)
-    requires { ⌜ length (now words) ≡ queuesSize ⌝ }
-    ensures { λ _. ⌜ now (words .exit) ≡ queuesWords q ⌝ }
+// The appending file, the read queue and the file being read.
+fn put_front(words: &mut [u64], q: Queues) -> usize
+    requires { ⌜ 70 ≤ length (now words) ⌝ }
+    ensures { λ r. ⌜ (Wrote (now (words .entry)) 0 (frontWords q) (now (words .exit)) r) × (r ≡ 70) ⌝ }
 {
-    let ids = q.replay_ids;
     let a = put_word(words, 0, flag(q.appending.some));
     let b = put_word(words, a, q.appending.id);
     let c = put_word(words, b, q.appending.size);
     let d = put_queue(words, c, q.read_queue);
     let e = put_word(words, d, flag(q.reading.some));
-    let f = put_word(words, e, q.reading.id);
-    let g = put_queue(words, f, q.cleanup_queue);
-    let h = put_queue(words, g, q.log_pool);
-    let i = put_queue(words, h, q.replay_queue);
-    let j = put_words(words, i, &ids);
-    let k = put_word(words, j, q.next_log_id as u64);
-    put_word(words, k, flag(q.dirty));
+    put_word(words, e, q.reading.id)
 }
 
-// What a call answered, as a number; the words are then the queues that it left, unless it answered 13.
+// Cleanup, pool and replay queue.
+fn put_behind(words: &mut [u64], at: usize, q: Queues) -> usize
+    requires { ⌜ at + 195 ≤ length (now words) ⌝ }
+    ensures { λ r. ⌜ (Wrote (now (words .entry)) at (behindWords q) (now (words .exit)) r) × (r ≡ at + 195) ⌝ }
+{
+    let a = put_queue(words, at, q.cleanup_queue);
+    let b = put_queue(words, a, q.log_pool);
+    put_queue(words, b, q.replay_queue)
+}
+
+fn store(words: &mut [u64], q: Queues)
+    requires { ⌜ length (now words) ≡ queuesSize ⌝ }
+    ensures { λ _. ⌜ now (words .exit) ≡ queuesWords q ⌝ }
+{
+    let ids = q.replay_ids;
+    let a = put_front(words, q);
+    let b = put_behind(words, a, q);
+    let c = put_words(words, b, &ids);
+    let d = put_word(words, c, q.next_log_id as u64);
+    put_word(words, d, flag(q.dirty));
+}
+
+// What a call answered, as a number; the words are then the queues that it left, where it answered 0 or 1.
 pub fn keep_queues(words: &mut [u64], answer: Answer, q: Queues) -> u64
     ensures { λ r. ⌜ (r ≡ numberOf answer) × (now (words .exit) ≡ headAfter queuesSize (numberOf answer) (now (words .entry)) (queuesWords q)) ⌝ }
 {

@@ -1,12 +1,12 @@
 -- Laws of heads: words pasted and written whole, words below a bound, and a head stored or left. Assumes nothing.
 use mathlib.Core.Path.{_≡_, refl, sym, ap, ap₂, _∙_}
-use mathlib.Core.Bool.{Bool, true, false, not, _&&_}
+use mathlib.Core.Bool.{Bool, true, false, _&&_}
 use mathlib.Core.List.{List, [], _∷_, _++_, append-nil}
 use Prim.Native.Nat.{ℕ, zero, suc, _+_, _-_, _≤_, _<_}
 use native.Mathlib.Nat.{add-assoc}
 use native.Mathlib.Numerals.{add-one}
 use native.Mathlib.Omega.{arith}
-use borrow.Author.Tests.{ltb-true, eqb-true, not-true}
+use borrow.Author.Tests.{ltb-true, eqb-true}
 use lib.Dec.{eqb, ltb}
 use lib.ListN.{length, take, drop, getD, set, length-take, length-drop, drop-of-length-le}
 use lib.Seq.{paste, take-all, take-suc, take-suc-set, getD-drop, getD-take, drop-cons}
@@ -74,4 +74,4 @@ module _ (n m k : ℕ) (w new : List ℕ) {s : Bool} (e : m ≡ k) (h : s ≡ he
 
 pub head-length : (n m : ℕ) (w : List ℕ) {s : Bool} → s ≡ headStored n m w → s ≡ true → length w ≡ n
 unfolding headStored
-head-length n m w h t = eqb-true _ _ (left-of (eqb (length w) n) (not (eqb m 13)) (sym h ∙ t))
+head-length n m w h t = eqb-true _ _ (left-of (eqb (length w) n) (ltb m 2) (sym h ∙ t))

@@ -1,8 +1,8 @@
 -- What the heads of all states have in common: a bool as a word, and when a head is stored.
-use mathlib.Core.Bool.{Bool, not, _&&_}
+use mathlib.Core.Bool.{Bool, _&&_}
 use mathlib.Core.List.{List}
 use Prim.Native.Nat.{ℕ}
-use lib.Dec.{eqb}
+use lib.Dec.{ltb, eqb}
 use lib.ListN.{length}
 use Rattle.answer.specs.declared.answer.Answer.{Answer}
 use Rattle.answer.specs.declared.answer.Answer.the-variants.{Done, BadState}
@@ -12,9 +12,10 @@ use Rattle.words.specs.Choice.{if_then_else_}
 abbrev pub flagFrom : ℕ → Bool
 flagFrom x = eqb x 1
 
--- a head of n words is stored unless the call answered 13: then the words stay as they were
+-- a head of n words is stored after a call that answered 0, or 1, with which `read_next` moves a file on; any other refusal leaves the words as
+-- they were
 unfoldable pub headStored : ℕ → ℕ → List ℕ → Bool
-headStored n number w = eqb (length w) n && not (eqb number 13)
+headStored n number w = eqb (length w) n && ltb number 2
 
 -- the words of a head of n words after a call that answered a number and left a state
 abbrev pub headAfter : ℕ → ℕ → List ℕ → List ℕ → List ℕ

@@ -17,3 +17,6 @@ pub use reader_words::reader_of;
 pub use writing::flag;
 pub use writing::head_room;
 pub use writing::number;
+pub use writing::put_word;
+pub use writing::put_words;
+pub use writing::stored;

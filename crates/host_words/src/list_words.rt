@@ -132,7 +132,7 @@ fn store(words: &mut [u64], l: LogChange)
     put_drops(words, c, l.dropped_ref_count_tables);
 }
 
-// What a call answered, as a number; the words are then the list that it left, unless it answered 13.
+// What a call answered, as a number; the words are then the list that it left, where it answered 0 or 1.
 pub fn keep_list(words: &mut [u64], answer: Answer, l: LogChange) -> u64
     ensures { λ r. ⌜ (r ≡ numberOf answer) × (now (words .exit) ≡ headAfter listSize (numberOf answer) (now (words .entry)) (listWords l)) ⌝ }
 {

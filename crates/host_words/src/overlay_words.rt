@@ -49,7 +49,7 @@ fn store(words: &mut [u64], o: LogOverlays)
     put_words(words, a, &ids);
 }
 
-// What a call answered, as a number; the words are then the overlays' head that it left, unless it answered 13.
+// What a call answered, as a number; the words are then the overlays' head that it left, where it answered 0 or 1.
 pub fn keep_overlays(words: &mut [u64], answer: Answer, o: LogOverlays) -> u64
     ensures { λ r. ⌜ (r ≡ numberOf answer) × (now (words .exit) ≡ headAfter overlaysSize (numberOf answer) (now (words .entry)) (overlaysWords o)) ⌝ }
 {

@@ -51,7 +51,7 @@ fn store(words: &mut [u64], reader: LogReader)
     put_word(words, d, flag(reader.inside));
 }
 
-// What a call answered, as a number; the words are then the reader that it left, unless it answered 13.
+// What a call answered, as a number; the words are then the reader that it left, where it answered 0 or 1.
 pub fn keep_reader(words: &mut [u64], answer: Answer, reader: LogReader) -> u64
     ensures { λ r. ⌜ (r ≡ numberOf answer) × (now (words .exit) ≡ headAfter readerSize (numberOf answer) (now (words .entry)) (readerWords reader)) ⌝ }
 {

@@ -22,7 +22,7 @@ pub fn flag(b: bool) -> u64
     numbers::count(b) as u64
 }
 
-pub(crate) fn put_word(words: &mut [u64], at: usize, x: u64) -> usize
+pub fn put_word(words: &mut [u64], at: usize, x: u64) -> usize
     requires { ⌜ at + 1 ≤ length (now words) ⌝ }
     ensures { λ r. ⌜ Wrote (now (words .entry)) at (x ∷ []) (now (words .exit)) r ⌝ }
 {
@@ -30,7 +30,7 @@ pub(crate) fn put_word(words: &mut [u64], at: usize, x: u64) -> usize
     at + 1
 }
 
-pub(crate) fn put_words(words: &mut [u64], at: usize, src: &[u64]) -> usize
+pub fn put_words(words: &mut [u64], at: usize, src: &[u64]) -> usize
     requires { ⌜ at + length (now src) ≤ length (now words) ⌝ }
     ensures { λ r. ⌜ Wrote (now (words .entry)) at (now (src .entry)) (now (words .exit)) r ⌝ }
 {
@@ -40,13 +40,13 @@ pub(crate) fn put_words(words: &mut [u64], at: usize, src: &[u64]) -> usize
 }
 
 // Whether a head of n words is stored after a call that answered a number.
-pub(crate) fn stored(n: usize, answered: u64, words: &[u64]) -> bool
+pub fn stored(n: usize, answered: u64, words: &[u64]) -> bool
     ensures { λ r. ⌜ r ≡ headStored n answered (now (words .entry)) ⌝ }
 {
     if words.len() != n {
         return false;
     }
-    answered != 13
+    answered < 2
 }
 
 // Whether words are as long as a head that is to be made there.
