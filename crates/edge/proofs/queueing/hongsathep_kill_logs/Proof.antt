@@ -1,0 +1,33 @@
+use borrow.Author.Needs.{needs}
+use Rattle.edge.proofs.queueing.hongsathep_kill_logs.Statement.{statement}
+use Rattle.edge.proofs.queueing.hongsathep_kill_logs.Tie as tie
+use Rattle.edge.proofs.queueing.hongsathep_kill_logs.Reads as reads
+use Rattle.edge.proofs.queueing.hongsathep_kill_logs.Lts as lts
+use Rattle.files.proofs.queues.Queues.kill_logs.Reads as kill-logs-reads
+use Rattle.host_queues.proofs.keep_queues.Reads as keep-queues-reads
+use Rattle.host_queues.proofs.queues_of.Reads as queues-of-reads
+
+-- src/queueing.rt:202:16
+queues-of-requires : tie.Need-queues-of-requires
+queues-of-requires c κs = search needs
+
+-- src/queueing.rt:202:9
+kill-logs-requires : tie.Need-kill-logs-requires
+kill-logs-requires c κs = search needs
+
+-- src/queueing.rt:208:5
+keep-queues-requires : tie.Need-keep-queues-requires
+keep-queues-requires c κs = search needs
+
+-- src/queueing.rt:191:1
+same-length : tie.Need-same-length
+same-length c = search needs
+
+-- src/queueing.rt:191:1
+returns : tie.Need-returns
+returns c = ?
+
+pub hongsathep-kill-logs-spec : {M : Type 1} → statement M
+hongsathep-kill-logs-spec =
+    tie.close
+    (tie.spec queues-of-requires kill-logs-requires keep-queues-requires same-length returns)

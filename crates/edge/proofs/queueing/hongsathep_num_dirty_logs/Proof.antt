@@ -1,0 +1,23 @@
+use borrow.Author.Needs.{needs}
+use Rattle.edge.proofs.queueing.hongsathep_num_dirty_logs.Statement.{statement}
+use Rattle.edge.proofs.queueing.hongsathep_num_dirty_logs.Tie as tie
+use Rattle.edge.proofs.queueing.hongsathep_num_dirty_logs.Reads as reads
+use Rattle.edge.proofs.queueing.hongsathep_num_dirty_logs.Lts as lts
+use Rattle.files.proofs.queues.Queues.num_dirty_logs.Reads as num-dirty-logs-reads
+use Rattle.host_queues.proofs.queues_of.Reads as queues-of-reads
+
+-- src/queueing.rt:359:5
+queues-of-requires : tie.Need-queues-of-requires
+queues-of-requires c κs = search needs
+
+-- src/queueing.rt:359:5
+num-dirty-logs-requires : tie.Need-num-dirty-logs-requires
+num-dirty-logs-requires c κs = search needs
+
+-- src/queueing.rt:355:1
+returns : tie.Need-returns
+returns c = ?
+
+pub hongsathep-num-dirty-logs-spec : {M : Type 1} → statement M
+hongsathep-num-dirty-logs-spec =
+    tie.close (tie.spec queues-of-requires num-dirty-logs-requires returns)

@@ -1,0 +1,23 @@
+use borrow.Author.Needs.{needs}
+use Rattle.edge.proofs.queueing.hongsathep_replay_record_id.Statement.{statement}
+use Rattle.edge.proofs.queueing.hongsathep_replay_record_id.Tie as tie
+use Rattle.edge.proofs.queueing.hongsathep_replay_record_id.Reads as reads
+use Rattle.edge.proofs.queueing.hongsathep_replay_record_id.Lts as lts
+use Rattle.files.proofs.queues.Queues.replay_record_id.Reads as replay-record-id-reads
+use Rattle.host_queues.proofs.queues_of.Reads as queues-of-reads
+
+-- src/queueing.rt:350:17
+queues-of-requires : tie.Need-queues-of-requires
+queues-of-requires c κs = search needs
+
+-- src/queueing.rt:350:9
+replay-record-id-requires : tie.Need-replay-record-id-requires
+replay-record-id-requires c κs = search needs
+
+-- src/queueing.rt:345:1
+returns : tie.Need-returns
+returns c = ?
+
+pub hongsathep-replay-record-id-spec : {M : Type 1} → statement M
+hongsathep-replay-record-id-spec =
+    tie.close (tie.spec queues-of-requires replay-record-id-requires returns)
