@@ -9,15 +9,19 @@ use Rattle.record.specs.Next.{readerAt}
 use Rattle.files.specs.Moves.{noFiles}
 use Rattle.files.specs.Open.{openLogs}
 use Rattle.files.specs.Read.{notRead, readNextKept, readNext}
+use Rattle.files.specs.declared.queues.Queues.{Queues}
 use Rattle.files.specs.declared.open.Opened.{Opened}
 use Rattle.files.specs.declared.read.ReadNext.{ReadNext}
 use Rattle.host_queues.specs.Queues.{queuesFrom}
+
+abbrev pub notOpened : Queues → Opened
+notOpened q = record { answer = BadState; «remove_count» = 0; queues = q }
 
 -- `open`, with a number of words for the queues: 13 where they are too many or too few
 unfoldable pub openIn : List ℕ → List ℕ → List ℕ → List ℕ → ℕ → ℕ → Opened
 openIn names nameLengths lengths heads room words =
     if eqb words 331 then openLogs names nameLengths lengths heads room else
-    record { answer = BadState; «remove_count» = 0; queues = noFiles }
+    notOpened noFiles
 
 -- `read_next`, with a number of words for the reader: the same
 unfoldable pub readNextIn : List ℕ → List ℕ → ℕ → Bool → ℕ → ReadNext

@@ -300,7 +300,13 @@ pub extern "C" fn hongsathep_read_next(
     keep_queues(queues, answer, left)
 }
 
-fn read_next_kept(queues: &[u64], log: &[u8], position: usize, validate: bool, words: usize) -> ReadNext
+fn read_next_kept(
+    queues: &[u64],
+    log: &[u8],
+    position: usize,
+    validate: bool,
+    words: usize,
+) -> ReadNext
     requires { ⌜ queuesKept (queuesFrom (now queues)) ≡ true ⌝ }
     ensures { λ r. ⌜ r ≡ readNextKeptIn (now (queues .entry)) (now (log .entry)) position validate words ⌝ }
 {

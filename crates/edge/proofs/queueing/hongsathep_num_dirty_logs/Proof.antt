@@ -1,3 +1,9 @@
+-- `hongsathep_num_dirty_logs` meets its contract. Assumes nothing.
+use mathlib.Core.Path.{_≡_, refl, sym, ap, ap₂, _∙_}
+use Rattle.answer.specs.Answer.{numberOf}
+use Rattle.host_words.specs.Head.{headAfter}
+use Rattle.host_queues.specs.Queues.{queuesSize, queuesWords}
+use Rattle.files.specs.declared.queues.Queues.{Queues}
 use borrow.Author.Needs.{needs}
 use Rattle.edge.proofs.queueing.hongsathep_num_dirty_logs.Statement.{statement}
 use Rattle.edge.proofs.queueing.hongsathep_num_dirty_logs.Tie as tie
@@ -16,7 +22,7 @@ num-dirty-logs-requires c κs = search needs
 
 -- src/queueing.rt:355:1
 returns : tie.Need-returns
-returns c = ?
+returns c = c .num-dirty-logs .ensures ∙ ap (λ (q : Queues). q .«cleanup_queue» .count) (c .before .queues-of .ensures)
 
 pub hongsathep-num-dirty-logs-spec : {M : Type 1} → statement M
 hongsathep-num-dirty-logs-spec =

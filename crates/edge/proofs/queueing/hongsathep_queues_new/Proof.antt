@@ -1,3 +1,10 @@
+-- `hongsathep_queues_new` meets its contract. Assumes nothing.
+use mathlib.Core.Path.{_≡_, refl, sym, ap, ap₂, _∙_}
+use Rattle.answer.specs.Answer.{numberOf}
+use Rattle.host_words.specs.Head.{headAfter}
+use Rattle.host_queues.specs.Queues.{queuesSize, queuesWords}
+use Rattle.answer.specs.declared.answer.Answer.{Answer}
+use Rattle.files.specs.declared.queues.Queues.{Queues}
 use borrow.Author.Needs.{needs}
 use Rattle.edge.proofs.queueing.hongsathep_queues_new.Statement.{statement}
 use Rattle.edge.proofs.queueing.hongsathep_queues_new.Tie as tie
@@ -25,7 +32,10 @@ same-length c = search needs
 
 -- src/queueing.rt:28:1
 returns : tie.Need-returns
-returns c = ?
+returns c = (
+  c .before .before .keep-queues .ensures .0 ∙ ap numberOf (c .before .before .before .before .before .head-room .ensures),
+  c .before .before .keep-queues .ensures .1 ∙ ap₂ (λ (a : Answer) (q : Queues). headAfter queuesSize (numberOf a) (c .before .before .before .before .before .before .before .before .args .queues .now) (queuesWords q)) (c .before .before .before .before .before .head-room .ensures) (c .before .before .before .new .ensures),
+)
 
 pub hongsathep-queues-new-spec : {M : Type 1} → statement M
 hongsathep-queues-new-spec =

@@ -1,3 +1,10 @@
+-- `hongsathep_read_next_kept` meets its contract. Assumes nothing.
+use mathlib.Core.Path.{_≡_, refl, sym, ap, ap₂, _∙_}
+use Rattle.answer.specs.Answer.{numberOf}
+use Rattle.host_words.specs.Head.{headAfter}
+use Rattle.host_queues.specs.Queues.{queuesSize, queuesWords}
+use Rattle.host_words.specs.Reader.{readerSize, readerWords}
+use Rattle.files.specs.declared.read.ReadNext.{ReadNext}
 use borrow.Author.Needs.{needs}
 use Rattle.edge.proofs.queueing.hongsathep_read_next_kept.Statement.{statement}
 use Rattle.edge.proofs.queueing.hongsathep_read_next_kept.Tie as tie
@@ -29,7 +36,17 @@ same-length-2 c = search needs
 
 -- src/queueing.rt:319:1
 returns : tie.Need-returns
-returns c = ?
+returns c =
+    let e = c .before .before .before .before .before .before .before .before .before .before .read-next-kept .ensures in (
+      c .before .before .keep-queues .ensures .0 ∙ ap (λ (x : ReadNext). numberOf (x .answer)) e,
+      (
+        c .before .before .keep-queues .ensures .1 ∙ ap (λ (x : ReadNext). headAfter queuesSize (numberOf (x .answer)) (c .before .before .before .before .before .before .before .before .before .before .before .before .before .before .before .args .queues .now) (queuesWords (x .queues))) e,
+        (
+          ap (λ (x : ReadNext). x .number) e,
+          c .before .before .before .before .before .before .keep-reader .ensures .1 ∙ ap (λ (x : ReadNext). headAfter readerSize (numberOf (x .answer)) (c .before .before .before .before .before .before .before .before .before .before .before .before .before .before .before .args .reader .now) (readerWords (x .reader))) e,
+        ),
+      ),
+    )
 
 pub hongsathep-read-next-kept-spec : {M : Type 1} → statement M
 hongsathep-read-next-kept-spec =
