@@ -236,7 +236,12 @@ pub extern "C" fn hongsathep_drop_table_kept(
     ensures answer { λ r. ⌜ r ≡ numberOf (tableDroppedKept (directoryFrom (now (tables .entry))) (changeOf (listFrom (now (list .entry))) (now (words .entry)) (now (bytes .entry))) table .answer) ⌝ }
     ensures list { λ r. ⌜ now (list .exit) ≡ headAfter listSize (numberOf (tableDroppedKept (directoryFrom (now (tables .entry))) (changeOf (listFrom (now (list .entry))) (now (words .entry)) (now (bytes .entry))) table .answer)) (now (list .entry)) (listWords (headOf (tableDroppedKept (directoryFrom (now (tables .entry))) (changeOf (listFrom (now (list .entry))) (now (words .entry)) (now (bytes .entry))) table .change))) ⌝ }
 {
-    let done = list_of(list).drop_table_kept(directory_of(tables), words, bytes, IndexTableId(table));
+    let done = list_of(list).drop_table_kept(
+        directory_of(tables),
+        words,
+        bytes,
+        IndexTableId(table),
+    );
     let answer = done.answer;
     let left = done.list;
     keep_list(list, answer, left)
@@ -253,7 +258,12 @@ pub extern "C" fn hongsathep_drop_ref_count_table(
     ensures answer { λ r. ⌜ r ≡ numberOf (countTableDropped (directoryFrom (now (tables .entry))) (changeOf (listFrom (now (list .entry))) (now (words .entry)) (now (bytes .entry))) table .answer) ⌝ }
     ensures list { λ r. ⌜ now (list .exit) ≡ headAfter listSize (numberOf (countTableDropped (directoryFrom (now (tables .entry))) (changeOf (listFrom (now (list .entry))) (now (words .entry)) (now (bytes .entry))) table .answer)) (now (list .entry)) (listWords (headOf (countTableDropped (directoryFrom (now (tables .entry))) (changeOf (listFrom (now (list .entry))) (now (words .entry)) (now (bytes .entry))) table .change))) ⌝ }
 {
-    let done = list_of(list).drop_ref_count_table(directory_of(tables), words, bytes, RefCountTableId(table));
+    let done = list_of(list).drop_ref_count_table(
+        directory_of(tables),
+        words,
+        bytes,
+        RefCountTableId(table),
+    );
     let answer = done.answer;
     let left = done.list;
     keep_list(list, answer, left)
@@ -271,7 +281,12 @@ pub extern "C" fn hongsathep_drop_ref_count_table_kept(
     ensures answer { λ r. ⌜ r ≡ numberOf (countTableDroppedKept (directoryFrom (now (tables .entry))) (changeOf (listFrom (now (list .entry))) (now (words .entry)) (now (bytes .entry))) table .answer) ⌝ }
     ensures list { λ r. ⌜ now (list .exit) ≡ headAfter listSize (numberOf (countTableDroppedKept (directoryFrom (now (tables .entry))) (changeOf (listFrom (now (list .entry))) (now (words .entry)) (now (bytes .entry))) table .answer)) (now (list .entry)) (listWords (headOf (countTableDroppedKept (directoryFrom (now (tables .entry))) (changeOf (listFrom (now (list .entry))) (now (words .entry)) (now (bytes .entry))) table .change))) ⌝ }
 {
-    let done = list_of(list).drop_ref_count_table_kept(directory_of(tables), words, bytes, RefCountTableId(table));
+    let done = list_of(list).drop_ref_count_table_kept(
+        directory_of(tables),
+        words,
+        bytes,
+        RefCountTableId(table),
+    );
     let answer = done.answer;
     let left = done.list;
     keep_list(list, answer, left)

@@ -1,3 +1,11 @@
+-- `hongsathep_drop_ref_count_table` meets its contract. Assumes nothing.
+use mathlib.Core.Path.{_≡_, sym, ap, ap₂, _∙_}
+use Rattle.answer.specs.Answer.{numberOf}
+use Rattle.directory.specs.declared.directory.Directory.{Directory}
+use Rattle.change.specs.Change.{changeOf, changeRuled, changeKept}
+use Rattle.change.specs.declared.change.LogChange.{LogChange}
+use Rattle.change.specs.Drop.{countTableDropped}
+use Rattle.edge.proofs.Lists.{made-kept}
 use borrow.Author.Needs.{needs}
 use Rattle.edge.proofs.listing.hongsathep_drop_ref_count_table.Statement.{statement}
 use Rattle.edge.proofs.listing.hongsathep_drop_ref_count_table.Tie as tie
@@ -30,7 +38,9 @@ same-length c = search needs
 
 -- src/listing.rt:245:1
 returns : tie.Need-returns
-returns c = ?
+returns c =
+    let e = c .before .before .before .before .before .drop-ref-count-table .ensures ∙ ap₂ (λ (d : Directory) (l : LogChange). countTableDropped d (changeOf l (c .before .before .before .before .before .before .before .before .before .before .before .before .before .args .words .now) (c .before .before .before .before .before .before .before .before .before .before .before .before .before .args .bytes .now)) (c .before .before .before .before .before .before .before .before .before .before .before .before .before .args .table)) (c .before .before .before .before .before .before .directory-of .ensures) (c .before .before .before .before .before .before .before .list-of .ensures) in
+    made-kept (c .before .before .before .before .before .before .before .before .before .before .before .before .before .args .list .now) (c .before .before .before .before .before .before .before .before .before .before .before .before .before .args .words .now) (c .before .before .before .before .before .before .before .before .before .before .before .before .before .args .bytes .now) (c .before .before .before .before .before .drop-ref-count-table .result) _ e (c .before .before .keep-list .ensures)
 
 pub hongsathep-drop-ref-count-table-spec : {M : Type 1} → statement M
 hongsathep-drop-ref-count-table-spec =

@@ -1,3 +1,10 @@
+-- `hongsathep_flush_to_file` meets its contract. Assumes nothing.
+use mathlib.Core.Path.{_≡_, sym, ap, ap₂, _∙_}
+use Rattle.answer.specs.Answer.{numberOf}
+use Rattle.directory.specs.declared.directory.Directory.{Directory}
+use Rattle.change.specs.Change.{changeOf, changeRuled, changeKept}
+use Rattle.change.specs.declared.change.LogChange.{LogChange}
+use Rattle.writer.specs.Flush.{FlushedLog, flushToFile}
 use borrow.Author.Needs.{needs}
 use Rattle.edge.proofs.listing.hongsathep_flush_to_file.Statement.{statement}
 use Rattle.edge.proofs.listing.hongsathep_flush_to_file.Tie as tie
@@ -30,7 +37,14 @@ same-length c = search needs
 
 -- src/listing.rt:355:1
 returns : tie.Need-returns
-returns c = ?
+returns c =
+    let e = c .before .before .before .flush-to-file .ensures ∙ ap₂ (λ (d : Directory) (l : LogChange). flushToFile d (changeOf l (c .before .before .before .before .before .before .before .before .before .before .before .before .args .words .now) (c .before .before .before .before .before .before .before .before .before .before .before .before .args .bytes .now)) (c .before .before .before .before .before .before .before .before .before .before .before .before .args .out .now)) (c .before .before .before .before .before .directory-of .ensures) (c .before .before .before .before .before .before .list-of .ensures) in (
+      c .number .ensures ∙ ap (λ (x : FlushedLog). numberOf (x .sized .answer)) e,
+      (
+        ap (λ (x : FlushedLog). x .output) e,
+        ap (λ (x : FlushedLog). x .sized .length) e,
+      ),
+    )
 
 pub hongsathep-flush-to-file-spec : {M : Type 1} → statement M
 hongsathep-flush-to-file-spec =

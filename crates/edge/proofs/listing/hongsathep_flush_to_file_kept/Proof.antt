@@ -1,3 +1,10 @@
+-- `hongsathep_flush_to_file_kept` meets its contract. Assumes nothing.
+use mathlib.Core.Path.{_≡_, sym, ap, ap₂, _∙_}
+use Rattle.answer.specs.Answer.{numberOf}
+use Rattle.directory.specs.declared.directory.Directory.{Directory}
+use Rattle.change.specs.Change.{changeOf, changeRuled, changeKept}
+use Rattle.change.specs.declared.change.LogChange.{LogChange}
+use Rattle.writer.specs.Flush.{FlushedLog, flushToFileKept}
 use borrow.Author.Needs.{needs}
 use Rattle.edge.proofs.listing.hongsathep_flush_to_file_kept.Statement.{statement}
 use Rattle.edge.proofs.listing.hongsathep_flush_to_file_kept.Tie as tie
@@ -13,7 +20,7 @@ list-of-requires c κs = search needs
 
 -- src/listing.rt:387:9
 flush-to-file-kept-requires : tie.Need-flush-to-file-kept-requires
-flush-to-file-kept-requires c κs = ?
+flush-to-file-kept-requires c κs = ap (λ (l : LogChange). changeRuled (changeOf l (c .before .before .before .before .before .before .args .words .now) (c .before .before .before .before .before .before .args .bytes .now))) (c .before .list-of .ensures) ∙ c .before .before .before .before .before .before .pre
 
 -- src/listing.rt:390:5
 number-requires : tie.Need-number-requires
@@ -25,7 +32,14 @@ same-length c = search needs
 
 -- src/listing.rt:374:1
 returns : tie.Need-returns
-returns c = ?
+returns c =
+    let e = c .before .before .before .flush-to-file-kept .ensures ∙ ap (λ (l : LogChange). flushToFileKept (changeOf l (c .before .before .before .before .before .before .before .before .before .before .args .words .now) (c .before .before .before .before .before .before .before .before .before .before .args .bytes .now)) (c .before .before .before .before .before .before .before .before .before .before .args .out .now)) (c .before .before .before .before .before .list-of .ensures) in (
+      c .number .ensures ∙ ap (λ (x : FlushedLog). numberOf (x .sized .answer)) e,
+      (
+        ap (λ (x : FlushedLog). x .output) e,
+        ap (λ (x : FlushedLog). x .sized .length) e,
+      ),
+    )
 
 pub hongsathep-flush-to-file-kept-spec : {M : Type 1} → statement M
 hongsathep-flush-to-file-kept-spec =

@@ -1,3 +1,12 @@
+-- `hongsathep_insert_ref_count` meets its contract. Assumes nothing.
+use mathlib.Core.Path.{_≡_, sym, ap, ap₂, _∙_}
+use Rattle.answer.specs.Answer.{numberOf}
+use Rattle.directory.specs.declared.directory.Directory.{Directory}
+use Rattle.change.specs.Change.{changeOf, changeRuled, changeKept}
+use Rattle.change.specs.declared.change.LogChange.{LogChange}
+use Rattle.directory.specs.declared.table.TableKind.the-variants.{RefCount}
+use Rattle.change.specs.Insert.{inserted}
+use Rattle.edge.proofs.Lists.{made-kept, made-memory}
 use borrow.Author.Needs.{needs}
 use Rattle.edge.proofs.listing.hongsathep_insert_ref_count.Statement.{statement}
 use Rattle.edge.proofs.listing.hongsathep_insert_ref_count.Tie as tie
@@ -38,7 +47,13 @@ same-length-3 c = search needs
 
 -- src/listing.rt:151:1
 returns : tie.Need-returns
-returns c = ?
+returns c =
+    let e = c .before .before .before .before .before .before .before .before .before .insert-ref-count .ensures ∙ ap₂ (λ (d : Directory) (l : LogChange). inserted RefCount d (changeOf l (c .before .before .before .before .before .before .before .before .before .before .before .before .before .before .before .before .before .before .before .before .args .words .now) (c .before .before .before .before .before .before .before .before .before .before .before .before .before .before .before .before .before .before .before .before .args .bytes .now)) (c .before .before .before .before .before .before .before .before .before .before .before .before .before .before .before .before .before .before .before .before .args .table) (c .before .before .before .before .before .before .before .before .before .before .before .before .before .before .before .before .before .before .before .before .args .index) (c .before .before .before .before .before .before .before .before .before .before .before .before .before .before .before .before .before .before .before .before .args .sub) (c .before .before .before .before .before .before .before .before .before .before .before .before .before .before .before .before .before .before .before .before .args .data .now)) (c .before .before .before .before .before .before .before .before .before .before .before .before .directory-of .ensures) (c .before .before .before .before .before .before .before .before .before .before .before .before .before .list-of .ensures) in
+    let r = c .before .before .before .before .before .before .before .before .before .insert-ref-count .result in
+    let w = c .before .before .before .before .before .before .before .before .before .insert-ref-count .last .1 .1 .0 in
+    let b = c .before .before .before .before .before .before .before .before .before .insert-ref-count .last .1 .1 .1 .0 in
+    let k = made-kept (c .before .before .before .before .before .before .before .before .before .before .before .before .before .before .before .before .before .before .before .before .args .list .now) w b r _ e (c .before .before .keep-list .ensures) in
+    (k .0, (k .1, made-memory w b r _ e))
 
 pub hongsathep-insert-ref-count-spec : {M : Type 1} → statement M
 hongsathep-insert-ref-count-spec =

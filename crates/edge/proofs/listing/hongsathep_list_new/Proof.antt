@@ -1,3 +1,12 @@
+-- `hongsathep_list_new` meets its contract. Assumes nothing.
+use mathlib.Core.Path.{_≡_, sym, ap, ap₂, _∙_}
+use Rattle.answer.specs.Answer.{numberOf}
+use Rattle.directory.specs.declared.directory.Directory.{Directory}
+use Rattle.change.specs.Change.{changeOf, changeRuled, changeKept}
+use Rattle.change.specs.declared.change.LogChange.{LogChange}
+use Rattle.answer.specs.declared.answer.Answer.{Answer}
+use Rattle.host_words.specs.Head.{headAfter}
+use Rattle.host_words.specs.Change.{listSize, listWords}
 use borrow.Author.Needs.{needs}
 use Rattle.edge.proofs.listing.hongsathep_list_new.Statement.{statement}
 use Rattle.edge.proofs.listing.hongsathep_list_new.Tie as tie
@@ -25,7 +34,10 @@ same-length c = search needs
 
 -- src/listing.rt:28:1
 returns : tie.Need-returns
-returns c = ?
+returns c = (
+  c .before .before .keep-list .ensures .0 ∙ ap numberOf (c .before .before .before .before .before .head-room .ensures),
+  c .before .before .keep-list .ensures .1 ∙ ap₂ (λ (a : Answer) (l : LogChange). headAfter listSize (numberOf a) (c .before .before .before .before .before .before .before .before .args .list .now) (listWords l)) (c .before .before .before .before .before .head-room .ensures) (c .before .before .before .new .ensures),
+)
 
 pub hongsathep-list-new-spec : {M : Type 1} → statement M
 hongsathep-list-new-spec =

@@ -1,3 +1,11 @@
+-- `hongsathep_local_values_changes` meets its contract. Assumes nothing.
+use mathlib.Core.Path.{_≡_, sym, ap, ap₂, _∙_}
+use Rattle.answer.specs.Answer.{numberOf}
+use Rattle.directory.specs.declared.directory.Directory.{Directory}
+use Rattle.change.specs.Change.{changeOf, changeRuled, changeKept}
+use Rattle.change.specs.declared.change.LogChange.{LogChange}
+use Rattle.change.specs.Values.{valuesOf}
+use Rattle.change.specs.declared.values.LocalValues.{LocalValues}
 use borrow.Author.Needs.{needs}
 use Rattle.edge.proofs.listing.hongsathep_local_values_changes.Statement.{statement}
 use Rattle.edge.proofs.listing.hongsathep_local_values_changes.Tie as tie
@@ -21,7 +29,14 @@ number-requires c κs = search needs
 
 -- src/listing.rt:314:1
 returns : tie.Need-returns
-returns c = ?
+returns c =
+    let e = c .before .local-values-changes .ensures ∙ ap (λ (l : LogChange). valuesOf (changeOf l (c .before .before .before .before .before .before .args .words .now) (c .before .before .before .before .before .before .args .bytes .now)) (c .before .before .before .before .before .before .args .table)) (c .before .before .list-of .ensures) in (
+      c .number .ensures ∙ ap (λ (x : LocalValues). numberOf (x .answer)) e,
+      (
+        ap (λ (x : LocalValues). x .from) e,
+        ap (λ (x : LocalValues). x .to) e,
+      ),
+    )
 
 pub hongsathep-local-values-changes-spec : {M : Type 1} → statement M
 hongsathep-local-values-changes-spec =

@@ -1,3 +1,11 @@
+-- `hongsathep_record_size` meets its contract. Assumes nothing.
+use mathlib.Core.Path.{_≡_, sym, ap, ap₂, _∙_}
+use Rattle.answer.specs.Answer.{numberOf}
+use Rattle.directory.specs.declared.directory.Directory.{Directory}
+use Rattle.change.specs.Change.{changeOf, changeRuled, changeKept}
+use Rattle.change.specs.declared.change.LogChange.{LogChange}
+use Rattle.change.specs.Size.{sized}
+use Rattle.change.specs.declared.size.Sized.{Sized}
 use borrow.Author.Needs.{needs}
 use Rattle.edge.proofs.listing.hongsathep_record_size.Statement.{statement}
 use Rattle.edge.proofs.listing.hongsathep_record_size.Tie as tie
@@ -26,7 +34,11 @@ number-requires c κs = search needs
 
 -- src/listing.rt:280:1
 returns : tie.Need-returns
-returns c = ?
+returns c =
+    let e = c .before .record-size .ensures ∙ ap₂ (λ (d : Directory) (l : LogChange). sized d (changeOf l (c .before .before .before .before .before .before .before .before .args .words .now) (c .before .before .before .before .before .before .before .before .args .bytes .now))) (c .before .before .directory-of .ensures) (c .before .before .before .list-of .ensures) in (
+      c .number .ensures ∙ ap (λ (x : Sized). numberOf (x .answer)) e,
+      ap (λ (x : Sized). x .length) e,
+    )
 
 pub hongsathep-record-size-spec : {M : Type 1} → statement M
 hongsathep-record-size-spec =
