@@ -173,6 +173,34 @@ fn an_overlay_has_room_for_256_keys() {
     assert_eq!(numbers[257..], [0, 0, 9, 0, 0, 0]);
 }
 
+/// OPEN of 64 and of 65 files of 9 bytes.
+#[test]
+fn open_keeps_64_files() {
+    let open = |files: u16| {
+        let [low, high] = files.to_le_bytes();
+        let file = |n: u16| {
+            let name: String = format!("log{n}").bytes().map(|b| format!("{b:02x}")).collect();
+            format!("{:02x}{name}09000000010000000000000000", name.len() / 2)
+        };
+        let all: String = (0..files).map(file).collect();
+        format!("10{low:02x}{high:02x}{all}")
+    };
+    let numbers: Vec<u8> = answers(&[&open(64), &open(65)]).iter().map(|answer| answer[0]).collect();
+    assert_eq!(numbers, [0, 9]);
+}
+
+/// BEGIN and END with none appending, the pool empty and 63, or 64, files in cleanup.
+#[test]
+fn a_65th_file_is_refused() {
+    let forge = |files: u32| {
+        let cleanup: String = (0..files).map(|n| format!("{:08x}", n.swap_bytes())).collect();
+        let [low, high, ..] = files.to_le_bytes();
+        format!("1f0000000000000000000000000000000000000000{low:02x}{high:02x}{cleanup}00000000{low:02x}{high:02x}000000")
+    };
+    let ended = |files: u32| answers(&[&forge(files), "11", "120e000000"])[2][0];
+    assert_eq!([ended(63), ended(64)], [0, 9]);
+}
+
 #[test]
 fn an_opcode_that_is_not_driven() {
     let unknown = 0x25;

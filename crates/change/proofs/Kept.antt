@@ -1,6 +1,6 @@
 -- A list that keeps its rules keeps them after every call. Document 01: "Rules of a state: room kept, no key twice, no mask 0".
 -- Assumes nothing.
-use mathlib.Core.Path.{_≡_, refl, sym, ap, _∙_, subst}
+use mathlib.Core.Path.{_≡_, refl, sym, subst}
 use mathlib.Core.Bool.{Bool, true, false}
 use mathlib.Core.List.{List, [], _∷_, _++_}
 use Prim.Native.Nat.{ℕ, _+_, _*_, _≤_, _<_}
@@ -24,7 +24,7 @@ use Rattle.keys.proofs.Kept.{table-here, index-here, mark-here, word-other}
 use Rattle.overlay.specs.Rules.{Overlay, overlayKept}
 use Rattle.overlay.specs.Overlay.{standsIn, putOver}
 use Rattle.memory.specs.declared.span.Holder.the-variants as holder
-use Rattle.memory.specs.Parts.{Parts, spanOf, wordsAll, bytesAll, ofKind, putInto}
+use Rattle.memory.specs.Parts.{spanOf, wordsAll, bytesAll, ofKind, putInto}
 use Rattle.memory.proofs.Spans.{all-shows, into-kept, put-of}
 use Rattle.memory.proofs.Empty.{empty-kept}
 use Rattle.change.specs.declared.drops.Drops.{Drops}

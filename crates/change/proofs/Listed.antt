@@ -1,6 +1,6 @@
 -- What the rules say of each key in use, and of the keys of one table. Assumes nothing.
 use mathlib.Core.Path.{_≡_, refl}
-use mathlib.Core.Bool.{Bool, true, false, _&&_}
+use mathlib.Core.Bool.{Bool, true, false}
 use mathlib.Core.List.{List}
 use Prim.Native.Nat.{ℕ, _+_, _*_, _≤_, _<_}
 use native.Mathlib.Omega.{arith}
@@ -19,7 +19,7 @@ use Rattle.numbers.specs.Numbers.{spot}
 use Rattle.keys.specs.Keys.{rank, keyAt, markAt, keysOf, ruled}
 use Rattle.keys.proofs.Places.{in-use, below-spot, not-below-spot}
 use Rattle.overlay.specs.Rules.{Overlay, slotSize, storedLength, markRuled, rowRuled, overlayKept}
-use Rattle.overlay.proofs.Ruled.{Kept, shows, unit-fits}
+use Rattle.overlay.proofs.Ruled.{shows, unit-fits}
 use Rattle.overlay.proofs.Slots.{slot-in}
 use Rattle.memory.specs.declared.span.Holder.the-variants as holder
 use Rattle.memory.specs.Parts.{spanOf, ofKind}

@@ -26,7 +26,7 @@ use Rattle.overlay.specs.Overlay.{putOver}
 use Rattle.overlay.specs.Entries.{Entry, entriesOf, findEntry, putEntry}
 use Rattle.overlay.proofs.Puts.{put-entries, findEntry-after-put}
 use Rattle.memory.specs.declared.span.Holder.the-variants as holder
-use Rattle.memory.specs.Parts.{Parts, spanOf, ofKind, putInto}
+use Rattle.memory.specs.Parts.{spanOf, ofKind, putInto}
 use Rattle.memory.proofs.Spans.{all-shows, put-of}
 use Rattle.change.specs.Change.{Change, markFits, changeKept}
 use Rattle.change.specs.declared.plans.Plan.{Plan}

@@ -43,6 +43,7 @@ changeOf l words bytes = record {
 abbrev pub noDrops : Drops
 noDrops = record { tables = replicate 16 0; count = 0 }
 
+-- an empty list, whatever the memories hold (`new`, log.rs 365-374)
 abbrev pub newList : ℕ → LogChange
 newList id = record { «record_id» = id; counts = noCounts; «dropped_tables» = noDrops; «dropped_ref_count_tables» = noDrops }
 
@@ -50,9 +51,11 @@ newList id = record { «record_id» = id; counts = noCounts; «dropped_tables» 
 abbrev pub withParts : Change → Parts → Change
 withParts l p = record { id = l .id; parts = p; drops = l .drops; countDrops = l .countDrops }
 
+-- with other drops of index tables
 abbrev pub withDrops : Change → Drops → Change
 withDrops l s = record { id = l .id; parts = l .parts; drops = s; countDrops = l .countDrops }
 
+-- with other drops of reference count tables
 abbrev pub withCountDrops : Change → Drops → Change
 withCountDrops l s = record { id = l .id; parts = l .parts; drops = l .drops; countDrops = s }
 
@@ -71,10 +74,12 @@ abbrev pub keyFits : TableKind → Found → ℕ → ℕ → Bool
 keyFits kind (At row t) index mark = ltb index (t .count) && markFits kind t mark
 keyFits kind Nothing index mark = false
 
+-- the key in place p fits
 unfoldable pub entryFits : Directory → TableKind → Overlay → ℕ → Bool
 entryFits d kind o p =
     keyFits kind (findTable d kind (getD (o .rows) (4 * p) 0)) (getD (o .rows) (4 * p + 1) 0) (markAt (o .rows) p)
 
+-- all keys of a kind do
 unfoldable pub entriesFit : Directory → TableKind → Overlay → Bool
 entriesFit d kind o = every (entryFits d kind o) (take (o .count) (o .order))
 

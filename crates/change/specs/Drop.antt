@@ -28,6 +28,7 @@ droppedIn d kind s number =
 unfoldable pub tableDroppedKept : Directory → Change → ℕ → Made
 tableDroppedKept d l number = record { answer = droppedIn d Index (l .drops) number .answer; change = withDrops l (droppedIn d Index (l .drops) number .drops) }
 
+-- behind 13
 unfoldable pub tableDropped : Directory → Change → ℕ → Made
 tableDropped d l number = if changeKept d l then tableDroppedKept d l number else notMade BadState l  -- 13
 
@@ -35,5 +36,6 @@ tableDropped d l number = if changeKept d l then tableDroppedKept d l number els
 unfoldable pub countTableDroppedKept : Directory → Change → ℕ → Made
 countTableDroppedKept d l number = record { answer = droppedIn d RefCount (l .countDrops) number .answer; change = withCountDrops l (droppedIn d RefCount (l .countDrops) number .drops) }
 
+-- behind 13
 unfoldable pub countTableDropped : Directory → Change → ℕ → Made
 countTableDropped d l number = if changeKept d l then countTableDroppedKept d l number else notMade BadState l  -- 13

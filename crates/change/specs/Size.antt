@@ -25,6 +25,7 @@ unfoldable pub placesSize : TableKind → List ℕ → List ℕ → ℕ
 placesSize kind rows [] = 0
 placesSize kind rows (p ∷ ps) = entrySize kind (markAt rows p) + placesSize kind rows ps
 
+-- of all entries of a kind
 unfoldable pub entriesSize : TableKind → Overlay → ℕ
 entriesSize kind o = placesSize kind (o .rows) (take (o .count) (o .order))
 
@@ -34,6 +35,7 @@ recordSize l =
     14 + entriesSize Index (l .parts .index) + entriesSize Value (l .parts .value) + entriesSize RefCount (l .parts .refCount)
     + 3 * l .drops .count + 3 * l .countDrops .count
 
+-- what `record_size` answers of a list that keeps its rules
 abbrev pub sizedKept : Change → Sized
 sizedKept l = record { answer = Done; length = recordSize l }
 

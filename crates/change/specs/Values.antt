@@ -8,6 +8,7 @@ use Rattle.overlay.specs.Overlay.{spotIn}
 use Rattle.change.specs.Change.{Change, changeRuled}
 use Rattle.change.specs.declared.values.LocalValues.{LocalValues}
 
+-- where the values of a table begin and end in the order, in a list that keeps its rules
 abbrev pub valuesOfKept : Change → ℕ → LocalValues
 valuesOfKept l number =
     record { answer = Done; from = spotIn (l .parts .value) (rank number 0); to = spotIn (l .parts .value) (rank (number + 1) 0) }

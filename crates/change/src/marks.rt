@@ -13,7 +13,7 @@ fn with_bit(mask: u64, sub: u8) -> u64
     mask | (1u64 << s)
 }
 
-pub fn mark(kind: TableKind, old: u64, sub: u8, data: &[u8]) -> u64
+pub(crate) fn mark(kind: TableKind, old: u64, sub: u8, data: &[u8]) -> u64
     requires { ⌜ sub < 64 ⌝ }
     ensures { λ r. ⌜ r ≡ markOf kind old sub (now («data» .entry)) ⌝ }
 {

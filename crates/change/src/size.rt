@@ -7,7 +7,7 @@ ghost use lib.ListN.{length};
 ghost use Rattle.overlay.specs.Rules.{keysRuled, markRuled, rowsOf, orderOf, overlayOf, listsOf};
 ghost use Rattle.memory.specs.Parts.{ofKind};
 ghost use Rattle.change.specs.Change.{changeOf, changeRuled};
-ghost use Rattle.change.specs.Size.{entrySize, entriesSize, recordSize, sizedKept, sized};
+ghost use Rattle.change.specs.Size.{entrySize, entriesSize, sizedKept, sized};
 use super::change::LogChange;
 use answer::Answer;
 use directory::Directory;

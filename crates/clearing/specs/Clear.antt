@@ -40,6 +40,7 @@ abbrev pub hits : TableKind → ℕ → NamedKey → Bool
 hits kind key Nothing = false
 hits kind key (Key own table index) = sameKind own kind && eqb (rank table index) key
 
+-- whether a record's actions name a key of a kind
 abbrev pub names : TableKind → ℕ → List Written → Bool
 names kind key [] = false
 names kind key (w ∷ ws) = hits kind key (namedBy (w .action)) || names kind key ws

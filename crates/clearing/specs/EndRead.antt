@@ -23,6 +23,7 @@ pub record Again : Type 0 where
   pub id : ℕ
   pub actions : List Written
 
+-- the record's actions with its id beside them
 abbrev pub withId : ℕ → Walked (List Written) → Walked Again
 withId id (fault x) = fault x
 withId id (walked ws end) = walked (record { id = id; actions = ws }) end
@@ -69,6 +70,7 @@ endReadBy at s next (walked g end) = record {
   overlays = record { parts = clearedBy (g .id) (g .actions) (s .parts); lastIds = s .lastIds };
 }
 
+-- `end_read`
 abbrev pub endRead : Directory → List ℕ → ℕ → Overlays → ℕ → Ending
 endRead d log at s next = endReadBy at s next (toClear d log at s next)
 

@@ -13,17 +13,11 @@ pub fn dispatch(
     line: &[u8; 80005],
     log: &mut [u8; 80000],
     image: &mut [u8; 300000],
-    local: &mut [u8; 49152],
+    list_words: &mut [u64; 400],
+    list_bytes: &mut [u8; 49152],
     written: &mut [u8; 60000],
-    irows: &mut [u64; 1024],
-    iorder: &mut [u64; 256],
-    ibytes: &mut [u8; 131072],
-    vrows: &mut [u64; 1024],
-    vorder: &mut [u64; 256],
-    vbytes: &mut [u8; 131072],
-    crows: &mut [u64; 1024],
-    corder: &mut [u64; 256],
-    cbytes: &mut [u8; 262144],
+    words: &mut [u64; 3840],
+    bytes: &mut [u8; 524288],
     answer: &mut [u8; 65536],
 ) -> Served
     requires { ⌜ (Kept (session .reading)) × (CommandFits found) ⌝ }
@@ -33,23 +27,17 @@ pub fn dispatch(
         Found::End => session.replied(Reply::End),
         Found::Broken(fault) => session.replied(Reply::Broken(fault)),
         Found::Command(length) => {
-            let bytes: &[u8] = line;
+            let all: &[u8] = line;
             serve(
                 session,
-                &bytes[0..length],
+                &all[0..length],
                 log,
                 image,
-                local,
+                list_words,
+                list_bytes,
                 written,
-                irows,
-                iorder,
-                ibytes,
-                vrows,
-                vorder,
-                vbytes,
-                crows,
-                corder,
-                cbytes,
+                words,
+                bytes,
                 answer,
             )
         }

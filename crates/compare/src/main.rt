@@ -31,17 +31,11 @@ fn turn(
     command: &mut [u8; 80005],
     log: &mut [u8; 80000],
     image: &mut [u8; 300000],
-    local: &mut [u8; 49152],
+    list_words: &mut [u64; 400],
+    list_bytes: &mut [u8; 49152],
     written: &mut [u8; 60000],
-    irows: &mut [u64; 1024],
-    iorder: &mut [u64; 256],
-    ibytes: &mut [u8; 131072],
-    vrows: &mut [u64; 1024],
-    vorder: &mut [u64; 256],
-    vbytes: &mut [u8; 131072],
-    crows: &mut [u64; 1024],
-    corder: &mut [u64; 256],
-    cbytes: &mut [u8; 262144],
+    words: &mut [u64; 3840],
+    bytes: &mut [u8; 524288],
     answer: &mut [u8; 65536],
     output: &mut [u8; 262144],
 ) -> Run
@@ -59,17 +53,11 @@ fn turn(
         command,
         log,
         image,
-        local,
+        list_words,
+        list_bytes,
         written,
-        irows,
-        iorder,
-        ibytes,
-        vrows,
-        vorder,
-        vbytes,
-        crows,
-        corder,
-        cbytes,
+        words,
+        bytes,
         answer,
     );
     let reply = served.reply;
@@ -87,17 +75,11 @@ fn answer_all(
     command: &mut [u8; 80005],
     log: &mut [u8; 80000],
     image: &mut [u8; 300000],
-    local: &mut [u8; 49152],
+    list_words: &mut [u64; 400],
+    list_bytes: &mut [u8; 49152],
     written: &mut [u8; 60000],
-    irows: &mut [u64; 1024],
-    iorder: &mut [u64; 256],
-    ibytes: &mut [u8; 131072],
-    vrows: &mut [u64; 1024],
-    vorder: &mut [u64; 256],
-    vbytes: &mut [u8; 131072],
-    crows: &mut [u64; 1024],
-    corder: &mut [u64; 256],
-    cbytes: &mut [u8; 262144],
+    words: &mut [u64; 3840],
+    bytes: &mut [u8; 524288],
     answer: &mut [u8; 65536],
     output: &mut [u8; 262144],
 ) {
@@ -110,17 +92,11 @@ fn answer_all(
             command,
             log,
             image,
-            local,
+            list_words,
+            list_bytes,
             written,
-            irows,
-            iorder,
-            ibytes,
-            vrows,
-            vorder,
-            vbytes,
-            crows,
-            corder,
-            cbytes,
+            words,
+            bytes,
             answer,
             output,
         );
@@ -136,17 +112,11 @@ fn main() {
     let mut command = [0u8; 80005];
     let mut log = [0u8; 80000];
     let mut image = [0u8; 300000];
-    let mut local = [0u8; 49152];
+    let mut list_words = [0u64; 400];
+    let mut list_bytes = [0u8; 49152];
     let mut written = [0u8; 60000];
-    let mut irows = [0u64; 1024];
-    let mut iorder = [0u64; 256];
-    let mut ibytes = [0u8; 131072];
-    let mut vrows = [0u64; 1024];
-    let mut vorder = [0u64; 256];
-    let mut vbytes = [0u8; 131072];
-    let mut crows = [0u64; 1024];
-    let mut corder = [0u64; 256];
-    let mut cbytes = [0u8; 262144];
+    let mut words = [0u64; 3840];
+    let mut bytes = [0u8; 524288];
     let mut answer = [0u8; 65536];
     let mut output = [0u8; 262144];
     answer_all(
@@ -154,17 +124,11 @@ fn main() {
         &mut command,
         &mut log,
         &mut image,
-        &mut local,
+        &mut list_words,
+        &mut list_bytes,
         &mut written,
-        &mut irows,
-        &mut iorder,
-        &mut ibytes,
-        &mut vrows,
-        &mut vorder,
-        &mut vbytes,
-        &mut crows,
-        &mut corder,
-        &mut cbytes,
+        &mut words,
+        &mut bytes,
         &mut answer,
         &mut output,
     );

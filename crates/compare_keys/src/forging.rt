@@ -1,9 +1,13 @@
 // A key that no call would put in.
 ghost use Prim.Native.Nat.{_+_, _*_, _≤_, _<_};
 ghost use lib.ListN.{length};
-use super::slot::slot_of;
+ghost use Rattle.memory.specs.Parts.{wordsAll, bytesAll};
+use super::part::part_of;
+use super::part::slot_of;
 use compare_lines::least;
 use directory::TableKind;
+use memory::Counts;
+use memory::Holder;
 
 // A row as the command has it, and the byte that fills its slot.
 pub struct Forged {
@@ -38,7 +42,7 @@ pub fn forged_at(command: &[u8], at: usize, kind: TableKind, id: u64) -> Forged
 }
 
 // Where the key belongs in the order. An order that is broken stays so wherever one goes.
-fn place<'a>(rows: &'a [u64], order: &'a [u64], n: usize, table: u64, index: u64) -> usize
+fn place_in<'a>(rows: &'a [u64], order: &'a [u64], n: usize, table: u64, index: u64) -> usize
     requires { ⌜ (4 * n ≤ length (now rows)) × (n ≤ length (now order)) ⌝ }
     ensures { λ r. ⌜ r ≤ n ⌝ }
 {
@@ -48,6 +52,14 @@ fn place<'a>(rows: &'a [u64], order: &'a [u64], n: usize, table: u64, index: u64
     least(keys::place(rows, order, n, table, index), n)
 }
 
+fn place(words: &[u64], room: usize, n: usize, table: u64, index: u64) -> usize
+    requires { ⌜ (room ≤ 256) × (n ≤ room) × (5 * room ≤ length (now words)) ⌝ }
+    ensures { λ r. ⌜ r ≤ n ⌝ }
+{
+    let cut = 4 * room;
+    place_in(&words[..cut], &words[cut..], n, table, index)
+}
+
 fn fill_slot(bytes: &mut [u8], kind: TableKind, p: usize, byte: u8)
     requires { ⌜ p < 256 ⌝ }
 {
@@ -55,24 +67,50 @@ fn fill_slot(bytes: &mut [u8], kind: TableKind, p: usize, byte: u8)
     compare_lines::fill(bytes, slot.start, slot.end, byte);
 }
 
-// In the next place; where the room is full, only the count rises.
-pub fn append(
-    rows: &mut [u64],
-    order: &mut [u64],
-    bytes: &mut [u8],
-    room: usize,
-    n: usize,
+// In the next place of its kind's part; where the room is full, only the count rises.
+fn append_in(
     kind: TableKind,
+    room: usize,
+    words: &mut [u64],
+    bytes: &mut [u8],
+    n: usize,
     row: Forged,
 ) -> usize
-    requires { ⌜ (room ≤ 256) × (4 * room ≤ length (now rows)) × (room ≤ length (now order)) ⌝ }
+    requires { ⌜ (room ≤ 256) × (5 * room ≤ length (now words)) ⌝ }
 {
     if room <= n {
         return room + 1;
     }
-    let j = place(rows, order, n, row.table, row.index);
-    keys::put(order, j, n, n as u64);
-    keys::row_put(rows, n, row.table, row.index, row.id, row.mark);
+    let j = place(words, room, n, row.table, row.index);
+    let cut = 4 * room;
+    numbers::put(&mut words[cut..], j, n, n as u64);
+    keys::row_put(words, n, row.table, row.index, row.id, row.mark);
     fill_slot(bytes, kind, n, row.byte);
     n + 1
+}
+
+pub fn append(
+    holder: Holder,
+    kind: TableKind,
+    counts: Counts,
+    words: &mut [u64],
+    bytes: &mut [u8],
+    row: Forged,
+) -> Counts
+    requires { ⌜ (wordsAll holder ≤ length (now words)) × (bytesAll holder ≤ length (now bytes)) ⌝ }
+{
+    let s = part_of(holder, kind);
+    let a = s.words_at;
+    let e = s.words_end;
+    let b = s.bytes_at;
+    let f = s.bytes_end;
+    let n = append_in(
+        kind,
+        s.room,
+        &mut words[a..e],
+        &mut bytes[b..f],
+        counts.of(kind),
+        row,
+    );
+    counts.with(kind, n)
 }

@@ -1,10 +1,14 @@
 // What is kept, with checksums for the bytes.
 ghost use Prim.Native.Nat.{_+_, _*_, _≤_, _<_};
 ghost use lib.ListN.{length};
-use super::slot::slot_of;
+ghost use Rattle.memory.specs.Parts.{wordsAll, bytesAll};
+use super::part::part_of;
+use super::part::slot_of;
 use compare_lines::least;
 use compare_lines::put;
 use directory::TableKind;
+use memory::Counts;
+use memory::Holder;
 
 // A value has no mask.
 fn mask_of(kind: TableKind, mark: u64) -> u64 {
@@ -26,59 +30,105 @@ fn sum_of(bytes: &[u8], kind: TableKind, p: usize, mark: u64) -> u32
 }
 
 // The ids are told of shared keys alone: all keys of a list have its id.
-fn put_id(answer: &mut [u8; 65536], at: usize, with_ids: bool, id: u64) -> usize
+fn put_id(answer: &mut [u8; 65536], at: usize, holder: Holder, id: u64) -> usize
     requires { ⌜ at + 8 ≤ 65536 ⌝ }
     ensures { λ r. ⌜ r ≤ at + 8 ⌝ }
 {
-    if !with_ids {
-        return at;
+    match holder {
+        Holder::Shared => put(answer, at, id, 8),
+        Holder::List => at,
     }
-    put(answer, at, id, 8)
 }
 
 // The key in place p, in 30 bytes, or 22 without its id.
-fn put_key<'a>(
+fn put_key(
     answer: &mut [u8; 65536],
     at: usize,
+    holder: Holder,
     kind: TableKind,
-    with_ids: bool,
-    rows: &'a [u64],
+    words: &[u64],
+    bytes: &[u8],
     p: usize,
-    bytes: &'a [u8],
 ) -> usize
-    requires { ⌜ (at + 30 ≤ 65536) × (p < 256) × (4 * p + 4 ≤ length (now rows)) ⌝ }
+    requires { ⌜ (at + 30 ≤ 65536) × (p < 256) × (4 * p + 4 ≤ length (now words)) ⌝ }
     ensures { λ r. ⌜ r ≤ at + 30 ⌝ }
 {
-    let mark = rows[4 * p + 3];
-    let index = put(answer, at, rows[4 * p], 2);
-    let id = put(answer, index, rows[4 * p + 1], 8);
-    let mask = put_id(answer, id, with_ids, rows[4 * p + 2]);
+    let mark = words[4 * p + 3];
+    let index = put(answer, at, words[4 * p], 2);
+    let id = put(answer, index, words[4 * p + 1], 8);
+    let mask = put_id(answer, id, holder, words[4 * p + 2]);
     let sum = put(answer, mask, mask_of(kind, mark), 8);
     put(answer, sum, sum_of(bytes, kind, p, mark) as u64, 4)
 }
 
-// All keys of a room for so many, as the order has them, behind their count.
-pub fn put_keys<'a>(
+// The keys of a kind's part, as the order has them, behind their count.
+fn put_part(
     answer: &mut [u8; 65536],
     at: usize,
+    holder: Holder,
     kind: TableKind,
-    with_ids: bool,
-    rows: &'a [u64],
-    order: &'a [u64],
-    bytes: &'a [u8],
-    count: usize,
     room: usize,
+    words: &[u64],
+    bytes: &[u8],
+    count: usize,
 ) -> usize
-    requires { ⌜ (at + 7682 ≤ 65536) × (1 ≤ room) × (room ≤ 256) × (4 * room ≤ length (now rows)) × (room ≤ length (now order)) ⌝ }
+    requires { ⌜ (at + 7682 ≤ 65536) × (1 ≤ room) × (room ≤ 256) × (5 * room ≤ length (now words)) ⌝ }
     ensures { λ r. ⌜ r ≤ at + 7682 ⌝ }
 {
     let n = least(count, room);
+    let cut = 4 * room;
     let mut o = put(answer, at, n as u64, 2);
     let mut j = 0;
     while j < n {
-        let p = least(order[j] as usize, room - 1);
-        o = put_key(answer, o, kind, with_ids, rows, p, bytes);
+        let p = least(words[cut + j] as usize, room - 1);
+        o = put_key(answer, o, holder, kind, words, bytes, p);
         j += 1;
     }
     o
+}
+
+fn put_kind(
+    answer: &mut [u8; 65536],
+    at: usize,
+    holder: Holder,
+    kind: TableKind,
+    counts: Counts,
+    words: &[u64],
+    bytes: &[u8],
+) -> usize
+    requires { ⌜ (at + 7682 ≤ 65536) × (wordsAll holder ≤ length (now words)) × (bytesAll holder ≤ length (now bytes)) ⌝ }
+    ensures { λ r. ⌜ r ≤ at + 7682 ⌝ }
+{
+    let s = part_of(holder, kind);
+    let a = s.words_at;
+    let e = s.words_end;
+    let b = s.bytes_at;
+    let f = s.bytes_end;
+    put_part(
+        answer,
+        at,
+        holder,
+        kind,
+        s.room,
+        &words[a..e],
+        &bytes[b..f],
+        counts.of(kind),
+    )
+}
+
+// All keys, kind by kind.
+pub fn put_keys(
+    answer: &mut [u8; 65536],
+    at: usize,
+    holder: Holder,
+    counts: Counts,
+    words: &[u64],
+    bytes: &[u8],
+) -> usize
+    requires { ⌜ (at ≤ 8) × (wordsAll holder ≤ length (now words)) × (bytesAll holder ≤ length (now bytes)) ⌝ }
+    ensures { λ r. ⌜ r ≤ 23054 ⌝ }
+{
+    let b = put_kind(answer, at, holder, TableKind::Index, counts, words, bytes);
+    let c = put_kind(answer, b, holder, TableKind::Value, counts, words, bytes);
+    put_kind(answer, c, holder, TableKind::RefCount, counts, words, bytes)
 }

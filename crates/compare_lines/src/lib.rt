@@ -1,5 +1,5 @@
 // The fields of a command, the bytes of an answer, and both as hex digits. What a command does isn't known here.
-mod answer;
+mod answering;
 mod command;
 mod fault;
 mod hex;
@@ -7,10 +7,10 @@ mod kind;
 mod reply;
 mod room;
 
-pub use answer::flag;
-pub use answer::put;
-pub use answer::put_all;
-pub use answer::put_nums;
+pub use answering::flag;
+pub use answering::put;
+pub use answering::put_all;
+pub use answering::put_nums;
 pub use command::Blob;
 pub use command::check_blob;
 pub use command::last_blob;

@@ -43,12 +43,40 @@ fn blob_at(kind: TableKind) -> usize
     }
 }
 
+fn inserted(
+    list: LogChange,
+    directory: Directory,
+    kind: TableKind,
+    list_words: &mut [u64],
+    list_bytes: &mut [u8],
+    number: u16,
+    index: u64,
+    slot: u8,
+    bytes: &[u8],
+) -> Changed {
+    match kind {
+        TableKind::Index => {
+            let table = IndexTableId::from_u16(number);
+            list.insert_index(directory, list_words, list_bytes, table, index, slot, bytes)
+        }
+        TableKind::Value => {
+            let table = ValueTableId::from_u16(number);
+            list.insert_value(directory, list_words, list_bytes, table, index, bytes)
+        }
+        TableKind::RefCount => {
+            let table = RefCountTableId::from_u16(number);
+            list.insert_ref_count(directory, list_words, list_bytes, table, index, slot, bytes)
+        }
+    }
+}
+
 pub fn insert(
     list: LogChange,
     directory: Directory,
     kind: TableKind,
     command: &[u8],
-    local: &mut [u8; 49152],
+    list_words: &mut [u64; 400],
+    list_bytes: &mut [u8; 49152],
     answer: &mut [u8; 65536],
 ) -> Listed {
     if command.len() < 12 {
@@ -62,29 +90,18 @@ pub fn insert(
     let index = words::u64_at(command, 3);
     let slot = command[11];
     let bytes = last_blob(command, at);
-    match kind {
-        TableKind::Index => {
-            let table = IndexTableId::from_u16(number);
-            answered(
-                list.insert_index(directory, local, table, index, slot, bytes),
-                answer,
-            )
-        }
-        TableKind::Value => {
-            let table = ValueTableId::from_u16(number);
-            answered(
-                list.insert_value(directory, local, table, index, bytes),
-                answer,
-            )
-        }
-        TableKind::RefCount => {
-            let table = RefCountTableId::from_u16(number);
-            answered(
-                list.insert_ref_count(directory, local, table, index, slot, bytes),
-                answer,
-            )
-        }
-    }
+    let done = inserted(
+        list,
+        directory,
+        kind,
+        list_words,
+        list_bytes,
+        number,
+        index,
+        slot,
+        bytes,
+    );
+    answered(done, answer)
 }
 
 // No value table is dropped: any other kind is that of an index table.
@@ -93,7 +110,8 @@ pub fn drop_table(
     directory: Directory,
     kind: TableKind,
     command: &[u8],
-    local: &[u8; 49152],
+    list_words: &[u64; 400],
+    list_bytes: &[u8; 49152],
     answer: &mut [u8; 65536],
 ) -> Listed {
     if command.len() != 3 {
@@ -102,8 +120,14 @@ pub fn drop_table(
     let number = words::u16_at(command, 1);
     if let TableKind::RefCount = kind {
         let table = RefCountTableId::from_u16(number);
-        return answered(list.drop_ref_count_table(directory, local, table), answer);
+        return answered(
+            list.drop_ref_count_table(directory, list_words, list_bytes, table),
+            answer,
+        );
     }
     let table = IndexTableId::from_u16(number);
-    answered(list.drop_table(directory, local, table), answer)
+    answered(
+        list.drop_table(directory, list_words, list_bytes, table),
+        answer,
+    )
 }

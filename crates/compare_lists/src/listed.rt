@@ -1,4 +1,4 @@
-// What these commands keep is the list, besides the bytes of its local memory.
+// What these commands keep is the list, besides its memories of words and of bytes.
 use change::LogChange;
 use compare_lines::Reply;
 

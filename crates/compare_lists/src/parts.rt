@@ -1,83 +1,26 @@
-// The parts of a list, and of its local memory: all that these commands know of how a list is made.
+// The parts of a list: all that these commands know of how a list is made.
 ghost use Prim.Native.Nat.{_+_, _≤_};
-ghost use lib.ListN.{length};
 use change::Drops;
 use change::LogChange;
-use change::LogOverlayLocal;
 use compare_keys::Forged;
 use compare_keys::append;
 use compare_keys::put_keys;
 use compare_lines::put_nums;
 use directory::TableKind;
-
-// Arrays by value: of a parameter the length is known.
-fn with_row(
-    mut rows: [u64; 128],
-    mut order: [u64; 32],
-    bytes: &mut [u8],
-    room: usize,
-    n: usize,
-    kind: TableKind,
-    row: Forged,
-) -> LogOverlayLocal
-    requires { ⌜ room ≤ 32 ⌝ }
-{
-    let count = append(&mut rows, &mut order, bytes, room, n, kind, row);
-    LogOverlayLocal {
-        rows: rows,
-        order: order,
-        count: count,
-    }
-}
-
-fn with_key(
-    k: LogOverlayLocal,
-    bytes: &mut [u8],
-    room: usize,
-    kind: TableKind,
-    row: Forged,
-) -> LogOverlayLocal
-    requires { ⌜ room ≤ 32 ⌝ }
-{
-    let rows = k.rows;
-    let order = k.order;
-    with_row(rows, order, bytes, room, k.count, kind, row)
-}
-
-fn with_entry_in(list: LogChange, kind: TableKind, row: Forged, local: &mut [u8]) -> LogChange
-    requires { ⌜ 49152 ≤ length (now local) ⌝ }
-{
-    let mut after = list;
-    match kind {
-        TableKind::Index => {
-            let now = with_key(list.local_index, &mut local[0..16384], 32, kind, row);
-            after.local_index = now;
-        }
-        TableKind::Value => {
-            let now = with_key(list.local_values, &mut local[16384..32768], 32, kind, row);
-            after.local_values = now;
-        }
-        TableKind::RefCount => {
-            let now = with_key(
-                list.local_ref_count,
-                &mut local[32768..49152],
-                16,
-                kind,
-                row,
-            );
-            after.local_ref_count = now;
-        }
-    }
-    after
-}
+use memory::Holder;
 
 pub fn with_entry(
     list: LogChange,
     kind: TableKind,
     row: Forged,
-    local: &mut [u8; 49152],
+    list_words: &mut [u64; 400],
+    list_bytes: &mut [u8; 49152],
 ) -> LogChange {
-    with_entry_in(list, kind, row, local)
+    let before = list.counts;
+    let counts = append(Holder::List, kind, before, list_words, list_bytes, row);
+    let mut after = list;
+    after.counts = counts;
+    after
 }
 
 fn dropped(drops: Drops, number: u16) -> Drops {
@@ -104,42 +47,18 @@ pub fn with_drop(list: LogChange, of_ref_count: bool, number: u16) -> LogChange 
     after
 }
 
-fn put_part(
-    answer: &mut [u8; 65536],
-    at: usize,
-    kind: TableKind,
-    k: LogOverlayLocal,
-    bytes: &[u8],
-) -> usize
-    requires { ⌜ at + 7682 ≤ 65536 ⌝ }
-    ensures { λ r. ⌜ r ≤ at + 7682 ⌝ }
-{
-    let n = k.count;
-    put_keys(answer, at, kind, false, &k.rows, &k.order, bytes, n, 32)
-}
-
 pub fn put_entries(
     answer: &mut [u8; 65536],
     at: usize,
     list: LogChange,
-    local: &[u8; 49152],
+    list_words: &[u64; 400],
+    list_bytes: &[u8; 49152],
 ) -> usize
     requires { ⌜ at ≤ 8 ⌝ }
     ensures { λ r. ⌜ r ≤ 23054 ⌝ }
 {
-    let all: &[u8] = local;
-    let index = list.local_index;
-    let values = list.local_values;
-    let ref_count = list.local_ref_count;
-    let b = put_part(answer, at, TableKind::Index, index, &all[0..16384]);
-    let c = put_part(answer, b, TableKind::Value, values, &all[16384..32768]);
-    put_part(
-        answer,
-        c,
-        TableKind::RefCount,
-        ref_count,
-        &all[32768..49152],
-    )
+    let counts = list.counts;
+    put_keys(answer, at, Holder::List, counts, list_words, list_bytes)
 }
 
 fn wide(number: u16) -> u64 {

@@ -4,25 +4,26 @@ ghost use lib.ListN.{length};
 use super::listed::Listed;
 use super::listed::replied;
 use change::LogChange;
+use change::Sized;
 use compare_lines::Fault;
 use compare_lines::Reply;
 use compare_lines::least;
 use compare_lines::put;
 use compare_lines::wrong_length;
 use directory::Directory;
-use writer::Sized;
 
 // The output is the front of its room.
 fn flush_onto(
     list: LogChange,
     directory: Directory,
-    local: &[u8],
+    list_words: &[u64],
+    list_bytes: &[u8],
     room: &mut [u8],
     n: usize,
 ) -> Sized
     requires { ⌜ n ≤ length (now room) ⌝ }
 {
-    writer::flush_to_file(list, directory, local, &mut room[0..n])
+    writer::flush_to_file(list, directory, list_words, list_bytes, &mut room[0..n])
 }
 
 // Of an output of n bytes the w that were written, and the checksum of all.
@@ -48,7 +49,8 @@ pub fn write(
     list: LogChange,
     directory: Directory,
     command: &[u8],
-    local: &[u8; 49152],
+    list_words: &[u64; 400],
+    list_bytes: &[u8; 49152],
     room: &mut [u8; 60000],
     answer: &mut [u8; 65536],
 ) -> Listed {
@@ -60,7 +62,7 @@ pub fn write(
         return replied(list, Reply::Broken(Fault::LongOutput));
     }
     compare_lines::fill(room, 0, n, 0x5a);
-    let done = flush_onto(list, directory, local, room, n);
+    let done = flush_onto(list, directory, list_words, list_bytes, room, n);
     let number = done.answer;
     let w = least(done.length, n);
     let end = put_written(answer, number.number(), w, room, n);

@@ -14,23 +14,17 @@ use directory::Directory;
 use ending::Ended;
 use files::FileSource;
 use files::Queues;
-use overlay::LogOverlays;
+use memory::LogOverlays;
 
 // The output is the front of its room.
-fn end_onto(
+fn end_onto<'a>(
     directory: Directory,
     list: LogChange,
-    local: &[u8],
+    list_words: &'a [u64],
+    list_bytes: &'a [u8],
     overlays: LogOverlays,
-    irows: &mut [u64],
-    iorder: &mut [u64],
-    ibytes: &mut [u8],
-    vrows: &mut [u64],
-    vorder: &mut [u64],
-    vbytes: &mut [u8],
-    crows: &mut [u64],
-    corder: &mut [u64],
-    cbytes: &mut [u8],
+    words: &mut [u64],
+    bytes: &mut [u8],
     queues: Queues,
     next: u64,
     room: &mut [u8],
@@ -41,17 +35,11 @@ fn end_onto(
     ending::end_record(
         directory,
         list,
-        local,
+        list_words,
+        list_bytes,
         overlays,
-        irows,
-        iorder,
-        ibytes,
-        vrows,
-        vorder,
-        vbytes,
-        crows,
-        corder,
-        cbytes,
+        words,
+        bytes,
         queues,
         next,
         &mut room[0..n],
@@ -82,23 +70,17 @@ fn put_ended(answer: &mut [u8; 65536], done: Ended, bytes: &[u8], n: usize) -> R
     Reply::Line((18 + w) as u16)
 }
 
-pub fn end(
+pub fn end<'a>(
     list: LogChange,
     queues: Queues,
     living: Living,
     directory: Directory,
     command: &[u8],
-    local: &[u8; 49152],
+    list_words: &'a [u64; 400],
+    list_bytes: &'a [u8; 49152],
     room: &mut [u8; 60000],
-    irows: &mut [u64; 1024],
-    iorder: &mut [u64; 256],
-    ibytes: &mut [u8; 131072],
-    vrows: &mut [u64; 1024],
-    vorder: &mut [u64; 256],
-    vbytes: &mut [u8; 131072],
-    crows: &mut [u64; 1024],
-    corder: &mut [u64; 256],
-    cbytes: &mut [u8; 262144],
+    words: &mut [u64; 3840],
+    bytes: &mut [u8; 524288],
     answer: &mut [u8; 65536],
 ) -> Lived {
     if command.len() != 5 {
@@ -114,17 +96,11 @@ pub fn end(
     let done = end_onto(
         directory,
         list,
-        local,
+        list_words,
+        list_bytes,
         before,
-        irows,
-        iorder,
-        ibytes,
-        vrows,
-        vorder,
-        vbytes,
-        crows,
-        corder,
-        cbytes,
+        words,
+        bytes,
         queues,
         next,
         room,

@@ -2,7 +2,7 @@
 use change::LogChange;
 use compare_lines::Reply;
 use files::Queues;
-use overlay::LogOverlays;
+use memory::LogOverlays;
 
 pub struct Living {
     pub overlays: LogOverlays,
@@ -21,7 +21,7 @@ impl Living {
     pub fn new() -> Living {
         Living {
             overlays: LogOverlays::new(),
-            next_record_id: 1,
+            next_record_id: log::first_record_id(),
         }
     }
 }

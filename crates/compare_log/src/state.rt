@@ -9,7 +9,7 @@ use compare_lines::put;
 use compare_lines::put_all;
 use compare_lines::wrong_length;
 use files::Queues;
-use overlay::LogOverlays;
+use memory::LogOverlays;
 
 // A refused open has its number alone for an answer.
 fn is_opened(reply: Reply) -> bool {
@@ -37,39 +37,20 @@ pub fn open(
     replied(list, after, living, reply)
 }
 
-pub fn clear_replay<'a>(
+pub fn clear_replay(
     list: LogChange,
     queues: Queues,
     living: Living,
     command: &[u8],
-    irows: &'a [u64; 1024],
-    iorder: &'a [u64; 256],
-    ibytes: &'a [u8; 131072],
-    vrows: &'a [u64; 1024],
-    vorder: &'a [u64; 256],
-    vbytes: &'a [u8; 131072],
-    crows: &'a [u64; 1024],
-    corder: &'a [u64; 256],
-    cbytes: &'a [u8; 262144],
+    words: &[u64; 3840],
+    bytes: &[u8; 524288],
     answer: &mut [u8; 65536],
 ) -> Lived {
     if command.len() != 1 {
         return replied(list, queues, living, wrong_length(command.len(), 1));
     }
     let before = living.overlays;
-    let done = log::clear_replay_logs(
-        before,
-        irows,
-        iorder,
-        ibytes,
-        vrows,
-        vorder,
-        vbytes,
-        crows,
-        corder,
-        cbytes,
-        queues,
-    );
+    let done = log::clear_replay_logs(before, words, bytes, queues);
     let number = done.answer;
     let overlays = done.overlays;
     let cleared = done.queues;

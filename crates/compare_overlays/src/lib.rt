@@ -2,6 +2,7 @@
 mod lookups;
 mod opcode;
 mod parts;
+mod values;
 
 pub use opcode::Overlaid;
 pub use opcode::serve;

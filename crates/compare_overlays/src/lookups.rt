@@ -1,10 +1,12 @@
-// LOOKUP and VALUE_INTO: the bytes stored for a key.
+// LOOKUP: the bytes stored for a key.
 ghost use Prim.Native.Nat.{_≤_};
 ghost use lib.ListN.{length};
 use change::LogChange;
+use compare_keys::part_of;
 use compare_lines::Fault;
 use compare_lines::Reply;
 use compare_lines::flag;
+use compare_lines::kind_of;
 use compare_lines::least;
 use compare_lines::put;
 use compare_lines::wrong_length;
@@ -12,15 +14,15 @@ use directory::IndexTableId;
 use directory::RefCountTableId;
 use directory::TableKind;
 use directory::ValueTableId;
-use overlay::LogOverlays;
-use query::Copied;
+use memory::Holder;
+use memory::LogOverlays;
 
+// In its kind's part of the shared memories.
 fn in_shared<'a>(
     kind: TableKind,
-    rows: &'a [u64],
-    order: &'a [u64],
+    overlays: LogOverlays,
+    words: &'a [u64],
     bytes: &'a [u8],
-    n: usize,
     table: u16,
     index: u64,
     number: &mut u64,
@@ -28,27 +30,28 @@ fn in_shared<'a>(
     match kind {
         TableKind::Index => {
             let id = IndexTableId::from_u16(table);
-            query::shared::with_index(rows, order, bytes, n, id, index, number)
+            query::shared::with_index(overlays, words, bytes, id, index, number)
         }
         TableKind::Value => {
             let id = ValueTableId::from_u16(table);
-            query::shared::value_ref(rows, order, bytes, n, id, index, number)
+            query::shared::value_ref(overlays, words, bytes, id, index, number)
         }
         TableKind::RefCount => {
             let id = RefCountTableId::from_u16(table);
-            query::shared::ref_count(rows, order, bytes, n, id, index, number)
+            query::shared::ref_count(overlays, words, bytes, id, index, number)
         }
     }
 }
 
+// In the list first, then in its kind's part of the shared memories.
 fn in_list<'a>(
     kind: TableKind,
     list: LogChange,
-    local: &'a [u8],
-    rows: &'a [u64],
-    order: &'a [u64],
+    list_words: &'a [u64],
+    list_bytes: &'a [u8],
+    overlays: LogOverlays,
+    words: &'a [u64],
     bytes: &'a [u8],
-    n: usize,
     table: u16,
     index: u64,
     number: &mut u64,
@@ -56,15 +59,45 @@ fn in_list<'a>(
     match kind {
         TableKind::Index => {
             let id = IndexTableId::from_u16(table);
-            query::listed::with_index(list, local, rows, order, bytes, n, id, index, number)
+            query::listed::with_index(
+                list,
+                list_words,
+                list_bytes,
+                overlays,
+                words,
+                bytes,
+                id,
+                index,
+                number,
+            )
         }
         TableKind::Value => {
             let id = ValueTableId::from_u16(table);
-            query::listed::value_ref(list, local, rows, order, bytes, n, id, index, number)
+            query::listed::value_ref(
+                list,
+                list_words,
+                list_bytes,
+                overlays,
+                words,
+                bytes,
+                id,
+                index,
+                number,
+            )
         }
         TableKind::RefCount => {
             let id = RefCountTableId::from_u16(table);
-            query::listed::ref_count(list, local, rows, order, bytes, n, id, index, number)
+            query::listed::ref_count(
+                list,
+                list_words,
+                list_bytes,
+                overlays,
+                words,
+                bytes,
+                id,
+                index,
+                number,
+            )
         }
     }
 }
@@ -79,16 +112,15 @@ fn put_stored(answer: &mut [u8; 65536], number: u64, stored: &[u8]) -> Reply {
     Reply::Line((6 + n) as u16)
 }
 
-// The key of a LOOKUP, in the overlay of its kind.
-pub fn look<'a>(
+fn look<'a>(
     kind: TableKind,
     list: LogChange,
+    overlays: LogOverlays,
     command: &[u8],
-    local: &'a [u8],
-    rows: &'a [u64],
-    order: &'a [u64],
+    list_words: &'a [u64],
+    list_bytes: &'a [u8],
+    words: &'a [u64],
     bytes: &'a [u8],
-    n: usize,
     answer: &mut [u8; 65536],
 ) -> Reply
     requires { ⌜ 13 ≤ length (now command) ⌝ }
@@ -97,17 +129,17 @@ pub fn look<'a>(
     let index = words::u64_at(command, 5);
     let mut number: u64 = 0;
     if command[2] == 0 {
-        let stored = in_shared(kind, rows, order, bytes, n, table, index, &mut number);
+        let stored = in_shared(kind, overlays, words, bytes, table, index, &mut number);
         return put_stored(answer, number, stored);
     }
     let stored = in_list(
         kind,
         list,
-        local,
-        rows,
-        order,
+        list_words,
+        list_bytes,
+        overlays,
+        words,
         bytes,
-        n,
         table,
         index,
         &mut number,
@@ -115,70 +147,64 @@ pub fn look<'a>(
     put_stored(answer, number, stored)
 }
 
-// The destination is the front of its room.
-fn value_onto<'a>(
-    list: LogChange,
-    command: &[u8],
-    local: &'a [u8],
-    rows: &'a [u64],
-    order: &'a [u64],
-    bytes: &'a [u8],
-    n: usize,
-    room: &mut [u8],
-    end: usize,
-) -> Copied
-    requires { ⌜ (16 ≤ length (now command)) × (end ≤ length (now room)) ⌝ }
-{
-    let table = ValueTableId::from_u16(words::u16_at(command, 2));
-    let index = words::u64_at(command, 4);
-    if command[1] == 0 {
-        return query::shared::value(rows, order, bytes, n, table, index, &mut room[0..end]);
-    }
-    query::listed::value(
-        list,
-        local,
-        rows,
-        order,
-        bytes,
-        n,
-        table,
-        index,
-        &mut room[0..end],
-    )
-}
-
-fn put_copied(answer: &mut [u8; 65536], done: Copied, room: &[u8; 60000], end: usize) -> Reply
-    requires { ⌜ end ≤ 60000 ⌝ }
-{
-    let bytes: &[u8] = room;
-    let number = done.answer;
-    put(answer, 0, number.number() as u64, 1);
-    put(answer, 1, flag(done.found), 1);
-    put(answer, 2, end as u64, 4);
-    output::copy_into(answer, 6, &bytes[0..end]);
-    Reply::Line((6 + end) as u16)
-}
-
-pub fn value_into<'a>(
+// The kind's part of the shared memories is handed on.
+fn look_part<'a>(
+    kind: TableKind,
     list: LogChange,
     overlays: LogOverlays,
     command: &[u8],
-    local: &'a [u8; 49152],
-    vrows: &'a [u64; 1024],
-    vorder: &'a [u64; 256],
-    vbytes: &'a [u8; 131072],
-    room: &mut [u8; 60000],
+    list_words: &'a [u64],
+    list_bytes: &'a [u8],
+    words: &'a [u64],
+    bytes: &'a [u8],
+    answer: &mut [u8; 65536],
+) -> Reply
+    requires { ⌜ (13 ≤ length (now command)) × (3840 ≤ length (now words)) × (524288 ≤ length (now bytes)) ⌝ }
+{
+    let s = part_of(Holder::Shared, kind);
+    let a = s.words_at;
+    let e = s.words_end;
+    let b = s.bytes_at;
+    let f = s.bytes_end;
+    look(
+        kind,
+        list,
+        overlays,
+        command,
+        list_words,
+        list_bytes,
+        &words[a..e],
+        &bytes[b..f],
+        answer,
+    )
+}
+
+pub fn lookup<'a>(
+    list: LogChange,
+    overlays: LogOverlays,
+    command: &[u8],
+    list_words: &'a [u64; 400],
+    list_bytes: &'a [u8; 49152],
+    words: &'a [u64; 3840],
+    bytes: &'a [u8; 524288],
     answer: &mut [u8; 65536],
 ) -> Reply {
-    if command.len() != 16 {
-        return wrong_length(command.len(), 16);
+    if command.len() != 13 {
+        return wrong_length(command.len(), 13);
     }
-    let end = words::u32_at(command, 12) as usize;
-    if 60000 < end {
-        return Reply::Broken(Fault::LongOutput);
+    if 2 < command[1] {
+        return Reply::Broken(Fault::UnknownKind);
     }
-    compare_lines::fill(room, 0, end, 0x5a);
-    let n = overlays.value;
-    let done = value_onto(list, command, local, vrows, vorder, vbytes, n, room, end);
-    put_copied(answer, done, room, end)
+    let kind = kind_of(command[1]);
+    look_part(
+        kind,
+        list,
+        overlays,
+        command,
+        list_words,
+        list_bytes,
+        words,
+        bytes,
+        answer,
+    )
 }

@@ -1,18 +1,16 @@
 // One command, by its opcode.
 ghost use Prim.Native.Nat.{_≤_};
 ghost use lib.ListN.{length};
-use super::lookups::value_into;
-use super::parts::on_kind;
+use super::lookups::lookup;
+use super::parts::forge;
+use super::parts::last_id;
 use super::parts::put_overlays;
+use super::values::value_into;
 use change::LogChange;
-use compare_lines::Fault;
 use compare_lines::Reply;
-use compare_lines::kind_of;
-use compare_lines::put;
-use compare_lines::wrong_length;
-use overlay::LogOverlays;
+use memory::LogOverlays;
 
-// What these commands keep is the overlays, besides their memories.
+// What these commands keep is the overlays, besides their memories of words and of bytes.
 pub struct Overlaid {
     pub overlays: LogOverlays,
     pub reply: Reply,
@@ -25,148 +23,75 @@ pub fn replied(overlays: LogOverlays, reply: Reply) -> Overlaid {
     }
 }
 
-fn last_id(overlays: LogOverlays, command: &[u8], answer: &mut [u8; 65536]) -> Reply {
-    if command.len() != 9 {
-        return wrong_length(command.len(), 9);
-    }
-    let id = overlays.last_record_id(words::u64_at(command, 1));
-    put(answer, 0, id, 8);
-    Reply::Line(8)
-}
-
-// LOOKUP and FORGE_OVERLAY name a kind behind their opcode.
-fn by_kind(
-    list: LogChange,
-    overlays: LogOverlays,
-    wanted: usize,
-    command: &[u8],
-    local: &[u8; 49152],
-    irows: &mut [u64; 1024],
-    iorder: &mut [u64; 256],
-    ibytes: &mut [u8; 131072],
-    vrows: &mut [u64; 1024],
-    vorder: &mut [u64; 256],
-    vbytes: &mut [u8; 131072],
-    crows: &mut [u64; 1024],
-    corder: &mut [u64; 256],
-    cbytes: &mut [u8; 262144],
-    answer: &mut [u8; 65536],
-) -> Overlaid
-    requires { ⌜ 13 ≤ wanted ⌝ }
-{
-    if command.len() != wanted {
-        return replied(overlays, wrong_length(command.len(), wanted));
-    }
-    if 2 < command[1] {
-        return replied(overlays, Reply::Broken(Fault::UnknownKind));
-    }
-    let kind = kind_of(command[1]);
-    on_kind(
-        list,
-        overlays,
-        kind,
-        command,
-        local,
-        irows,
-        iorder,
-        ibytes,
-        vrows,
-        vorder,
-        vbytes,
-        crows,
-        corder,
-        cbytes,
-        answer,
-    )
-}
-
-pub fn serve(
+// Those that leave the overlays as they are.
+fn tell<'a>(
     list: LogChange,
     overlays: LogOverlays,
     command: &[u8],
-    local: &[u8; 49152],
+    list_words: &'a [u64; 400],
+    list_bytes: &'a [u8; 49152],
     room: &mut [u8; 60000],
-    irows: &mut [u64; 1024],
-    iorder: &mut [u64; 256],
-    ibytes: &mut [u8; 131072],
-    vrows: &mut [u64; 1024],
-    vorder: &mut [u64; 256],
-    vbytes: &mut [u8; 131072],
-    crows: &mut [u64; 1024],
-    corder: &mut [u64; 256],
-    cbytes: &mut [u8; 262144],
+    words: &'a [u64; 3840],
+    bytes: &'a [u8; 524288],
     answer: &mut [u8; 65536],
-) -> Overlaid
+) -> Reply
     requires { ⌜ 1 ≤ length (now command) ⌝ }
 {
     let opcode = command[0];
     match opcode {
-        0x1a => by_kind(
+        0x1a => lookup(
             list,
             overlays,
-            13,
             command,
-            local,
-            irows,
-            iorder,
-            ibytes,
-            vrows,
-            vorder,
-            vbytes,
-            crows,
-            corder,
-            cbytes,
+            list_words,
+            list_bytes,
+            words,
+            bytes,
             answer,
         ),
-        0x1b => replied(
-            overlays,
-            value_into(
-                list,
-                overlays,
-                command,
-                local,
-                vrows,
-                vorder,
-                vbytes,
-                room,
-                answer,
-            ),
-        ),
-        0x1d => replied(
-            overlays,
-            put_overlays(
-                overlays,
-                command,
-                irows,
-                iorder,
-                ibytes,
-                vrows,
-                vorder,
-                vbytes,
-                crows,
-                corder,
-                cbytes,
-                answer,
-            ),
-        ),
-        0x1e => replied(overlays, last_id(overlays, command, answer)),
-        0x22 => by_kind(
+        0x1b => value_into(
             list,
             overlays,
-            31,
             command,
-            local,
-            irows,
-            iorder,
-            ibytes,
-            vrows,
-            vorder,
-            vbytes,
-            crows,
-            corder,
-            cbytes,
+            list_words,
+            list_bytes,
+            room,
+            words,
+            bytes,
             answer,
         ),
-        _ => replied(overlays, Reply::Unknown),
+        0x1d => put_overlays(overlays, command, words, bytes, answer),
+        0x1e => last_id(overlays, command, answer),
+        _ => Reply::Unknown,
     }
+}
+
+pub fn serve<'a>(
+    list: LogChange,
+    overlays: LogOverlays,
+    command: &[u8],
+    list_words: &'a [u64; 400],
+    list_bytes: &'a [u8; 49152],
+    room: &mut [u8; 60000],
+    words: &mut [u64; 3840],
+    bytes: &mut [u8; 524288],
+    answer: &mut [u8; 65536],
+) -> Overlaid
+    requires { ⌜ 1 ≤ length (now command) ⌝ }
+{
+    if command[0] == 0x22 {
+        return forge(overlays, command, words, bytes, answer);
+    }
+    let reply = tell(
+        list,
+        overlays,
+        command,
+        list_words,
+        list_bytes,
+        room,
+        words,
+        bytes,
+        answer,
+    );
+    replied(overlays, reply)
 }

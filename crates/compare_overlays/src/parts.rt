@@ -1,144 +1,62 @@
-// The parts of the overlays, and of their memories: all that these commands know of how the overlays are made.
-ghost use Prim.Native.Nat.{_+_, _≤_};
-ghost use lib.ListN.{length};
-use super::lookups::look;
+// FORGE_OVERLAY, OVERLAYS and LAST_ID: the shared overlays themselves.
 use super::opcode::Overlaid;
 use super::opcode::replied;
-use change::LogChange;
 use compare_keys::append;
 use compare_keys::forged_at;
 use compare_keys::put_keys;
+use compare_lines::Fault;
 use compare_lines::Reply;
+use compare_lines::kind_of;
 use compare_lines::put;
 use compare_lines::wrong_length;
-use directory::TableKind;
-use overlay::LogOverlays;
+use memory::Holder;
+use memory::LogOverlays;
 
-// How many keys of the kind there are then.
-pub struct Keyed {
-    pub count: usize,
-    pub reply: Reply,
-}
-
-// A LOOKUP of 13 bytes, or a FORGE_OVERLAY of 31.
-fn one_kind(
-    list: LogChange,
-    kind: TableKind,
+// A key put in untested.
+pub fn forge(
+    overlays: LogOverlays,
     command: &[u8],
-    local: &[u8; 49152],
-    rows: &mut [u64; 1024],
-    order: &mut [u64; 256],
-    bytes: &mut [u8],
-    n: usize,
+    words: &mut [u64; 3840],
+    bytes: &mut [u8; 524288],
     answer: &mut [u8; 65536],
-) -> Keyed
-    requires { ⌜ 13 ≤ length (now command) ⌝ }
-{
-    if command.len() < 31 {
-        return Keyed {
-            count: n,
-            reply: look(kind, list, command, local, rows, order, bytes, n, answer),
-        };
+) -> Overlaid {
+    if command.len() != 31 {
+        return replied(overlays, wrong_length(command.len(), 31));
     }
+    if 2 < command[1] {
+        return replied(overlays, Reply::Broken(Fault::UnknownKind));
+    }
+    let kind = kind_of(command[1]);
     let row = forged_at(command, 20, kind, words::u64_at(command, 12));
-    put(answer, 0, 0, 1);
-    Keyed {
-        count: append(rows, order, bytes, 256, n, kind, row),
-        reply: Reply::Line(1),
-    }
-}
-
-pub fn on_kind(
-    list: LogChange,
-    overlays: LogOverlays,
-    kind: TableKind,
-    command: &[u8],
-    local: &[u8; 49152],
-    irows: &mut [u64; 1024],
-    iorder: &mut [u64; 256],
-    ibytes: &mut [u8; 131072],
-    vrows: &mut [u64; 1024],
-    vorder: &mut [u64; 256],
-    vbytes: &mut [u8; 131072],
-    crows: &mut [u64; 1024],
-    corder: &mut [u64; 256],
-    cbytes: &mut [u8; 262144],
-    answer: &mut [u8; 65536],
-) -> Overlaid
-    requires { ⌜ 13 ≤ length (now command) ⌝ }
-{
+    let before = overlays.counts;
+    let counts = append(Holder::Shared, kind, before, words, bytes, row);
     let mut after = overlays;
-    match kind {
-        TableKind::Index => {
-            let n = overlays.index;
-            let done = one_kind(list, kind, command, local, irows, iorder, ibytes, n, answer);
-            after.index = done.count;
-            let reply = done.reply;
-            replied(after, reply)
-        }
-        TableKind::Value => {
-            let n = overlays.value;
-            let done = one_kind(list, kind, command, local, vrows, vorder, vbytes, n, answer);
-            after.value = done.count;
-            let reply = done.reply;
-            replied(after, reply)
-        }
-        TableKind::RefCount => {
-            let n = overlays.ref_count;
-            let done = one_kind(list, kind, command, local, crows, corder, cbytes, n, answer);
-            after.ref_count = done.count;
-            let reply = done.reply;
-            replied(after, reply)
-        }
-    }
+    after.counts = counts;
+    put(answer, 0, 0, 1);
+    replied(after, Reply::Line(1))
 }
 
-fn put_part<'a>(
-    answer: &mut [u8; 65536],
-    at: usize,
-    kind: TableKind,
-    rows: &'a [u64; 1024],
-    order: &'a [u64; 256],
-    bytes: &'a [u8],
-    count: usize,
-) -> usize
-    requires { ⌜ at + 7682 ≤ 65536 ⌝ }
-    ensures { λ r. ⌜ r ≤ at + 7682 ⌝ }
-{
-    put_keys(answer, at, kind, true, rows, order, bytes, count, 256)
-}
-
-// OVERLAYS: what they hold, with checksums for their bytes.
-pub fn put_overlays<'a>(
+// What they hold, with checksums for their bytes.
+pub fn put_overlays(
     overlays: LogOverlays,
     command: &[u8],
-    irows: &'a [u64; 1024],
-    iorder: &'a [u64; 256],
-    ibytes: &'a [u8; 131072],
-    vrows: &'a [u64; 1024],
-    vorder: &'a [u64; 256],
-    vbytes: &'a [u8; 131072],
-    crows: &'a [u64; 1024],
-    corder: &'a [u64; 256],
-    cbytes: &'a [u8; 262144],
+    words: &[u64; 3840],
+    bytes: &[u8; 524288],
     answer: &mut [u8; 65536],
 ) -> Reply {
     if command.len() != 1 {
         return wrong_length(command.len(), 1);
     }
-    let index = overlays.index;
-    let value = overlays.value;
-    let ref_count = overlays.ref_count;
-    let a = put_part(answer, 0, TableKind::Index, irows, iorder, ibytes, index);
-    let b = put_part(answer, a, TableKind::Value, vrows, vorder, vbytes, value);
-    let end = put_part(
-        answer,
-        b,
-        TableKind::RefCount,
-        crows,
-        corder,
-        cbytes,
-        ref_count,
-    );
+    let counts = overlays.counts;
+    let end = put_keys(answer, 0, Holder::Shared, counts, words, bytes);
     Reply::Line(end as u16)
+}
+
+pub fn last_id(overlays: LogOverlays, command: &[u8], answer: &mut [u8; 65536]) -> Reply {
+    if command.len() != 9 {
+        return wrong_length(command.len(), 9);
+    }
+    let id = overlays.last_record_id(words::u64_at(command, 1));
+    put(answer, 0, id, 8);
+    Reply::Line(8)
 }

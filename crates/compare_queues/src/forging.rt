@@ -7,7 +7,10 @@ use compare_lines::Fault;
 use compare_lines::Reply;
 use compare_lines::put;
 use compare_lines::wrong_length;
+use files::Appending;
+use files::NumberQueue;
 use files::Queues;
+use files::Reading;
 
 pub struct Forged {
     pub queues: Queues,
@@ -35,42 +38,42 @@ fn number_at(command: &[u8], at: usize) -> u64
 }
 
 // The numbers of a list, as many as there is room for, and a count that may be beyond the room.
-fn take_nums(command: &[u8], at: usize, room: &mut [u64; 64]) -> usize
+fn take_nums(command: &[u8], at: usize) -> NumberQueue
     requires { ⌜ at ≤ 1000000 ⌝ }
-    ensures { λ r. ⌜ r < 65536 ⌝ }
+    ensures { λ r. ⌜ r .count < 65536 ⌝ }
 {
     let count = count_at(command, at);
+    let mut numbers = [0u64; 64];
     let mut i = 0;
     while i < count {
         if 64 <= i {
             break;
         }
-        room[i] = number_at(command, at + 2 + 4 * i);
+        numbers[i] = number_at(command, at + 2 + 4 * i);
         i += 1;
     }
-    count
-}
-
-fn pool_of(list: [u64; 64]) -> [u64; 16] {
-    let mut pool = [0u64; 16];
-    let mut i = 0;
-    while i < 16 {
-        pool[i] = list[i];
-        i += 1;
+    NumberQueue {
+        count: count,
+        numbers: numbers,
     }
-    pool
 }
 
 // The two places of one file, in front of the lists.
 fn forged_places(command: &[u8], before: Queues) -> Queues
     requires { ⌜ 19 ≤ length (now command) ⌝ }
 {
+    let appending = Appending {
+        some: command[1] != 0,
+        id: words::u32_at(command, 2) as u64,
+        size: words::u64_at(command, 6),
+    };
+    let reading = Reading {
+        some: command[14] != 0,
+        id: words::u32_at(command, 15) as u64,
+    };
     let mut q = before;
-    q.appending = command[1] != 0;
-    q.appending_id = words::u32_at(command, 2) as u64;
-    q.appending_size = words::u64_at(command, 6);
-    q.reading = command[14] != 0;
-    q.reading_id = words::u32_at(command, 15) as u64;
+    q.appending = appending;
+    q.reading = reading;
     q
 }
 
@@ -78,32 +81,23 @@ fn forged_places(command: &[u8], before: Queues) -> Queues
 fn forged_lists(command: &[u8], places: Queues) -> Forged
     ensures { λ r. ⌜ r .end ≤ 2000000 ⌝ }
 {
-    let mut read_queue = [0u64; 64];
-    let mut cleanup_queue = [0u64; 64];
-    let mut pool_list = [0u64; 64];
-    let mut replay_queue = [0u64; 64];
-    let read_count = take_nums(command, 19, &mut read_queue);
-    let cleanup = 21 + 4 * read_count;
-    let cleanup_count = take_nums(command, cleanup, &mut cleanup_queue);
-    let pool = cleanup + 2 + 4 * cleanup_count;
-    let pool_count = take_nums(command, pool, &mut pool_list);
-    let replay = pool + 2 + 4 * pool_count;
-    let replay_count = take_nums(command, replay, &mut replay_queue);
-    let log_pool = pool_of(pool_list);
+    let read_queue = take_nums(command, 19);
+    let cleanup = 21 + 4 * read_queue.count;
+    let cleanup_queue = take_nums(command, cleanup);
+    let pool = cleanup + 2 + 4 * cleanup_queue.count;
+    let log_pool = take_nums(command, pool);
+    let replay = pool + 2 + 4 * log_pool.count;
+    let replay_queue = take_nums(command, replay);
     let replay_ids = [0u64; 64];
     let mut q = places;
-    q.read_count = read_count;
     q.read_queue = read_queue;
-    q.cleanup_count = cleanup_count;
     q.cleanup_queue = cleanup_queue;
-    q.pool_count = pool_count;
     q.log_pool = log_pool;
-    q.replay_count = replay_count;
     q.replay_queue = replay_queue;
     q.replay_ids = replay_ids;
     Forged {
         queues: q,
-        end: replay + 2 + 4 * replay_count,
+        end: replay + 2 + 4 * replay_queue.count,
     }
 }
 

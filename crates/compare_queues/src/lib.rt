@@ -10,5 +10,4 @@ mod state;
 pub use opcode::serve;
 pub use opening::open;
 pub use queued::Queued;
-pub use queued::no_files;
 pub use state::put_queues;

@@ -5,7 +5,6 @@ use super::queued::replied;
 use compare_lines::Reply;
 use compare_lines::flag;
 use compare_lines::put;
-use compare_lines::put_nums;
 use compare_lines::wrong_length;
 use files::Queues;
 
@@ -62,8 +61,8 @@ pub fn clean(queues: Queues, command: &[u8], answer: &mut [u8; 65536]) -> Queued
     put(answer, 1, flag(done.more), 1);
     let empty = done.empty;
     let remove = done.remove;
-    let emptied = put_queue(answer, 2, empty, done.empty_count);
-    let removed = put_queue(answer, emptied, remove, done.remove_count);
+    let emptied = put_queue(answer, 2, empty);
+    let removed = put_queue(answer, emptied, remove);
     let after = done.queues;
     replied(after, Reply::Line(removed as u16))
 }
@@ -76,7 +75,7 @@ pub fn kill(queues: Queues, command: &[u8], answer: &mut [u8; 65536]) -> Queued 
     let number = done.answer;
     put(answer, 0, number.number() as u64, 1);
     let remove = done.remove;
-    let removed = put_nums(answer, 1, &remove, done.remove_count);
+    let removed = put_queue(answer, 1, remove);
     let after = done.queues;
     replied(after, Reply::Line(removed as u16))
 }

@@ -1,6 +1,5 @@
 // The part of STATE that the queues are.
 ghost use Prim.Native.Nat.{_+_, _≤_};
-use super::nums::put_pool;
 use super::nums::put_queue;
 use compare_lines::flag;
 use compare_lines::least;
@@ -16,17 +15,19 @@ fn if_there(there: bool, number: u64) -> u64 {
 fn put_places(answer: &mut [u8; 65536], q: Queues) -> usize
     ensures { λ r. ⌜ r ≤ 3000 ⌝ }
 {
-    put(answer, 0, flag(q.appending), 1);
-    put(answer, 1, if_there(q.appending, q.appending_id), 4);
-    put(answer, 5, if_there(q.appending, q.appending_size), 8);
-    put(answer, 13, flag(q.reading), 1);
-    put(answer, 14, if_there(q.reading, q.reading_id), 4);
+    let appending = q.appending;
+    let reading = q.reading;
+    put(answer, 0, flag(appending.some), 1);
+    put(answer, 1, if_there(appending.some, appending.id), 4);
+    put(answer, 5, if_there(appending.some, appending.size), 8);
+    put(answer, 13, flag(reading.some), 1);
+    put(answer, 14, if_there(reading.some, reading.id), 4);
     let read_queue = q.read_queue;
     let cleanup_queue = q.cleanup_queue;
     let log_pool = q.log_pool;
-    let read = put_queue(answer, 18, read_queue, q.read_count);
-    let cleaned = put_queue(answer, read, cleanup_queue, q.cleanup_count);
-    put_pool(answer, cleaned, log_pool, q.pool_count)
+    let read = put_queue(answer, 18, read_queue);
+    let cleaned = put_queue(answer, read, cleanup_queue);
+    put_queue(answer, cleaned, log_pool)
 }
 
 // The number and the id of each.
@@ -50,9 +51,10 @@ fn put_replay(answer: &mut [u8; 65536], at: usize, q: Queues) -> usize
     requires { ⌜ at ≤ 3000 ⌝ }
     ensures { λ r. ⌜ r ≤ at + 770 ⌝ }
 {
-    let files = q.replay_queue;
+    let queue = q.replay_queue;
+    let files = queue.numbers;
     let ids = q.replay_ids;
-    put_pairs(answer, at, &files, &ids, q.replay_count)
+    put_pairs(answer, at, &files, &ids, queue.count)
 }
 
 // All that STATE tells of the queues, with the next id among it.

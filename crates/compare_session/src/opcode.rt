@@ -43,7 +43,8 @@ fn queue(session: Session, command: &[u8], log: &[u8; 80000], answer: &mut [u8; 
 fn list(
     session: Session,
     command: &[u8],
-    local: &mut [u8; 49152],
+    list_words: &mut [u64; 400],
+    list_bytes: &mut [u8; 49152],
     written: &mut [u8; 60000],
     answer: &mut [u8; 65536],
 ) -> Served
@@ -53,7 +54,15 @@ fn list(
     let reading = session.reading;
     let directory = reading.directory;
     let before = session.list;
-    let done = compare_lists::serve(before, directory, command, local, written, answer);
+    let done = compare_lists::serve(
+        before,
+        directory,
+        command,
+        list_words,
+        list_bytes,
+        written,
+        answer,
+    );
     let after = done.list;
     let mut kept = session;
     kept.list = after;
@@ -61,20 +70,14 @@ fn list(
     kept.replied(reply)
 }
 
-fn on_overlays(
+fn on_overlays<'a>(
     session: Session,
     command: &[u8],
-    local: &[u8; 49152],
+    list_words: &'a [u64; 400],
+    list_bytes: &'a [u8; 49152],
     written: &mut [u8; 60000],
-    irows: &mut [u64; 1024],
-    iorder: &mut [u64; 256],
-    ibytes: &mut [u8; 131072],
-    vrows: &mut [u64; 1024],
-    vorder: &mut [u64; 256],
-    vbytes: &mut [u8; 131072],
-    crows: &mut [u64; 1024],
-    corder: &mut [u64; 256],
-    cbytes: &mut [u8; 262144],
+    words: &mut [u64; 3840],
+    bytes: &mut [u8; 524288],
     answer: &mut [u8; 65536],
 ) -> Served
     requires { ⌜ (Kept (session .reading)) × (1 ≤ length (now command)) ⌝ }
@@ -87,17 +90,11 @@ fn on_overlays(
         list,
         before,
         command,
-        local,
+        list_words,
+        list_bytes,
         written,
-        irows,
-        iorder,
-        ibytes,
-        vrows,
-        vorder,
-        vbytes,
-        crows,
-        corder,
-        cbytes,
+        words,
+        bytes,
         answer,
     );
     let after = done.overlays;
@@ -109,21 +106,15 @@ fn on_overlays(
     kept.replied(reply)
 }
 
-fn live(
+fn live<'a>(
     session: Session,
     command: &[u8],
     log: &[u8; 80000],
-    local: &[u8; 49152],
+    list_words: &'a [u64; 400],
+    list_bytes: &'a [u8; 49152],
     written: &mut [u8; 60000],
-    irows: &mut [u64; 1024],
-    iorder: &mut [u64; 256],
-    ibytes: &mut [u8; 131072],
-    vrows: &mut [u64; 1024],
-    vorder: &mut [u64; 256],
-    vbytes: &mut [u8; 131072],
-    crows: &mut [u64; 1024],
-    corder: &mut [u64; 256],
-    cbytes: &mut [u8; 262144],
+    words: &mut [u64; 3840],
+    bytes: &mut [u8; 524288],
     answer: &mut [u8; 65536],
 ) -> Served
     requires { ⌜ (Kept (session .reading)) × (1 ≤ length (now command)) ⌝ }
@@ -143,17 +134,11 @@ fn live(
         directory,
         command,
         &room[0..logged],
-        local,
+        list_words,
+        list_bytes,
         written,
-        irows,
-        iorder,
-        ibytes,
-        vrows,
-        vorder,
-        vbytes,
-        crows,
-        corder,
-        cbytes,
+        words,
+        bytes,
         answer,
     );
     let after = done.list;
@@ -172,17 +157,11 @@ pub fn serve(
     command: &[u8],
     log: &mut [u8; 80000],
     image: &mut [u8; 300000],
-    local: &mut [u8; 49152],
+    list_words: &mut [u64; 400],
+    list_bytes: &mut [u8; 49152],
     written: &mut [u8; 60000],
-    irows: &mut [u64; 1024],
-    iorder: &mut [u64; 256],
-    ibytes: &mut [u8; 131072],
-    vrows: &mut [u64; 1024],
-    vorder: &mut [u64; 256],
-    vbytes: &mut [u8; 131072],
-    crows: &mut [u64; 1024],
-    corder: &mut [u64; 256],
-    cbytes: &mut [u8; 262144],
+    words: &mut [u64; 3840],
+    bytes: &mut [u8; 524288],
     answer: &mut [u8; 65536],
 ) -> Served
     requires { ⌜ (Kept (session .reading)) × (1 ≤ length (now command)) ⌝ }
@@ -191,39 +170,34 @@ pub fn serve(
     let opcode = command[0];
     match opcode {
         0x01..=0x04 | 0x0b..=0x0f => read(session, command, log, image, answer),
-        0x05..=0x0a | 0x21 | 0x23 | 0x24 | 0xf0 => list(session, command, local, written, answer),
+        0x05..=0x0a | 0x21 | 0x23 | 0x24 | 0xf0 => list(
+            session,
+            command,
+            list_words,
+            list_bytes,
+            written,
+            answer,
+        ),
         0x14..=0x17 | 0x19 | 0x1f => queue(session, command, log, answer),
         0x1a | 0x1b | 0x1d | 0x1e | 0x22 => on_overlays(
             session,
             command,
-            local,
+            list_words,
+            list_bytes,
             written,
-            irows,
-            iorder,
-            ibytes,
-            vrows,
-            vorder,
-            vbytes,
-            crows,
-            corder,
-            cbytes,
+            words,
+            bytes,
             answer,
         ),
         _ => live(
             session,
             command,
             log,
-            local,
+            list_words,
+            list_bytes,
             written,
-            irows,
-            iorder,
-            ibytes,
-            vrows,
-            vorder,
-            vbytes,
-            crows,
-            corder,
-            cbytes,
+            words,
+            bytes,
             answer,
         ),
     }

@@ -24,7 +24,7 @@ impl Session {
     {
         Session {
             reading: Reading::new(),
-            queues: compare_queues::no_files(),
+            queues: Queues::new(),
             list: LogChange::new(1),
             living: Living::new(),
         }

@@ -10,7 +10,7 @@ use lib.Dec.{eqb}
 use lib.ListN.{length, take, drop, getD, drop-of-length-le, length-drop}
 use lib.Seq.{drop-drop, drop-cons, length-take-le}
 use Rattle.words.specs.Choice.{if_then_else_}
-use Rattle.directory_text.specs.Scan.{isBlank, passes, front, behind, wordOf, behindWord, isNone, sameBytes, onFirst, linesOf}
+use Rattle.directory_text.specs.Scan.{isBlank, scansPast, front, behind, wordOf, behindWord, isNone, sameBytes, onFirst, linesOf}
 use Rattle.directory_text.specs.declared.scan.Pass.the-variants.{Blanks, Word, Before}
 
 -- one byte of a scan, by its test
@@ -73,14 +73,14 @@ none-false [] h = absurd (omega arith)
 none-false (b ∷ bs) h = refl
 
 -- blanks, then a word
-module _ (code : List ℕ) (from start end : ℕ) (b : start ≡ from + length (front (passes Blanks) (drop from code))) (w : end ≡ start + length (front (passes Word) (drop start code))) where
+module _ (code : List ℕ) (from start end : ℕ) (b : start ≡ from + length (front (scansPast Blanks) (drop from code))) (w : end ≡ start + length (front (scansPast Word) (drop start code))) where
   pub word : wordOf (drop from code) ≡ take (end - start) (drop start code)
   unfolding wordOf
-  word = sym (passed (passes Word) code start end w ∙ ap (front (passes Word)) (left (passes Blanks) code from start b))
+  word = sym (passed (scansPast Word) code start end w ∙ ap (front (scansPast Word)) (left (scansPast Blanks) code from start b))
 
   pub rest : behindWord (drop from code) ≡ drop end code
   unfolding behindWord
-  rest = sym (left (passes Word) code start end w ∙ ap (behind (passes Word)) (left (passes Blanks) code from start b))
+  rest = sym (left (scansPast Word) code start end w ∙ ap (behind (scansPast Word)) (left (scansPast Blanks) code from start b))
 
   pub no-word : start ≡ end → isNone (wordOf (drop from code)) ≡ true
   no-word e =
@@ -95,21 +95,21 @@ lines-turn : (b : ℕ) (bs f : List ℕ) → onFirst b (linesOf bs) ≡ (b ∷ f
 lines-turn b bs f e true = refl
 lines-turn b bs f e false = e
 
-first-line : (b : ℕ) (bs : List ℕ) → onFirst b (linesOf bs) ≡ (b ∷ front (passes (Before 10)) bs) ∷ linesOf (drop (suc (length (front (passes (Before 10)) bs))) bs)
-unfolding front passes onFirst linesOf
+first-line : (b : ℕ) (bs : List ℕ) → onFirst b (linesOf bs) ≡ (b ∷ front (scansPast (Before 10)) bs) ∷ linesOf (drop (suc (length (front (scansPast (Before 10)) bs))) bs)
+unfolding front scansPast onFirst linesOf
 first-line b [] = refl
-first-line b (c ∷ cs) = ap (onFirst b) (lines-turn c cs (front (passes (Before 10)) cs) (first-line c cs) (eqb c 10))
+first-line b (c ∷ cs) = ap (onFirst b) (lines-turn c cs (front (scansPast (Before 10)) cs) (first-line c cs) (eqb c 10))
 
-lines-step : (bs : List ℕ) → 0 < length bs → linesOf bs ≡ front (passes (Before 10)) bs ∷ linesOf (drop (suc (length (front (passes (Before 10)) bs))) bs)
-unfolding front passes linesOf
+lines-step : (bs : List ℕ) → 0 < length bs → linesOf bs ≡ front (scansPast (Before 10)) bs ∷ linesOf (drop (suc (length (front (scansPast (Before 10)) bs))) bs)
+unfolding front scansPast linesOf
 lines-step [] h = absurd (omega arith)
-lines-step (b ∷ bs) h = lines-turn b bs (front (passes (Before 10)) bs) (first-line b bs) (eqb b 10)
+lines-step (b ∷ bs) h = lines-turn b bs (front (scansPast (Before 10)) bs) (first-line b bs) (eqb b 10)
 
-pub next-line : (text : List ℕ) (at end : ℕ) → at < length text → end ≡ at + length (front (passes (Before 10)) (drop at text)) → linesOf (drop at text) ≡ take (end - at) (drop at text) ∷ linesOf (drop (end + 1) text)
+pub next-line : (text : List ℕ) (at end : ℕ) → at < length text → end ≡ at + length (front (scansPast (Before 10)) (drop at text)) → linesOf (drop at text) ≡ take (end - at) (drop at text) ∷ linesOf (drop (end + 1) text)
 next-line text at end h e =
-    let s : end + 1 ≡ at + suc (length (front (passes (Before 10)) (drop at text))) = omega arith in
+    let s : end + 1 ≡ at + suc (length (front (scansPast (Before 10)) (drop at text))) = omega arith in
     lines-step (drop at text) (simp length-drop (omega arith))
-    ∙ ap₂ (λ (l r : List ℕ). l ∷ linesOf r) (sym (passed (passes (Before 10)) text at end e)) (drop-drop (suc (length (front (passes (Before 10)) (drop at text)))) at text ∙ ap (λ (k : ℕ). drop k text) (sym s))
+    ∙ ap₂ (λ (l r : List ℕ). l ∷ linesOf r) (sym (passed (scansPast (Before 10)) text at end e)) (drop-drop (suc (length (front (scansPast (Before 10)) (drop at text)))) at text ∙ ap (λ (k : ℕ). drop k text) (sym s))
 
 pub no-line : (text : List ℕ) (at : ℕ) → length text ≤ at → linesOf (drop at text) ≡ []
 unfolding linesOf

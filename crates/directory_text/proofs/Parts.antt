@@ -12,8 +12,8 @@ use Rattle.directory.specs.Table.{description}
 use Rattle.directory.specs.declared.table.TableDescription.{TableDescription}
 use Rattle.directory.specs.declared.table.TableKind.{TableKind}
 use Rattle.directory.specs.declared.table.TableKind.the-variants.{Index, Value, RefCount}
-use Rattle.directory_text.specs.Scan.{passes, front, behind, wordOf, behindWord, isNone, sameBytes}
-use Rattle.directory_text.specs.Number.{numberOf}
+use Rattle.directory_text.specs.Scan.{scansPast, front, behind, wordOf, behindWord, isNone, sameBytes}
+use Rattle.directory_text.specs.Number.{wordNumber}
 use Rattle.directory_text.specs.Line.{isAny, fitted, numberIn, lengthIn, tableIn, kindIn, codeIn, lineIn}
 use Rattle.directory_text.specs.Inner.{orLine, onTaken, stopped, Fitted, Took, TookBehind, TookLength, Ended}
 use Rattle.directory_text.specs.declared.scan.Pass.the-variants.{Blanks, Word, Before}
@@ -47,7 +47,7 @@ fit-is which most next v e h =
     rw e (record { small = h; behind = refl; same = λ go. if-false _ _ _ (le-ltb most v h) })
 
 -- the next word: none, or one that is a number or not
-module _ (code : List ℕ) (from start end : ℕ) (b : start ≡ from + length (front (passes Blanks) (drop from code))) (w : end ≡ start + length (front (passes Word) (drop start code))) (which most : ℕ) (within : end ≤ length code) where
+module _ (code : List ℕ) (from start end : ℕ) (b : start ≡ from + length (front (scansPast Blanks) (drop from code))) (w : end ≡ start + length (front (scansPast Word) (drop start code))) (which most : ℕ) (within : end ≤ length code) where
   pub took-none : {t : Taken} → start ≡ end → t ≡ stopped end (fault.Missing which) → Took code from which most t
   unfolding orLine onTaken numberIn
   took-none e f =
@@ -57,7 +57,7 @@ module _ (code : List ℕ) (from start end : ℕ) (b : start ≡ from + length (
         same = λ go. if-true (isNone (wordOf (drop from code))) _ _ (no-word code from start end b w e);
       })
 
-  pub took-one : {t : Taken} → (start ≡ end → ⊥) → start ≤ end → Fitted (numberOf (take (end - start) (drop start code))) which most end t → Took code from which most t
+  pub took-one : {t : Taken} → (start ≡ end → ⊥) → start ≤ end → Fitted (wordNumber (take (end - start) (drop start code))) which most end t → Took code from which most t
   unfolding onTaken numberIn
   took-one {t} n h f =
       record {
@@ -66,8 +66,8 @@ module _ (code : List ℕ) (from start end : ℕ) (b : start ≡ from + length (
         same =
             λ go.
             if-false (isNone (wordOf (drop from code))) _ _ (some-word code from start end b w n h within)
-            ∙ ap (λ (l : List ℕ). fitted which most (numberOf l) (λ v. go v (behindWord (drop from code)))) (word code from start end b w)
-            ∙ ap (λ (r : List ℕ). fitted which most (numberOf (take (end - start) (drop start code))) (λ v. go v r)) (rest code from start end b w ∙ ap (λ (k : ℕ). drop k code) (sym (f .behind)))
+            ∙ ap (λ (l : List ℕ). fitted which most (wordNumber l) (λ v. go v (behindWord (drop from code)))) (word code from start end b w)
+            ∙ ap (λ (r : List ℕ). fitted which most (wordNumber (take (end - start) (drop start code))) (λ v. go v r)) (rest code from start end b w ∙ ap (λ (k : ℕ). drop k code) (sym (f .behind)))
             ∙ f .same (λ v. go v (drop (t .next) code));
       }
 
@@ -107,19 +107,19 @@ unfolding orLine
 ended-fault code last e =
     record { same = λ l. if-true (isAny (last .fault)) _ _ e ∙ sym (if-true (isAny (last .fault)) _ _ e) }
 
-module _ (code : List ℕ) (last : Taken) (r : ℕ) (e : isAny (last .fault) ≡ false) (b : r ≡ last .next + length (front (passes Blanks) (drop (last .next) code))) where
+module _ (code : List ℕ) (last : Taken) (r : ℕ) (e : isAny (last .fault) ≡ false) (b : r ≡ last .next + length (front (scansPast Blanks) (drop (last .next) code))) where
   pub ended-more : r < length code → Ended code last fault.MoreWords
   unfolding orLine
   ended-more h =
-      let n : isNone (behind (passes Blanks) (drop (last .next) code)) ≡ false =
-      ap isNone (sym (left (passes Blanks) code (last .next) r b)) ∙ none-false (drop r code) (simp length-drop (omega arith)) in
+      let n : isNone (behind (scansPast Blanks) (drop (last .next) code)) ≡ false =
+      ap isNone (sym (left (scansPast Blanks) code (last .next) r b)) ∙ none-false (drop r code) (simp length-drop (omega arith)) in
       record { same = λ l. if-false (isAny (last .fault)) _ _ e ∙ if-false _ _ _ n }
 
   pub ended-well : length code ≤ r → Ended code last fault.None
   unfolding orLine
   ended-well h =
-      let n : isNone (behind (passes Blanks) (drop (last .next) code)) ≡ true =
-      ap isNone (sym (left (passes Blanks) code (last .next) r b)) ∙ none-true (drop r code) (simp length-drop (omega arith)) in
+      let n : isNone (behind (scansPast Blanks) (drop (last .next) code)) ≡ true =
+      ap isNone (sym (left (scansPast Blanks) code (last .next) r b)) ∙ none-true (drop r code) (simp length-drop (omega arith)) in
       record { same = λ l. if-false (isAny (last .fault)) _ _ e ∙ if-true _ _ _ n }
 
 -- the four numbers of a line, one behind the other
@@ -157,7 +157,7 @@ unfolding kindIn
 no-kind word bs i v r = sym (if-false _ _ _ i ∙ if-false _ _ _ v ∙ if-false _ _ _ r)
 
 -- a line without its comment
-module _ (code : List ℕ) (start end : ℕ) (b : start ≡ 0 + length (front (passes Blanks) (drop 0 code))) (w : end ≡ start + length (front (passes Word) (drop start code))) where
+module _ (code : List ℕ) (start end : ℕ) (b : start ≡ 0 + length (front (scansPast Blanks) (drop 0 code))) (w : end ≡ start + length (front (scansPast Word) (drop start code))) where
   pub empty-code : start ≡ end → line.Empty ≡ codeIn code
   unfolding codeIn
   empty-code e = sym (if-true _ _ _ (no-word code 0 start end b w e))
@@ -168,6 +168,6 @@ module _ (code : List ℕ) (start end : ℕ) (b : start ≡ 0 + length (front (p
       e ∙ ap₂ kindIn (sym (word code 0 start end b w)) (sym (rest code 0 start end b w))
       ∙ sym (if-false _ _ _ (some-word code 0 start end b w n h k))
 
-pub whole-line : (bs : List ℕ) (stop : ℕ) {l : Line} → stop ≡ 0 + length (front (passes (Before 35)) (drop 0 bs)) → l ≡ codeIn (take (stop - 0) (drop 0 bs)) → l ≡ lineIn bs
+pub whole-line : (bs : List ℕ) (stop : ℕ) {l : Line} → stop ≡ 0 + length (front (scansPast (Before 35)) (drop 0 bs)) → l ≡ codeIn (take (stop - 0) (drop 0 bs)) → l ≡ lineIn bs
 unfolding lineIn
-whole-line bs stop e f = f ∙ ap codeIn (passed (passes (Before 35)) bs 0 stop e)
+whole-line bs stop e f = f ∙ ap codeIn (passed (scansPast (Before 35)) bs 0 stop e)

@@ -14,7 +14,7 @@ use Rattle.directory.specs.Directory.{noTables, findTable}
 use Rattle.directory.specs.declared.table.TableDescription.{TableDescription}
 use Rattle.directory.specs.declared.directory.Directory.{Directory}
 use Rattle.directory.specs.declared.directory.Found.the-variants.{At, Nothing}
-use Rattle.directory_text.specs.Scan.{passes, front, linesOf}
+use Rattle.directory_text.specs.Scan.{scansPast, front, linesOf}
 use Rattle.directory_text.specs.Line.{isAny, lineIn}
 use Rattle.directory_text.specs.Text.{faultOf, added, at-line, withTable, ofLine, withLine, fromLines, parsed}
 use Rattle.directory_text.specs.declared.scan.Pass.the-variants.{Before}
@@ -96,7 +96,7 @@ unfolding withLine
 line-number d bs n = number-of-line d n (lineIn bs)
 
 -- a turn of the loop over the lines
-module _ (text : List ℕ) (at end : ℕ) (p q : Parsed) (h : at < length text) (e : end ≡ at + length (front (passes (Before 10)) (drop at text))) (w : q ≡ withLine (p .directory) (take (end - at) (drop at text)) (p .line + 1)) (so-far : fromLines p (linesOf (drop at text)) ≡ parsed text) where
+module _ (text : List ℕ) (at end : ℕ) (p q : Parsed) (h : at < length text) (e : end ≡ at + length (front (scansPast (Before 10)) (drop at text))) (w : q ≡ withLine (p .directory) (take (end - at) (drop at text)) (p .line + 1)) (so-far : fromLines p (linesOf (drop at text)) ≡ parsed text) where
   step : fromLines p (take (end - at) (drop at text) ∷ linesOf (drop (end + 1) text)) ≡ parsed text
   step = ap (fromLines p) (sym (next-line text at end h e)) ∙ so-far
 

@@ -5,7 +5,7 @@ use Prim.Native.Nat.{ℕ, _≤_}
 use lib.ListN.{length, drop}
 use Rattle.words.specs.Choice.{if_then_else_}
 use Rattle.directory.specs.declared.table.TableKind.{TableKind}
-use Rattle.directory_text.specs.Scan.{passes, behind, isNone}
+use Rattle.directory_text.specs.Scan.{scansPast, behind, isNone}
 use Rattle.directory_text.specs.Line.{isAny, fitted, numberIn, lengthIn}
 use Rattle.directory_text.specs.declared.scan.Pass.the-variants.{Blanks}
 use Rattle.directory_text.specs.declared.number.Number.{Number}
@@ -49,4 +49,4 @@ pub record TookLength (code : List ℕ) (before : Taken) (kind : TableKind) (t :
 
 -- nothing but blanks may stand behind the last number
 pub record Ended (code : List ℕ) (last : Taken) (fault : Fault) : Type 0 where
-  pub same : (l : Line) → orLine (last .fault) (if isNone (behind (passes Blanks) (drop (last .next) code)) then l else Broken MoreWords) ≡ orLine fault l
+  pub same : (l : Line) → orLine (last .fault) (if isNone (behind (scansPast Blanks) (drop (last .next) code)) then l else Broken MoreWords) ≡ orLine fault l

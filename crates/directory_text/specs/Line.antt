@@ -7,8 +7,8 @@ use Rattle.words.specs.Choice.{if_then_else_}
 use Rattle.directory.specs.Table.{description}
 use Rattle.directory.specs.declared.table.TableKind.{TableKind}
 use Rattle.directory.specs.declared.table.TableKind.the-variants.{Index, Value, RefCount}
-use Rattle.directory_text.specs.Scan.{passes, front, behind, wordOf, behindWord, isNone, sameBytes}
-use Rattle.directory_text.specs.Number.{numberOf}
+use Rattle.directory_text.specs.Scan.{scansPast, front, behind, wordOf, behindWord, isNone, sameBytes}
+use Rattle.directory_text.specs.Number.{wordNumber}
 use Rattle.directory_text.specs.declared.scan.Pass.the-variants.{Blanks, Before}
 use Rattle.directory_text.specs.declared.number.Number.{Number}
 use Rattle.directory_text.specs.declared.number.Number.the-variants as number
@@ -17,6 +17,7 @@ use Rattle.directory_text.specs.declared.fault.Fault.the-variants as fau
 use Rattle.directory_text.specs.declared.line.Line.{Line}
 use Rattle.directory_text.specs.declared.line.Line.the-variants as line
 
+-- whether there is a fault
 abbrev pub isAny : Fault → Bool
 isAny fault.None = false
 isAny fault.UnknownKind = true
@@ -39,7 +40,7 @@ unfoldable pub numberIn : ℕ → ℕ → List ℕ → (ℕ → List ℕ → Lin
 numberIn which most bs go =
     if isNone (wordOf bs)
     then line.Broken (fault.Missing which)
-    else fitted which most (numberOf (wordOf bs)) (λ n. go n (behindWord bs))
+    else fitted which most (wordNumber (wordOf bs)) (λ n. go n (behindWord bs))
 
 -- a value's length; tables of the other kinds have none
 unfoldable pub lengthIn : TableKind → List ℕ → (ℕ → List ℕ → Line) → Line
@@ -54,7 +55,7 @@ tableIn kind bs =
     numberIn 2 255 bs₁ (λ column bs₂.
     numberIn 3 65535 bs₂ (λ count bs₃.
     lengthIn kind bs₃ (λ size bs₄.
-    if isNone (behind (passes Blanks) bs₄)
+    if isNone (behind (scansPast Blanks) bs₄)
     then line.Table (description kind n column count size)
     else line.Broken fault.MoreWords))))
 
@@ -75,4 +76,4 @@ codeIn bs = if isNone (wordOf bs) then line.Empty else kindIn (wordOf bs) (behin
 
 -- the character # starts a comment
 unfoldable pub lineIn : List ℕ → Line
-lineIn bs = codeIn (front (passes (Before 35)) bs)
+lineIn bs = codeIn (front (scansPast (Before 35)) bs)

@@ -7,20 +7,20 @@ use Rattle.directory_text.specs.declared.number.Number.{Number}
 use Rattle.directory_text.specs.declared.number.Number.the-variants.{Is, NotDecimal, TooLarge}
 
 -- 0 to 9 from '0' to '9', and 10 for a character that is no digit
-unfoldable pub digitOf : ℕ → ℕ
-digitOf b = if ltb b 48 then 10 else if ltb 57 b then 10 else b - 48
+unfoldable pub decimalDigit : ℕ → ℕ
+decimalDigit b = if ltb b 48 then 10 else if ltb 57 b then 10 else b - 48
 
 -- a number whose first digits gave acc
 unfoldable pub numberFrom : ℕ → List ℕ → Number
 numberFrom acc [] = Is acc
 numberFrom acc (b ∷ bs) =
-    if ltb 9 (digitOf b)
+    if ltb 9 (decimalDigit b)
     then NotDecimal
-    else if ltb 18446744073709551615 (10 * acc + digitOf b)
+    else if ltb 18446744073709551615 (10 * acc + decimalDigit b)
     then TooLarge
-    else numberFrom (10 * acc + digitOf b) bs
+    else numberFrom (10 * acc + decimalDigit b) bs
 
 -- a number has a digit
-unfoldable pub numberOf : List ℕ → Number
-numberOf [] = NotDecimal
-numberOf (b ∷ bs) = numberFrom 0 (b ∷ bs)
+unfoldable pub wordNumber : List ℕ → Number
+wordNumber [] = NotDecimal
+wordNumber (b ∷ bs) = numberFrom 0 (b ∷ bs)

@@ -12,10 +12,10 @@ unfoldable pub isBlank : ℕ → Bool
 isBlank b = eqb b 32 || (eqb b 9 || eqb b 13)
 
 -- what is passed over
-unfoldable pub passes : Pass → ℕ → Bool
-passes Blanks b = isBlank b
-passes Word b = not (isBlank b)
-passes (Before c) b = not (eqb b c)
+unfoldable pub scansPast : Pass → ℕ → Bool
+scansPast Blanks b = isBlank b
+scansPast Word b = not (isBlank b)
+scansPast (Before c) b = not (eqb b c)
 
 -- the bytes in front that pass, up to the first that doesn't
 unfoldable pub front : (ℕ → Bool) → List ℕ → List ℕ
@@ -29,10 +29,11 @@ behind p (b ∷ bs) = if p b then behind p bs else b ∷ bs
 
 -- the first word, and what stands behind it
 unfoldable pub wordOf : List ℕ → List ℕ
-wordOf bs = front (passes Word) (behind (passes Blanks) bs)
+wordOf bs = front (scansPast Word) (behind (scansPast Blanks) bs)
 
+-- what stands behind the first word
 unfoldable pub behindWord : List ℕ → List ℕ
-behindWord bs = behind (passes Word) (behind (passes Blanks) bs)
+behindWord bs = behind (scansPast Word) (behind (scansPast Blanks) bs)
 
 -- whether there are no bytes
 unfoldable pub isNone : List ℕ → Bool

@@ -19,6 +19,7 @@ use Rattle.directory_text.specs.declared.line.Line.{Line}
 use Rattle.directory_text.specs.declared.line.Line.the-variants as line
 use Rattle.directory_text.specs.declared.text.Parsed.{Parsed}
 
+-- a table was found
 abbrev pub isFound : Found → Bool
 isFound (At row t) = true
 isFound Nothing = false
@@ -38,12 +39,15 @@ faultOf d t =
 abbrev pub added : Directory → TableDescription → Directory
 added d t = record { tables = set (d .tables) (d .count) t; count = d .count + 1 }
 
+-- what the text comes to, so far: a directory, the line, and its fault
 abbrev pub at-line : Directory → ℕ → Fault → Parsed
 at-line d n f = record { directory = d; line = n; fault = f }
 
+-- one table more, unless it breaks a rule
 unfoldable pub withTable : Directory → TableDescription → ℕ → Parsed
 withTable d t n = if isAny (faultOf d t) then at-line d n (faultOf d t) else at-line (added d t) n fault.None
 
+-- what one line makes of the directory so far
 unfoldable pub ofLine : Directory → ℕ → Line → Parsed
 ofLine d n line.Empty = at-line d n fault.None
 ofLine d n (line.Table t) = withTable d t n

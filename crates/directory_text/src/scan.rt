@@ -2,7 +2,7 @@
 ghost use mathlib.Core.Path.{_≡_};
 ghost use Prim.Native.Nat.{_+_, _≤_};
 ghost use lib.ListN.{length, drop};
-ghost use Rattle.directory_text.specs.Scan.{isBlank, passes, front, sameBytes};
+ghost use Rattle.directory_text.specs.Scan.{isBlank, scansPast, front, sameBytes};
 
 // What is passed over: blanks, what is no blank, or all before a character.
 pub enum Pass {
@@ -24,7 +24,7 @@ fn is_blank(character: u8) -> bool
 }
 
 fn is_passed(pass: Pass, character: u8) -> bool
-    ensures { λ r. ⌜ r ≡ passes pass character ⌝ }
+    ensures { λ r. ⌜ r ≡ scansPast pass character ⌝ }
 {
     match pass {
         Pass::Blanks => is_blank(character),
@@ -36,7 +36,7 @@ fn is_passed(pass: Pass, character: u8) -> bool
 // Passes over what it may, from a place on. Answers where it stops.
 pub fn pass_over(text: &[u8], from: usize, pass: Pass) -> usize
     requires { ⌜ from ≤ length (now text) ⌝ }
-    ensures { λ r. ⌜ (from ≤ r) × (r ≤ length (now (text .entry))) × (r ≡ from + length (front (passes pass) (drop from (now (text .entry))))) ⌝ }
+    ensures { λ r. ⌜ (from ≤ r) × (r ≤ length (now (text .entry))) × (r ≡ from + length (front (scansPast pass) (drop from (now (text .entry))))) ⌝ }
 {
     let mut at = from;
     while at < text.len() {

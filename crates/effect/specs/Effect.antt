@@ -24,6 +24,7 @@ pub record Written : Type 0 where
   pub action : LogAction
   pub payload : List ℕ
 
+-- an action with its payload
 abbrev pub written : LogAction → List ℕ → Written
 written action payload = record { action = action; payload = payload }
 
@@ -31,6 +32,7 @@ written action payload = record { action = action; payload = payload }
 abbrev pub maskIn : List ℕ → ℕ
 maskIn payload = little (take 8 payload)
 
+-- the entries behind the mask
 abbrev pub entriesIn : List ℕ → List ℕ
 entriesIn payload = drop 8 payload
 
@@ -39,10 +41,12 @@ pub record Place : Type 0 where
   pub at : ℕ
   pub table : TableDescription
 
+-- the place of a table that was found
 abbrev pub placed : Directory → Found → Option Place
 placed d Nothing = none
 placed d (At row t) = some (record { at = startOf d row; table = t })
 
+-- the place of the table of a kind and a number
 unfoldable pub placeOf : Directory → TableKind → ℕ → Option Place
 placeOf d kind number = placed d (findTable d kind number)
 

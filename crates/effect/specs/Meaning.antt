@@ -38,6 +38,7 @@ byMask w at mask entries p =
 unfoldable pub byValue : ℕ → ℕ → List ℕ → ℕ → Option ℕ
 byValue at n bytes p = if liesIn at n p then some (getD bytes (p - at) 0) else none
 
+-- what is said under index i of a table, if there is such an index
 unfoldable pub ofIndex : Option Place → ℕ → (ℕ → ℕ → Option ℕ) → Option ℕ
 ofIndex none i f = none
 ofIndex (some P) i f = if ltb i (P .table .count) then f (P .at + i * slotLength (P .table)) (slotLength (P .table)) else none
@@ -57,6 +58,7 @@ saysOf d (DropRefCountTable t) payload p = ofDrop (placeOf d RefCount (t .0)) p
 saysOf d BeginRecord payload p = none
 saysOf d EndRecord payload p = none
 
+-- the same of an action with its payload
 abbrev pub says : Directory → Written → ℕ → Option ℕ
 says d w p = saysOf d (w .action) (w .payload) p
 
@@ -83,5 +85,6 @@ SizedBy d (DropRefCountTable t) payload = Unit {0}
 SizedBy d BeginRecord payload = Unit {0}
 SizedBy d EndRecord payload = Unit {0}
 
+-- a payload as long as its action says: what reading gives
 abbrev pub Sized : Directory → Written → Type 0
 Sized d w = SizedBy d (w .action) (w .payload)

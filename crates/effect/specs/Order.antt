@@ -16,10 +16,12 @@ pub record NamedTable : Type 0 where
   pub kind : TableKind
   pub number : ℕ
 
+-- a kind, table and index: what an action writes to
 pub record Target : Type 0 where
   pub table : NamedTable
   pub index : ℕ
 
+-- one from its numbers
 abbrev pub target : TableKind → ℕ → ℕ → Target
 target kind number index = record { table = record { kind = kind; number = number }; index = index }
 
@@ -47,9 +49,11 @@ droppedBy (DropRefCountTable t) = some (record { kind = RefCount; number = t .0 
 droppedBy BeginRecord = none
 droppedBy EndRecord = none
 
+-- the same of an action with its payload
 abbrev pub writesTo : Written → Option Target
 writesTo w = writtenBy (w .action) (w .payload)
 
+-- the table that it drops
 abbrev pub dropsTable : Written → Option NamedTable
 dropsTable w = droppedBy (w .action)
 
@@ -58,6 +62,7 @@ abbrev pub Each : (Written → Type 0) → List Written → Type 0
 Each P [] = Unit {0}
 Each P (w ∷ ws) = P w × Each P ws
 
+-- R of each two, the earlier one first
 abbrev pub Pairs : (Written → Written → Type 0) → List Written → Type 0
 Pairs R [] = Unit {0}
 Pairs R (w ∷ ws) = Each (R w) ws × Pairs R ws

@@ -1,6 +1,6 @@
 -- What each test of the end of a record answers, and what is known where all were passed. Assumes nothing.
 use mathlib.Core.Path.{_≡_, refl, sym, ap, _∙_}
-use mathlib.Core.Bool.{Bool, true, false, not, _&&_}
+use mathlib.Core.Bool.{Bool, true, false, not}
 use mathlib.Core.List.{List, []}
 use Prim.Native.Nat.{ℕ, _+_, _-_, _≤_, _<_}
 use native.Mathlib.Omega.{arith}
@@ -21,7 +21,7 @@ use Rattle.putting.specs.Listed.{passes, crowded}
 use Rattle.change.specs.Change.{changeOf, changeKept}
 use Rattle.change.specs.Size.{recordSize}
 use Rattle.change.specs.declared.change.LogChange.{LogChange}
-use Rattle.files.specs.Queues.{queuesKept, sizeOf}
+use Rattle.files.specs.Queues.{queuesKept, appendingSize}
 use Rattle.files.specs.Calls.{fileSetFull, filesUsedUp, takenBy, notTaken, takeFileKept}
 use Rattle.files.specs.declared.queues.Queues.{Queues}
 use Rattle.files.specs.declared.writing.Taken.{Taken}
@@ -106,7 +106,7 @@ taken-done : (q : Queues) (size : ℕ) → takenBy q size .answer ≡ Done
 unfolding takenBy
 taken-done q size = each-done (q .appending .some) (eqb (q .«log_pool» .count) 0) _ _ _ refl refl refl
 
-file-by : (q : Queues) (n : ℕ) (f u : Bool) → fileSetFull q ≡ f → filesUsedUp q n ≡ u → takeFileKept q n ≡ (if f then notTaken NoRoom q else if u then notTaken UsedUp q else takenBy q (sizeOf q + n))
+file-by : (q : Queues) (n : ℕ) (f u : Bool) → fileSetFull q ≡ f → filesUsedUp q n ≡ u → takeFileKept q n ≡ (if f then notTaken NoRoom q else if u then notTaken UsedUp q else takenBy q (appendingSize q + n))
 unfolding takeFileKept
 file-by q n f u e g = rw (e, g)
 

@@ -1,6 +1,6 @@
 -- What the end of a record means: the rules are kept, a lookup finds the list's entry first, and what is written is what `flush_to_file` writes.
 -- Assumes nothing; `Sized` says that the arrays of the queues have the lengths that their types give them.
-use mathlib.Core.Path.{_≡_, refl, sym, ap, _∙_}
+use mathlib.Core.Path.{_≡_, refl, ap, _∙_}
 use mathlib.Core.Bool.{Bool, true, false}
 use mathlib.Core.List.{List, map}
 use mathlib.Core.Option.{some}
@@ -15,10 +15,10 @@ use Rattle.directory.specs.declared.directory.Directory.{Directory}
 use Rattle.numbers.specs.Numbers.{has}
 use Rattle.keys.specs.Keys.{keyAt}
 use Rattle.overlay.specs.Rules.{Overlay}
-use Rattle.overlay.specs.Entries.{Entry, entriesOf, findEntry, orElse}
-use Rattle.memory.specs.Parts.{spanOf, ofKind, partsKept}
+use Rattle.overlay.specs.Entries.{entriesOf, findEntry, orElse}
+use Rattle.memory.specs.Parts.{spanOf, ofKind, partsKept, entryUnder}
 use Rattle.memory.specs.declared.span.Holder.the-variants as holder
-use Rattle.putting.specs.Listed.{columnOf, overlaysPut}
+use Rattle.putting.specs.Listed.{columnOf, putListed, overlaysPut}
 use Rattle.putting.proofs.Crowds.{each-free}
 use Rattle.putting.proofs.Kept.{all-kept, put-of}
 use Rattle.putting.proofs.LastIds as ids
@@ -53,13 +53,12 @@ module _ (d : Directory) (h : Handed) where
       abbrev used : List ℕ
       used = take (list .count) (list .order)
 
-      after : ofKind kind (endRecord d h .overlays .parts) ≡ Rattle.putting.specs.Listed.putListed kind (h .list .id) list (ofKind kind (h .overlays .parts))
+      after : ofKind kind (endRecord d h .overlays .parts) ≡ putListed kind (h .list .id) list (ofKind kind (h .overlays .parts))
       unfolding endRecord overlaysPut
       after = rw done (put-of kind (h .list .id) (h .list .parts) (h .overlays .parts))
 
       -- "puts each entry, id, mask and chunk, over the shared one; masks aren't joined there": first the list's, then what was there
-      pub found-ended : (x : ℕ) → findEntry x (entriesOf kind (ofKind kind (endRecord d h .overlays .parts)))
-          ≡ orElse (findEntry x (map (listedEntry kind (h .list .id) list) used)) (findEntry x (entriesOf kind (ofKind kind (h .overlays .parts))))
+      pub found-ended : (x : ℕ) → entryUnder kind x (endRecord d h .overlays .parts) ≡ orElse (findEntry x (map (listedEntry kind (h .list .id) list) used)) (entryUnder kind x (h .overlays .parts))
       found-ended x =
           ap (λ (o : Overlay). findEntry x (entriesOf kind o)) after
           ∙ puts.found-put kind (h .list .id) (spanOf holder.List kind .room) list (ofKind kind (h .overlays .parts)) (kind-kept holder.List kind (h .list .parts) (kept-parts d (h .list) (list-kept d h (a .kept))))
@@ -67,7 +66,7 @@ module _ (d : Directory) (h : Handed) where
 
       -- the j-th listed key is found with the list's own mask and bytes, under the record's id
       pub listed-found : (j : ℕ) → j < list .count
-          → findEntry (keyAt (list .rows) (getD (list .order) j 0)) (entriesOf kind (ofKind kind (endRecord d h .overlays .parts))) ≡ some (listedEntry kind (h .list .id) list (getD (list .order) j 0))
+          → entryUnder kind (keyAt (list .rows) (getD (list .order) j 0)) (endRecord d h .overlays .parts) ≡ some (listedEntry kind (h .list .id) list (getD (list .order) j 0))
       listed-found j i =
           ap (λ (o : Overlay). findEntry (keyAt (list .rows) (getD (list .order) j 0)) (entriesOf kind o)) after
           ∙ puts.listed-found kind (h .list .id) (spanOf holder.List kind .room) list (ofKind kind (h .overlays .parts)) (kind-kept holder.List kind (h .list .parts) (kept-parts d (h .list) (list-kept d h (a .kept))))

@@ -79,6 +79,7 @@ endAnswer d h =
     if ltb (length (h .output)) (recordSize (h .list)) then ShortOutput else  -- 10
     Done
 
+-- the answer 0
 abbrev pub isDone : Answer → Bool
 isDone a = eqb (numberOf a) 0
 
@@ -107,6 +108,7 @@ ended d h t = record {
   output = put (h .output) 0 (recordOf (h .list));
 }
 
+-- `end_record`
 unfoldable pub endRecord : Directory → Handed → EndState
 endRecord d h =
     if isDone (endAnswer d h) then ended d h (takeFileKept (h .queues) (recordSize (h .list))) else notEnded (endAnswer d h) h

@@ -1,5 +1,4 @@
 -- What the inner functions answer: nothing here is to be believed.
-use mathlib.Core.List.{List}
 use Rattle.words.specs.Choice.{if_then_else_}
 use Rattle.directory.specs.declared.directory.Directory.{Directory}
 use Rattle.answer.specs.declared.answer.Answer.{Answer}

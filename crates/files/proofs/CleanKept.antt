@@ -10,7 +10,7 @@ use Rattle.numbers.specs.Queue.{listOf, firstOf, withoutFirst}
 use Rattle.numbers.proofs.Laws.{least-le, least-rest}
 use Rattle.numbers.proofs.QueueLists.{first-list, without-list, all-sorted-count, all-sorted-list, all-sorted-length}
 use Rattle.numbers.proofs.Sort.{times-append, times-all, times-lacks, has-times, times-distinct, distinct-times, all-ascends, ascends-take}
-use Rattle.files.specs.Queues.{poolOf, cleanupOf, sizeOf, filesOf}
+use Rattle.files.specs.Queues.{poolOf, cleanupOf, appendingSize, filesOf}
 use Rattle.files.specs.Calls.{pooled, cleanupPooled}
 use Rattle.files.specs.declared.queues.Queues.{Queues}
 use Rattle.files.proofs.Rule.{Sized, Kept, whole, still-kept}
@@ -80,7 +80,7 @@ module _ (q : Queues) (n : ℕ) (s : Sized q) (k : Kept q) where
       omega (arith, whole v q, whole v (cleanupPooled q n), parts v, a, b, d, e, f)
 
   pub cleaned-kept : Kept (cleanupPooled q n)
-  unfolding cleanupPooled sizeOf
+  unfolding cleanupPooled appendingSize
   cleaned-kept =
       let l = least-le 16 (pooled q n .count) (least 16 (pooled q n .count)) refl in
       let m = least-rest n (q .«cleanup_queue» .count) in

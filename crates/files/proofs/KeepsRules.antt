@@ -7,7 +7,7 @@ use mathlib.Core.Path.{_≡_, refl, _∙_}
 use native.Mathlib.Omega.{arith}
 use lib.Dec.{eqb}
 use borrow.Author.Tests.{ltb-true, eqb-false}
-use Rattle.files.specs.Queues.{sizeOf, filesOf, fileCount, roomKept, queuesKept}
+use Rattle.files.specs.Queues.{appendingSize, filesOf, fileCount, roomKept, queuesKept}
 use Rattle.files.specs.Moves.{withDirty, readingCleaned, replayCleaned}
 use Rattle.files.specs.Calls.{flushes, flushOneKept, flushOne, replayNextKept, replayNext, clearReplayLogsKept, clearReplayLogs, cleanLogsKept, cleanLogs, killLogsKept, killLogs, needsNew, fileSetFull, filesUsedUp, takenBy, takeFileKept, takeFile}
 use Rattle.files.specs.declared.queues.Queues.{Queues}
@@ -26,7 +26,7 @@ and-right true b e f = f
 and-right false b e f = let z : _≡_ {A = ℕ} 0 1 = cc in absurd (omega arith)
 
 dirty-same : (q : Queues) (b : Bool) → queuesKept (withDirty q b) ≡ queuesKept q
-unfolding queuesKept roomKept fileCount filesOf sizeOf
+unfolding queuesKept roomKept fileCount filesOf appendingSize
 dirty-same q b = refl
 
 module _ (q : Queues) (s : Sized q) (ok : queuesKept q ≡ true) where
@@ -38,7 +38,7 @@ module _ (q : Queues) (s : Sized q) (ok : queuesKept q ≡ true) where
   flush-one-kept min = by (flushes q min) refl
     where
       by : (b : Bool) → flushes q min ≡ b → queuesKept (flushOneKept q min .queues) ≡ true
-      by true e = rw e (kept-makes _ (queued-kept q s k (sized-appending q min (ltb-true min (sizeOf q) e))))
+      by true e = rw e (kept-makes _ (queued-kept q s k (sized-appending q min (ltb-true min (appendingSize q) e))))
       by false e = rw e ok
 
   pub flush-one : (min : ℕ) → queuesKept (flushOne q min .queues) ≡ true
@@ -107,7 +107,7 @@ module _ (q : Queues) (s : Sized q) (ok : queuesKept q ≡ true) where
       by : (a : Bool) → fileSetFull q ≡ a → (b : Bool) → filesUsedUp q length ≡ b → queuesKept (takeFileKept q length .queues) ≡ true
       by true e b f = rw e ok
       by false e true f = rw (e, f) ok
-      by false e false f = rw (e, f) (taken (sizeOf q + length) (size-low q length f) e)
+      by false e false f = rw (e, f) (taken (appendingSize q + length) (size-low q length f) e)
 
   pub take-file : (length : ℕ) → queuesKept (takeFile q length .queues) ≡ true
   unfolding takeFile

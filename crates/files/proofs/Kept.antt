@@ -13,7 +13,7 @@ use Rattle.numbers.specs.declared.queue.NumberQueue.{NumberQueue}
 use Rattle.numbers.proofs.Laws.{one-true, one-false}
 use Rattle.numbers.proofs.QueueLists.{push-list, push-if-list, push-if-count, push-if-length, append-list, without-list, without-length, front-list}
 use Rattle.numbers.proofs.Sort.{times-append, times-under, under-times, times-distinct, distinct-times, ascends-drop}
-use Rattle.files.specs.Queues.{poolOf, appendingOf, readingOf, sizeOf, filesOf}
+use Rattle.files.specs.Queues.{poolOf, appendingOf, readingOf, appendingSize, filesOf}
 use Rattle.files.specs.Moves.{appendingQueued, readingCleaned, frontRead, frontReplayed, replayCleaned}
 use Rattle.files.specs.Calls.{withoutPool, goesOn, madeNew, fromPool}
 use Rattle.files.specs.declared.queues.Queues.{Queues}
@@ -46,7 +46,7 @@ module _ (q : Queues) (s : Sized q) (k : Kept q) where
         omega (arith, whole v q, whole v (appendingQueued q), times-pushed v (q .«read_queue») (q .appending .id) (rw (s .read) queued-room))
 
     pub queued-kept : Kept (appendingQueued q)
-    unfolding appendingQueued sizeOf
+    unfolding appendingQueued appendingSize
     queued-kept =
         still-kept q (appendingQueued q) k
         (record { read = omega (arith, queued-room); cleanup = k .room .cleanup; pool = k .room .pool; replay = k .room .replay; all = omega (arith, k .room .all, one-true (q .appending .some) a) })
@@ -62,7 +62,7 @@ module _ (q : Queues) (s : Sized q) (k : Kept q) where
       omega (arith, whole v q, whole v (readingCleaned q), times-one v (q .«cleanup_queue») (q .reading .some) (q .reading .id) (rw (s .cleanup) cleaned-room))
 
   pub reading-kept : Kept (readingCleaned q)
-  unfolding readingCleaned sizeOf
+  unfolding readingCleaned appendingSize
   reading-kept =
       let n = push-if-count (q .«cleanup_queue») (q .reading .some) (q .reading .id) in
       still-kept q (readingCleaned q) k
@@ -87,7 +87,7 @@ module _ (q : Queues) (s : Sized q) (k : Kept q) where
         omega (arith, whole v q, whole v (frontRead q), times-front v (q .«read_queue») some (rw (s .read) (k .room .read)))
 
     pub front-kept : Kept (frontRead q)
-    unfolding frontRead sizeOf
+    unfolding frontRead appendingSize
     front-kept =
         still-kept q (frontRead q) k
         (record { read = omega (arith, k .room .read); cleanup = k .room .cleanup; pool = k .room .pool; replay = k .room .replay; all = omega (arith, k .room .all) })
@@ -106,7 +106,7 @@ module _ (q : Queues) (s : Sized q) (k : Kept q) where
         omega (arith, whole v q, whole v (frontReplayed q), times-front v (q .«replay_queue») some (rw (s .replay) (k .room .replay)))
 
     pub replayed-kept : Kept (frontReplayed q)
-    unfolding frontReplayed sizeOf
+    unfolding frontReplayed appendingSize
     replayed-kept =
         still-kept q (frontReplayed q) k
         (record { read = k .room .read; cleanup = k .room .cleanup; pool = k .room .pool; replay = omega (arith, k .room .replay); all = omega (arith, k .room .all) })
@@ -119,7 +119,7 @@ module _ (q : Queues) (s : Sized q) (k : Kept q) where
       omega (arith, whole v q, whole v (replayCleaned q), times-both v (q .«cleanup_queue») (q .«replay_queue») (rw (s .cleanup) (omega (arith, k .room .all))) (rw (s .replay) (k .room .replay)))
 
   pub replay-kept : Kept (replayCleaned q)
-  unfolding replayCleaned sizeOf
+  unfolding replayCleaned appendingSize
   replay-kept =
       still-kept q (replayCleaned q) k
       (record { read = k .room .read; cleanup = omega (arith, k .room .all); pool = k .room .pool; replay = omega arith; all = omega (arith, k .room .all) })
@@ -130,7 +130,7 @@ module _ (q : Queues) (s : Sized q) (k : Kept q) where
   killed-times v = omega (arith, whole v q, whole v (withoutPool q), times-append v (poolOf q) (readingOf q))
 
   pub killed-kept : Kept (withoutPool q)
-  unfolding sizeOf
+  unfolding appendingSize
   killed-kept =
       still-kept q (withoutPool q) k
       (record { read = k .room .read; cleanup = k .room .cleanup; pool = omega arith; replay = k .room .replay; all = omega (arith, k .room .all) })
@@ -145,7 +145,7 @@ module _ (q : Queues) (s : Sized q) (k : Kept q) where
           omega (arith, whole v q, whole v (goesOn q size))
 
       pub goes-kept : size < 9223372036854775808 → Kept (goesOn q size)
-      unfolding sizeOf
+      unfolding appendingSize
       goes-kept low =
           still-kept q (goesOn q size) k
           (record { read = k .room .read; cleanup = k .room .cleanup; pool = k .room .pool; replay = k .room .replay; all = omega (arith, k .room .all, one-true (q .appending .some) a) })
@@ -162,7 +162,7 @@ module _ (q : Queues) (s : Sized q) (k : Kept q) where
             omega (arith, whole v q, whole v (fromPool q size), times-front v (q .«log_pool») some pool-fits)
 
         pub pool-kept : size < 9223372036854775808 → Kept (fromPool q size)
-        unfolding sizeOf
+        unfolding appendingSize
         pool-kept low =
             still-kept q (fromPool q size) k
             (record { read = k .room .read; cleanup = k .room .cleanup; pool = omega (arith, k .room .pool); replay = k .room .replay; all = omega (arith, k .room .all) })
@@ -176,7 +176,7 @@ module _ (q : Queues) (s : Sized q) (k : Kept q) where
       pub made-kept : size < 9223372036854775808
           → oneIf (q .appending .some) + q .«read_queue» .count + oneIf (q .reading .some) + q .«cleanup_queue» .count + q .«log_pool» .count + q .«replay_queue» .count < 64
           → Kept (madeNew q size)
-      unfolding sizeOf
+      unfolding appendingSize
       made-kept low h =
           let z = one-false (q .appending .some) n in
           record {

@@ -7,7 +7,7 @@ use Rattle.numbers.specs.Queue.{noNumbers, pushed, pushedIf, appended, frontOf,
 use Rattle.numbers.specs.declared.queue.NumberQueue.{NumberQueue}
 use Rattle.answer.specs.declared.answer.Answer.{Answer}
 use Rattle.answer.specs.declared.answer.Answer.the-variants.{Done}
-use Rattle.files.specs.Queues.{sizeOf}
+use Rattle.files.specs.Queues.{appendingSize}
 use Rattle.files.specs.Moves.{queuesOf, noAppending, noReading, readingFile, noFiles, withAppending, withReadQueue, withReading, withCleanup, withPool, withReplay, appendingQueued, readingCleaned, frontRead, firstIds, frontReplayed, replayCleaned}
 use Rattle.files.specs.Calls.{notCleaned, killLogsKept, grown, fromPool, tookFrom}
 use Rattle.files.specs.declared.queues.Appending.{Appending}
@@ -60,6 +60,6 @@ module _ (q : Queues) where
       → _≡_ {A = Killed} (record { answer = Done; remove = m; queues = withReading (withPool q e) r }) (killLogsKept q)
   killed-as m e r f g h = rw (f, g, h)
 
-  pub taken-as : (length id size : ℕ) (l : NumberQueue) (q′ : Queues) → size ≡ sizeOf q → id ≡ frontOf (q .«log_pool») → l ≡ withoutFirst 1 (q .«log_pool»)
-      → q′ ≡ grown (withPool q l) id (size + length) → tookFrom Pool id q′ ≡ tookFrom Pool (frontOf (q .«log_pool»)) (fromPool q (sizeOf q + length))
+  pub taken-as : (length id size : ℕ) (l : NumberQueue) (q′ : Queues) → size ≡ appendingSize q → id ≡ frontOf (q .«log_pool») → l ≡ withoutFirst 1 (q .«log_pool»)
+      → q′ ≡ grown (withPool q l) id (size + length) → tookFrom Pool id q′ ≡ tookFrom Pool (frontOf (q .«log_pool»)) (fromPool q (appendingSize q + length))
   taken-as length id size l q′ e f g h = rw (h, e, f, g)

@@ -12,7 +12,7 @@ use Rattle.numbers.specs.Numbers.{times}
 use Rattle.numbers.specs.Queue.{listOf}
 use Rattle.numbers.proofs.Laws.{one-le}
 use Rattle.numbers.proofs.QueueLists.{push-if-list}
-use Rattle.files.specs.Queues.{sizeOf, filesOf, queuesKept}
+use Rattle.files.specs.Queues.{appendingSize, filesOf, queuesKept}
 use Rattle.files.specs.Moves.{withDirty, readingCleaned, replayCleaned}
 use Rattle.files.specs.Calls.{flushes, flushOneKept, flushOne, replayNextKept, replayNext, clearReplayLogs, cleanLogsKept, cleanLogs, killLogs, fileSetFull, filesUsedUp, goesOn, madeNew, fromPool, takenBy, takeFileKept, takeFile}
 use Rattle.files.specs.declared.queues.Queues.{Queues}
@@ -57,7 +57,7 @@ module _ (q : Queues) (s : Sized q) (v : ℕ) where
     flushed min = by (flushes q min) refl
       where
         by : (b : Bool) → flushes q min ≡ b → times v (filesOf (flushOneKept q min .queues)) ≡ times v (filesOf q)
-        by true e = rw e (queued-times q s k (sized-appending q min (ltb-true min (sizeOf q) e)) v)
+        by true e = rw e (queued-times q s k (sized-appending q min (ltb-true min (appendingSize q) e)) v)
         by false e = rw e
 
     replayed : times v (filesOf (replayNextKept q .queues)) ≡ times v (filesOf q)
@@ -127,7 +127,7 @@ module _ (q : Queues) (s : Sized q) (v : ℕ) where
   file-taken : (length : ℕ) → Kept q → Made (takeFileKept q length)
   unfolding takeFileKept Made
   file-taken length r =
-      door Made (fileSetFull q) (λ e. nothing) (door Made (filesUsedUp q length) (λ e. nothing) (taken (sizeOf q + length) r))
+      door Made (fileSetFull q) (λ e. nothing) (door Made (filesUsedUp q length) (λ e. nothing) (taken (appendingSize q + length) r))
     where
       nothing : times v (filesOf q) ≡ times v (filesOf q) + 0
       nothing = omega arith

@@ -27,7 +27,7 @@ use Rattle.found.proofs.SortLaws.{pairs-map, next-above}
 use Rattle.found.proofs.Found.{order-times}
 use Rattle.found.proofs.Order.{ordered, count, same-files}
 use Rattle.found.proofs.Answers.{logs-told, logs-all}
-use Rattle.files.specs.Queues.{replayOf, sizeOf, filesOf, queuesKept}
+use Rattle.files.specs.Queues.{replayOf, appendingSize, filesOf, queuesKept}
 use Rattle.files.specs.Moves.{firstIds, readingCleaned}
 use Rattle.files.specs.Open.{openedWith, openLogs}
 use Rattle.files.specs.Read.{nowReading, notRead, readBy, readNextKept, readNext}
@@ -49,7 +49,7 @@ module _ (answer : Answer) (n : ℕ) (files : List LogFile) where
   opened-files = filled 64 (length files) (map fileNumber files) (length-map files fileNumber)
 
   opened-kept : length files ≤ 64 → distinct (map fileNumber files) ≡ true → queuesKept (openedWith (answered answer n files)) ≡ true
-  unfolding sizeOf
+  unfolding appendingSize
   opened-kept h d = kept-makes (openedWith (answered answer n files)) (record {
     room = record { read = omega arith; cleanup = omega arith; pool = omega arith; replay = h; all = omega arith };
     below = ap (allBelow (nextFrom 0 (map fileNumber files))) opened-files ∙ next-above 0 (map fileNumber files);

@@ -13,7 +13,7 @@ use Rattle.numbers.specs.Numbers.{someOf, insertAll, ascends}
 use Rattle.numbers.specs.Queue.{listOf, frontOf}
 use Rattle.numbers.proofs.Laws.{one-true}
 use Rattle.numbers.proofs.QueueLists.{push-list, push-if-list, push-if-count, push-if-length, append-list, first-list, front-list}
-use Rattle.files.specs.Queues.{appendingOf, readQueueOf, readingOf, cleanupOf, poolOf, replayOf, sizeOf, queuesKept}
+use Rattle.files.specs.Queues.{appendingOf, readQueueOf, readingOf, cleanupOf, poolOf, replayOf, appendingSize, queuesKept}
 use Rattle.files.specs.Moves.{appendingQueued, readingCleaned, frontRead, frontReplayed, replayCleaned}
 use Rattle.files.specs.Calls.{flushes, flushOneKept, replayNextKept, clearReplayLogsKept, cleanLogsKept, fromPool}
 use Rattle.files.specs.Read.{nowReading}
@@ -37,7 +37,7 @@ module _ (q : Queues) (s : Sized q) (ok : queuesKept q ≡ true) where
     pub flush-at-end : readQueueOf (flushOneKept q min .queues) ≡ readQueueOf q ++ appendingOf q
     unfolding flushes appendingQueued
     flush-at-end =
-        let a = sized-appending q min (ltb-true min (sizeOf q) h) in
+        let a = sized-appending q min (ltb-true min (appendingSize q) h) in
         let n : q .«read_queue» .count < length (q .«read_queue» .numbers) = omega (arith, k .room .all, one-true (q .appending .some) a, s .read) in
         ap readQueueOf flush-moves ∙ push-list (q .«read_queue») (q .appending .id) n ∙ ap (λ (b : Bool). readQueueOf q ++ someOf b (q .appending .id)) (sym a)
 

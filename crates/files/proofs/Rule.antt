@@ -11,7 +11,7 @@ use Rattle.words.specs.Choice.{if_then_else_}
 use Rattle.numbers.specs.Numbers.{times, allBelow, distinct, ascends, oneIf}
 use Rattle.numbers.proofs.Laws.{both, left-of, right-of, one-true}
 use Rattle.numbers.proofs.Sort.{times-append, less-distinct, less-under}
-use Rattle.files.specs.Queues.{poolOf, cleanupOf, readQueueOf, replayOf, appendingOf, readingOf, sizeOf, filesOf, fileCount, roomKept, queuesKept}
+use Rattle.files.specs.Queues.{poolOf, cleanupOf, readQueueOf, replayOf, appendingOf, readingOf, appendingSize, filesOf, fileCount, roomKept, queuesKept}
 use Rattle.numbers.proofs.QueueLists.{push-if-count}
 use Rattle.files.specs.Moves.{readingCleaned}
 use Rattle.files.specs.Calls.{needsNew, lacksNumber, filesUsedUp}
@@ -55,7 +55,7 @@ pub record Kept (q : Queues) : Type 0 where
   pub below : allBelow (q .«next_log_id») (filesOf q) ≡ true
   pub once : distinct (filesOf q) ≡ true
   pub pool : ascends (poolOf q) ≡ true
-  pub size : sizeOf q < 9223372036854775808
+  pub size : appendingSize q < 9223372036854775808
 
 pub kept-facts : (q : Queues) → queuesKept q ≡ true → Kept q
 unfolding queuesKept
@@ -68,7 +68,7 @@ kept-facts q e =
       below = left-of (allBelow (q .«next_log_id») (filesOf q)) _ a;
       once = left-of (distinct (filesOf q)) _ b;
       pool = left-of (ascends (poolOf q)) _ d;
-      size = ltb-true (sizeOf q) 9223372036854775808 (right-of (ascends (poolOf q)) _ d);
+      size = ltb-true (appendingSize q) 9223372036854775808 (right-of (ascends (poolOf q)) _ d);
     }
 
 pub kept-makes : (q : Queues) → Kept q → queuesKept q ≡ true
@@ -76,8 +76,8 @@ unfolding queuesKept
 kept-makes q k = both (room-makes q (k .room)) (both (k .below) (both (k .once) (both (k .pool) (lt-ltb _ _ (k .size)))))
 
 -- a file that has a size is appending
-pub sized-appending : (q : Queues) (min : ℕ) → min < sizeOf q → q .appending .some ≡ true
-unfolding sizeOf
+pub sized-appending : (q : Queues) (min : ℕ) → min < appendingSize q → q .appending .some ≡ true
+unfolding appendingSize
 sized-appending q min h = by (q .appending .some) refl h
   where
     by : (b : Bool) → q .appending .some ≡ b → min < (if b then q .appending .size else 0) → b ≡ true
@@ -99,7 +99,7 @@ whole v q =
 
 -- where no number stands more often than it did, each file is in one place and below the next number still
 pub still-kept : (q q′ : Queues) → Kept q → Room q′ → q′ .«next_log_id» ≡ q .«next_log_id» → ((v : ℕ) → times v (filesOf q′) ≤ times v (filesOf q))
-    → ascends (poolOf q′) ≡ true → sizeOf q′ < 9223372036854775808 → Kept q′
+    → ascends (poolOf q′) ≡ true → appendingSize q′ < 9223372036854775808 → Kept q′
 still-kept q q′ k r e f p s = record {
   room = r;
   below = ap (λ (n : ℕ). allBelow n (filesOf q′)) e ∙ less-under (q .«next_log_id») (filesOf q) (filesOf q′) f (k .below);
@@ -109,7 +109,7 @@ still-kept q q′ k r e f p s = record {
 }
 
 -- what `flush_one` moves finds room in the read queue
-pub flush-room : (q : Queues) (min : ℕ) → queuesKept q ≡ true → min < sizeOf q → q .«read_queue» .count < 64
+pub flush-room : (q : Queues) (min : ℕ) → queuesKept q ≡ true → min < appendingSize q → q .«read_queue» .count < 64
 flush-room q min ok h = omega (arith, kept-facts q ok .room .all, one-true (q .appending .some) (sized-appending q min h))
 
 -- what the test of all numbers found of a copy of them
@@ -133,7 +133,7 @@ module _ (q : Queues) (length : ℕ) (f : filesUsedUp q length ≡ false) where
       let z : true ≡ false = rw (a, p, eq-eqb (q .«next_log_id») 4294967295 e) at g in
       let w : _≡_ {A = ℕ} 0 1 = cc in omega arith
 
-  pub size-low : sizeOf q + length < 9223372036854775808
+  pub size-low : appendingSize q + length < 9223372036854775808
   unfolding filesUsedUp
   size-low = leb-false _ _ (right-false (lacksNumber q) _ f)
 

@@ -1,4 +1,4 @@
--- What each call answers, hands back and tells the host (document 01, "File numbers"; `Log`, log.rs 780-1084). Each is said first of queues
+-- What each call answers, hands back and tells the host (document 01, "File numbers"; log.rs 780-1084). Each is said first of queues
 -- that keep the rules (`..Kept`); queues that break one get 13 (document 01: "Order in every call: 13, then .."). A refusal hands the queues
 -- back as they were and tells the host nothing.
 use Prim.Native.Nat.{ℕ, _+_}
@@ -9,7 +9,7 @@ use Rattle.numbers.specs.Queue.{listOf, noNumbers, pushedIf, frontOf, firstOf, 
 use Rattle.numbers.specs.declared.queue.NumberQueue.{NumberQueue}
 use Rattle.answer.specs.declared.answer.Answer.{Answer}
 use Rattle.answer.specs.declared.answer.Answer.the-variants.{Done, NoRoom, UsedUp, BadState}
-use Rattle.files.specs.Queues.{sizeOf, fileCount, queuesKept}
+use Rattle.files.specs.Queues.{appendingSize, fileCount, queuesKept}
 use Rattle.files.specs.Moves.{appendingFile, noReading, withAppending, withReading, withCleanup, withPool, withNext, withDirty, appendingQueued, readingCleaned, firstIds, frontReplayed, replayCleaned}
 use Rattle.files.specs.declared.queues.Queues.{Queues}
 use Rattle.files.specs.declared.reading.FirstId.{FirstId}
@@ -25,8 +25,9 @@ use Rattle.files.specs.declared.cleaning.Killed.{Killed}
 -- ---- `flush_one` (log.rs 971-987)
 -- "exactly if its size is greater than the minimum; none counts as 0"
 unfoldable pub flushes : Queues → ℕ → Bool
-flushes q min = ltb min (sizeOf q)
+flushes q min = ltb min (appendingSize q)
 
+-- nothing moved
 abbrev pub notFlushed : Answer → Queues → Flushed
 notFlushed answer q = record { answer = answer; moved = false; number = 0; queues = q }
 
@@ -36,16 +37,19 @@ flushOneKept q min =
     if flushes q min then record { answer = Done; moved = true; number = q .appending .id; queues = appendingQueued q } else
     notFlushed Done q
 
+-- behind 13
 unfoldable pub flushOne : Queues → ℕ → Flushed
 flushOne q min = if queuesKept q then flushOneKept q min else notFlushed BadState q
 
 -- ---- `replay_record_id` (log.rs 780-782): the id of the replay queue's front, or that there is none
+-- the id of the replay queue's front, or that there is none
 unfoldable pub replayRecordId : Queues → FirstId
 replayRecordId q =
     if eqb (q .«replay_queue» .count) 0 then record { found = false; id = 0 } else
     record { found = true; id = frontOf (firstIds q) }
 
 -- ---- `replay_next` (log.rs 989-1005)
+-- no file to replay
 abbrev pub noReplay : Answer → Queues → ReplayNext
 noReplay answer q = record { answer = answer; found = false; number = 0; queues = q }
 
@@ -55,6 +59,7 @@ replayNextKept q =
     if eqb (q .«replay_queue» .count) 0 then noReplay Done (readingCleaned q) else
     record { answer = Done; found = true; number = frontOf (q .«replay_queue»); queues = frontReplayed (readingCleaned q) }
 
+-- behind 13
 unfoldable pub replayNext : Queues → ReplayNext
 replayNext q = if queuesKept q then replayNextKept q else noReplay BadState q
 
@@ -63,6 +68,7 @@ replayNext q = if queuesKept q then replayNextKept q else noReplay BadState q
 abbrev pub clearReplayLogsKept : Queues → ReplayCleared
 clearReplayLogsKept q = record { answer = Done; queues = withDirty (replayCleaned (readingCleaned q)) false }
 
+-- behind 13
 unfoldable pub clearReplayLogs : Queues → ReplayCleared
 clearReplayLogs q = if queuesKept q then clearReplayLogsKept q else record { answer = BadState; queues = q }
 
@@ -85,13 +91,16 @@ cleanLogsKept q n = record {
   queues = cleanupPooled q n;
 }
 
+-- nothing told
 abbrev pub notCleaned : Answer → Queues → Cleaned
 notCleaned answer q = record { answer = answer; more = false; empty = noNumbers; remove = noNumbers; queues = q }
 
+-- behind 13
 unfoldable pub cleanLogs : Queues → ℕ → Cleaned
 cleanLogs q n = if queuesKept q then cleanLogsKept q n else notCleaned BadState q
 
 -- ---- `kill_logs` (log.rs 1073-1084)
+-- neither pool nor file being read
 abbrev pub withoutPool : Queues → Queues
 withoutPool q = withReading (withPool q (emptied (q .«log_pool»))) noReading
 
@@ -99,6 +108,7 @@ withoutPool q = withReading (withPool q (emptied (q .«log_pool»))) noReading
 abbrev pub killLogsKept : Queues → Killed
 killLogsKept q = record { answer = Done; remove = pushedIf (q .«log_pool») (q .reading .some) (q .reading .id); queues = withoutPool q }
 
+-- behind 13
 unfoldable pub killLogs : Queues → Killed
 killLogs q = if queuesKept q then killLogsKept q else record { answer = BadState; remove = noNumbers; queues = q }
 
@@ -117,30 +127,36 @@ lacksNumber q = needsNew q && eqb (q .«next_log_id») 4294967295
 
 -- 12: there is no number, or with the record "A file's size stays below 2^63." would be broken
 unfoldable pub filesUsedUp : Queues → ℕ → Bool
-filesUsedUp q length = lacksNumber q || leb 9223372036854775808 (sizeOf q + length)
+filesUsedUp q length = lacksNumber q || leb 9223372036854775808 (appendingSize q + length)
 
 -- the file that is appended to, with its size; "dirty .. is set"
 abbrev pub grown : Queues → ℕ → ℕ → Queues
 grown q id size = withDirty (withAppending q (appendingFile id size)) true
 
+-- the file appending goes on
 abbrev pub goesOn : Queues → ℕ → Queues
 goesOn q size = grown q (q .appending .id) size
 
+-- a new file, of the next number
 abbrev pub madeNew : Queues → ℕ → Queues
 madeNew q size = grown (withNext q (q .«next_log_id» + 1)) (q .«next_log_id») size
 
+-- the pool's lowest
 abbrev pub fromPool : Queues → ℕ → Queues
 fromPool q size = grown (withPool q (withoutFirst 1 (q .«log_pool»))) (frontOf (q .«log_pool»)) size
 
+-- a file taken, and where from
 abbrev pub tookFrom : FileSource → ℕ → Queues → Taken
 tookFrom source number q = record { answer = Done; source = source; number = number; queues = q }
 
+-- which file is taken, its size being as given
 unfoldable pub takenBy : Queues → ℕ → Taken
 takenBy q size =
     if q .appending .some then tookFrom Appending (q .appending .id) (goesOn q size) else
     if eqb (q .«log_pool» .count) 0 then tookFrom New (q .«next_log_id») (madeNew q size) else
     tookFrom Pool (frontOf (q .«log_pool»)) (fromPool q size)
 
+-- none taken
 abbrev pub notTaken : Answer → Queues → Taken
 notTaken answer q = record { answer = answer; source = Appending; number = 0; queues = q }
 
@@ -149,7 +165,8 @@ unfoldable pub takeFileKept : Queues → ℕ → Taken
 takeFileKept q length =
     if fileSetFull q then notTaken NoRoom q else
     if filesUsedUp q length then notTaken UsedUp q else
-    takenBy q (sizeOf q + length)
+    takenBy q (appendingSize q + length)
 
+-- behind 13
 unfoldable pub takeFile : Queues → ℕ → Taken
 takeFile q length = if queuesKept q then takeFileKept q length else notTaken BadState q

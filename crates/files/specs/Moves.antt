@@ -23,15 +23,19 @@ queuesOf appending readQueue reading cleanup pool replay ids next dirty = record
   dirty = dirty;
 }
 
+-- no file appending
 abbrev pub noAppending : Appending
 noAppending = record { some = false; id = 0; size = 0 }
 
+-- a file appending, with its size
 abbrev pub appendingFile : ℕ → ℕ → Appending
 appendingFile id size = record { some = true; id = id; size = size }
 
+-- no file being read
 abbrev pub noReading : Reading
 noReading = record { some = false; id = 0 }
 
+-- a file being read
 abbrev pub readingFile : ℕ → Reading
 readingFile id = record { some = true; id = id }
 
@@ -40,27 +44,35 @@ abbrev pub noFiles : Queues
 noFiles = queuesOf noAppending noNumbers noReading noNumbers noNumbers noNumbers (replicate 64 0) 0 true
 
 -- ---- one place changed
+-- another file appending
 abbrev pub withAppending : Queues → Appending → Queues
 withAppending q a = queuesOf a (q .«read_queue») (q .reading) (q .«cleanup_queue») (q .«log_pool») (q .«replay_queue») (q .«replay_ids») (q .«next_log_id») (q .dirty)
 
+-- another read queue
 abbrev pub withReadQueue : Queues → NumberQueue → Queues
 withReadQueue q l = queuesOf (q .appending) l (q .reading) (q .«cleanup_queue») (q .«log_pool») (q .«replay_queue») (q .«replay_ids») (q .«next_log_id») (q .dirty)
 
+-- another file being read
 abbrev pub withReading : Queues → Reading → Queues
 withReading q r = queuesOf (q .appending) (q .«read_queue») r (q .«cleanup_queue») (q .«log_pool») (q .«replay_queue») (q .«replay_ids») (q .«next_log_id») (q .dirty)
 
+-- another cleanup queue
 abbrev pub withCleanup : Queues → NumberQueue → Queues
 withCleanup q l = queuesOf (q .appending) (q .«read_queue») (q .reading) l (q .«log_pool») (q .«replay_queue») (q .«replay_ids») (q .«next_log_id») (q .dirty)
 
+-- another pool
 abbrev pub withPool : Queues → NumberQueue → Queues
 withPool q l = queuesOf (q .appending) (q .«read_queue») (q .reading) (q .«cleanup_queue») l (q .«replay_queue») (q .«replay_ids») (q .«next_log_id») (q .dirty)
 
+-- another replay queue, with its first ids
 abbrev pub withReplay : Queues → NumberQueue → List ℕ → Queues
 withReplay q l ids = queuesOf (q .appending) (q .«read_queue») (q .reading) (q .«cleanup_queue») (q .«log_pool») l ids (q .«next_log_id») (q .dirty)
 
+-- another next number
 abbrev pub withNext : Queues → ℕ → Queues
 withNext q n = queuesOf (q .appending) (q .«read_queue») (q .reading) (q .«cleanup_queue») (q .«log_pool») (q .«replay_queue») (q .«replay_ids») n (q .dirty)
 
+-- dirty, or not
 abbrev pub withDirty : Queues → Bool → Queues
 withDirty q b = queuesOf (q .appending) (q .«read_queue») (q .reading) (q .«cleanup_queue») (q .«log_pool») (q .«replay_queue») (q .«replay_ids») (q .«next_log_id») b
 

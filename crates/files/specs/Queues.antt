@@ -9,18 +9,23 @@ use Rattle.numbers.specs.Numbers.{allBelow, distinct, ascends, someOf, oneIf}
 use Rattle.numbers.specs.Queue.{listOf}
 use Rattle.files.specs.declared.queues.Queues.{Queues}
 
+-- the file that is appended to, if there is one
 abbrev pub appendingOf : Queues → List ℕ
 appendingOf q = someOf (q .appending .some) (q .appending .id)
 
+-- the files of the read queue, the front first
 abbrev pub readQueueOf : Queues → List ℕ
 readQueueOf q = listOf (q .«read_queue»)
 
+-- the file being read, if there is one
 abbrev pub readingOf : Queues → List ℕ
 readingOf q = someOf (q .reading .some) (q .reading .id)
 
+-- the files to clean, the front first
 abbrev pub cleanupOf : Queues → List ℕ
 cleanupOf q = listOf (q .«cleanup_queue»)
 
+-- the files of the pool
 abbrev pub poolOf : Queues → List ℕ
 poolOf q = listOf (q .«log_pool»)
 
@@ -29,8 +34,8 @@ abbrev pub replayOf : Queues → List ℕ
 replayOf q = listOf (q .«replay_queue»)
 
 -- the appending file's size; "none counts as 0"
-unfoldable pub sizeOf : Queues → ℕ
-sizeOf q = if q .appending .some then q .appending .size else 0
+unfoldable pub appendingSize : Queues → ℕ
+appendingSize q = if q .appending .some then q .appending .size else 0
 
 -- every file, place by place: "appending, read queue, reading, cleanup, pool or replay queue"
 unfoldable pub filesOf : Queues → List ℕ
@@ -53,4 +58,4 @@ roomKept q =
 unfoldable pub queuesKept : Queues → Bool
 queuesKept q =
     roomKept q && (allBelow (q .«next_log_id») (filesOf q) && (distinct (filesOf q) && (ascends (poolOf q) &&
-    ltb (sizeOf q) 9223372036854775808)))
+    ltb (appendingSize q) 9223372036854775808)))

@@ -20,6 +20,7 @@ use Rattle.files.specs.declared.read.ReadNext.{ReadNext}
 unfoldable pub nowReading : Queues → Queues
 nowReading q = if q .reading .some then q else frontRead q
 
+-- nothing opened
 abbrev pub notRead : Answer → LogReader → Queues → ReadNext
 notRead answer reader q = record { answer = answer; number = 0; reader = reader; queues = q }
 
@@ -36,6 +37,7 @@ readNextKept q log position validate =
     if eqb (q .«read_queue» .count) 0 then notRead EndOfLog (readerAt position validate) q else
     readBy q (readerAt position validate) (openingOf log (readerAt 0 validate))
 
+-- behind 13
 unfoldable pub readNext : Queues → List ℕ → ℕ → Bool → ReadNext
 readNext q log position validate =
     if queuesKept q then readNextKept q log position validate else notRead BadState (readerAt position validate) q

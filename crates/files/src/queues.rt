@@ -3,7 +3,7 @@ ghost use mathlib.Core.Path.{_≡_};
 ghost use mathlib.Core.Bool.{true};
 ghost use Prim.Native.Nat.{_+_, _≤_};
 ghost use Rattle.numbers.specs.Queue.{listOf};
-ghost use Rattle.files.specs.Queues.{sizeOf, filesOf, fileCount, roomKept, queuesKept};
+ghost use Rattle.files.specs.Queues.{appendingSize, filesOf, fileCount, roomKept, queuesKept};
 ghost use Rattle.files.specs.Moves.{noAppending, appendingFile, noReading, readingFile, noFiles};
 use numbers::NumberQueue;
 
@@ -96,7 +96,7 @@ impl Queues {
     }
 
     pub(crate) fn size(self) -> u64
-        ensures { λ r. ⌜ r ≡ sizeOf self ⌝ }
+        ensures { λ r. ⌜ r ≡ appendingSize self ⌝ }
     {
         if self.appending.some {
             self.appending.size

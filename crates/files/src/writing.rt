@@ -2,7 +2,7 @@
 ghost use mathlib.Core.Path.{_≡_};
 ghost use mathlib.Core.Bool.{true, false};
 ghost use Prim.Native.Nat.{_+_, _<_};
-ghost use Rattle.files.specs.Queues.{sizeOf, queuesKept};
+ghost use Rattle.files.specs.Queues.{appendingSize, queuesKept};
 ghost use Rattle.files.specs.Moves.{appendingQueued};
 ghost use Rattle.files.specs.Calls.{notFlushed, flushOneKept, flushOne, needsNew, fileSetFull, lacksNumber, filesUsedUp, tookFrom, takenBy, notTaken, takeFileKept, takeFile};
 use super::queues::Appending;
@@ -140,7 +140,7 @@ impl Queues {
     // The file for a record of that length.
     fn taken(self, length: u64) -> Taken
         requires { ⌜ (queuesKept self ≡ true) × (filesUsedUp self length ≡ false) ⌝ }
-        ensures { λ r. ⌜ r ≡ takenBy self (sizeOf self + length) ⌝ }
+        ensures { λ r. ⌜ r ≡ takenBy self (appendingSize self + length) ⌝ }
     {
         let size = self.size() + length;
         if self.appending.some {

@@ -13,9 +13,11 @@ use Rattle.found.specs.declared.name.LogName.the-variants.{Log, Other}
 unfoldable pub beginsLog : List ℕ → Bool
 beginsLog name = ltb 3 (length name) && (eqb (getD name 0 0) 108 && (eqb (getD name 1 0) 111 && eqb (getD name 2 0) 103))
 
+-- a decimal digit
 abbrev pub isDigit : ℕ → Bool
 isDigit b = leb 48 b && leb b 57
 
+-- digits alone
 abbrev pub allDigits : List ℕ → Bool
 allDigits [] = true
 allDigits (b ∷ l) = isDigit b && allDigits l
@@ -33,6 +35,7 @@ noLeadingZero l = eqb (length l) 1 || not (eqb (getD l 0 0) 48)
 unfoldable pub decimalFrom : ℕ → List ℕ → LogName
 decimalFrom n l = if allDigits l && ltb (valueFrom n l) 4294967296 then Log (valueFrom n l) else Other
 
+-- what a name says: the number of a log file, or that it is none
 unfoldable pub logName : List ℕ → LogName
 logName name = if beginsLog name && noLeadingZero (drop 3 name) then decimalFrom 0 (drop 3 name) else Other
 

@@ -7,9 +7,9 @@ use lib.Dec.{eqb}
 use lib.ListN.{length, getD, take, drop, replicate}
 use Rattle.words.specs.Choice.{if_then_else_}
 use Rattle.numbers.specs.Numbers.{allBelow}
-use Rattle.memory.specs.Parts.{noCounts}
+use Rattle.memory.specs.Parts.{Parts, noCounts}
 use Rattle.memory.specs.declared.counts.Counts.{Counts}
-use Rattle.change.specs.Change.{noDrops}
+use Rattle.change.specs.Change.{Change, noDrops}
 use Rattle.change.specs.declared.drops.Drops.{Drops}
 use Rattle.change.specs.declared.change.LogChange.{LogChange}
 
@@ -62,3 +62,16 @@ dropsWords s = s .count ∷ s .tables
 abbrev pub listWords : LogChange → List ℕ
 listWords l =
     (l .«record_id» ∷ []) ++ countsWords (l .counts) ++ dropsWords (l .«dropped_tables») ++ dropsWords (l .«dropped_ref_count_tables»)
+
+-- how many keys there are, of parts that are said whole
+abbrev pub countsIn : Parts → Counts
+countsIn p = record { index = p .index .count; value = p .value .count; «ref_count» = p .refCount .count }
+
+-- the head of a list that is said whole
+abbrev pub headOf : Change → LogChange
+headOf l = record {
+  «record_id» = l .id;
+  counts = countsIn (l .parts);
+  «dropped_tables» = l .drops;
+  «dropped_ref_count_tables» = l .countDrops;
+}

@@ -5,9 +5,10 @@ use Prim.Native.Nat.{ℕ}
 use lib.Dec.{eqb}
 use lib.ListN.{length, take, drop, replicate}
 use Rattle.words.specs.Choice.{if_then_else_}
+use Rattle.memory.specs.Overlays.{Overlays}
 use Rattle.memory.specs.declared.counts.Counts.{Counts}
 use Rattle.memory.specs.declared.overlays.LogOverlays.{LogOverlays}
-use Rattle.host_words.specs.Change.{countsFrom, countsWords}
+use Rattle.host_words.specs.Change.{countsFrom, countsWords, countsIn}
 
 abbrev pub overlaysSize : ℕ
 overlaysSize = 11
@@ -26,3 +27,7 @@ overlaysFrom w = if eqb (length w) 11 then overlaysHead (countsFrom w 0) (take 8
 -- and back
 abbrev pub overlaysWords : LogOverlays → List ℕ
 overlaysWords o = countsWords (o .counts) ++ o .«last_record_ids»
+
+-- the head of overlays that are said whole
+abbrev pub overlaysLeft : Overlays → LogOverlays
+overlaysLeft s = overlaysHead (countsIn (s .parts)) (s .lastIds)

@@ -15,7 +15,7 @@ use Rattle.directory.specs.declared.table.TableKind.{TableKind}
 use Rattle.directory.specs.declared.table.TableDescription.{TableDescription}
 use Rattle.directory.specs.declared.directory.Directory.{Directory}
 use Rattle.lent.specs.Lent.{gathered}
-use Rattle.lent.specs.Inner.{pushed}
+use Rattle.lent.specs.Inner.{withOneMore}
 use Rattle.lent.proofs.More.{one-more, no-more}
 
 module _ (ts : List TableDescription) where
@@ -69,14 +69,14 @@ full n h = go (leb n 16) refl
     go false e = rw e
 
 -- one more behind them
-pub gathered-more : (ts : List TableDescription) (t : TableDescription) → pushed (gathered ts) t ≡ gathered (ts ++ t ∷ [])
-unfolding gathered pushed
+pub gathered-more : (ts : List TableDescription) (t : TableDescription) → withOneMore (gathered ts) t ≡ gathered (ts ++ t ∷ [])
+unfolding gathered withOneMore
 gathered-more ts t = go (ltb (length ts) 16) refl
   where
     grown : length (ts ++ t ∷ []) ≡ length ts + 1
     grown = length-append ts (t ∷ [])
 
-    go : (b : Bool) → ltb (length ts) 16 ≡ b → pushed (gathered ts) t ≡ gathered (ts ++ t ∷ [])
+    go : (b : Bool) → ltb (length ts) 16 ≡ b → withOneMore (gathered ts) t ≡ gathered (ts ++ t ∷ [])
     go true e =
         let h : length ts < 16 = ltb-true _ _ e in
         let k : length (ts ++ t ∷ []) ≤ 16 = omega (arith, grown) in
@@ -91,7 +91,7 @@ pub gathered-none : noTables ≡ gathered []
 unfolding gathered
 gathered-none = refl
 
-pub gathered-next : (ts : List TableDescription) (i : ℕ) (z : TableDescription) → i < length ts → pushed (gathered (take i ts)) (getD ts i z) ≡ gathered (take (i + 1) ts)
+pub gathered-next : (ts : List TableDescription) (i : ℕ) (z : TableDescription) → i < length ts → withOneMore (gathered (take i ts)) (getD ts i z) ≡ gathered (take (i + 1) ts)
 gathered-next ts i z h = gathered-more (take i ts) (getD ts i z) ∙ ap gathered (sym (ap (λ (k : ℕ). take k ts) (add-one i) ∙ take-suc ts i z h))
 
 pub gathered-all : (ts : List TableDescription) → gathered (take (length ts) ts) ≡ gathered ts

@@ -15,6 +15,12 @@ use Rattle.change.specs.Change.{Change, changeKept}
 use Rattle.change.specs.Insert.{notMade, inserted}
 use Rattle.change.specs.Drop.{tableDropped, countTableDropped}
 use Rattle.change.specs.Size.{sized}
+use Rattle.answer.specs.Answer.{refusal}
+use Rattle.writer.specs.Flush.{unwritten, flushToFile}
+use Rattle.memory.specs.Overlays.{Overlays}
+use Rattle.replay.specs.Replay.{fault}
+use Rattle.clearing.specs.EndRead.{toClear, endReadBy, endRead}
+use Rattle.ending.specs.EndRecord.{Handed, handedKept, endAnswer, notEnded, endRecord}
 use Rattle.lent.specs.Lent.{gathered}
 use Rattle.lent.proofs.Gathered.{gathered-many}
 
@@ -57,3 +63,17 @@ module _ (ts : List TableDescription) (many : 16 < length ts) (l : Change) where
   pub many-sized : sized (gathered ts) l ≡ record { answer = BadState; length = 0 }
   unfolding sized
   many-sized = rw not-kept
+
+  pub many-flushed : (out : List ℕ) → flushToFile (gathered ts) l out ≡ unwritten BadState out
+  unfolding flushToFile
+  many-flushed out = rw not-kept
+
+-- and of clearing and the end of a record
+module _ (ts : List TableDescription) (many : 16 < length ts) where
+  pub many-cleared : (log : List ℕ) (at : ℕ) (s : Overlays) (next : ℕ) → endRead (gathered ts) log at s next ≡ endReadBy at s next (fault (refusal BadState))
+  unfolding toClear
+  many-cleared log at s next = rw (gathered-many ts many)
+
+  pub many-ended : (h : Handed) → endRecord (gathered ts) h ≡ notEnded BadState h
+  unfolding endRecord endAnswer handedKept
+  many-ended h = rw (not-kept ts many (h .list))

@@ -1,6 +1,7 @@
 // The calls that take a directory, over one that is lent as a slice of descriptions.
 mod entries;
 mod lists;
+mod records;
 mod slice;
 mod tables;
 
@@ -13,6 +14,9 @@ pub use lists::insert_index;
 pub use lists::insert_ref_count;
 pub use lists::insert_value;
 pub use lists::record_size;
+pub use records::end_read;
+pub use records::end_record;
+pub use records::flush_to_file;
 pub use slice::gather;
 pub use tables::find;
 pub use tables::image_length;

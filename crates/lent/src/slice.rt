@@ -1,13 +1,13 @@
 // A lent slice of descriptions as a directory by value.
 ghost use mathlib.Core.Path.{_≡_};
 ghost use Rattle.lent.specs.Lent.{gathered};
-ghost use Rattle.lent.specs.Inner.{pushed};
+ghost use Rattle.lent.specs.Inner.{withOneMore};
 use directory::Directory;
 use directory::TableDescription;
 
 // One description more; a directory that is full counts 17 from then on.
 fn push(d: Directory, t: TableDescription) -> Directory
-    ensures { λ r. ⌜ r ≡ pushed d t ⌝ }
+    ensures { λ r. ⌜ r ≡ withOneMore d t ⌝ }
 {
     let at = d.count;
     let mut e = d;

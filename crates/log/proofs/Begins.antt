@@ -1,5 +1,5 @@
 -- The cases of `begin_record`, and what comes of a list that was not begun. Assumes nothing.
-use mathlib.Core.Path.{_≡_, refl, ap, _∙_}
+use mathlib.Core.Path.{_≡_, refl}
 use mathlib.Core.Bool.{Bool, true, false}
 use mathlib.Core.List.{List}
 use Prim.Native.Nat.{ℕ, _+_, _<_}
@@ -15,7 +15,6 @@ use Rattle.files.specs.declared.queues.Queues.{Queues}
 use Rattle.ending.specs.EndRecord.{Handed, handedOf, endAnswer, isDone}
 use Rattle.ending.proofs.Decided.{accepted}
 use Rattle.log.specs.Begin.{notBegun, beginRecord}
-use Rattle.log.specs.declared.begin.Begun.{Begun}
 
 module _ (next : ℕ) where
   pub begun-0 : next ≡ 0 → notBegun BadState next ≡ beginRecord next

@@ -1,6 +1,6 @@
 -- A RECORD ENDED AND THEN READ: what `end_record` writes is what `flush_to_file` writes and what replay accepts, and `end_read` of those bytes,
 -- with nothing between, leaves no key of the record in the overlays. Assumes nothing.
-use mathlib.Core.Path.{_≡_, refl, sym, ap, _∙_}
+use mathlib.Core.Path.{_≡_, refl, ap, _∙_}
 use mathlib.Core.Bool.{Bool, true, false, not, _||_}
 use mathlib.Core.List.{List, [], _∷_, _++_, map}
 use mathlib.Core.Option.{none}
@@ -11,7 +11,6 @@ use lib.Dec.{eqb}
 use lib.ListN.{length, getD, take, drop}
 use lib.Seq.{getD-take, length-take-le}
 use borrow.Author.Tests.{eq-eqb, ne-eqb}
-use Rattle.words.specs.Choice.{if_then_else_}
 use Rattle.words.proofs.Choices.{if-true, if-false}
 use Rattle.directory.specs.Directory.{imageLength}
 use Rattle.directory.specs.declared.table.TableKind.{TableKind}
@@ -21,11 +20,10 @@ use Rattle.answer.specs.Answer.{lastRecordId}
 use Rattle.answer.specs.declared.answer.Answer.the-variants.{Done}
 use Rattle.effect.specs.Effect.{Written}
 use Rattle.replay.specs.Replay.{Walked, walked, judged, replayedAs}
+use Rattle.numbers.proofs.Laws.{both}
 use Rattle.keys.specs.Keys.{keyAt}
-use Rattle.keys.proofs.Places.{both}
 use Rattle.overlay.specs.Rules.{Overlay}
-use Rattle.memory.specs.Parts.{Parts, ofKind, partsKept, entryUnder}
-use Rattle.memory.specs.Overlays.{Overlays}
+use Rattle.memory.specs.Parts.{ofKind, entryUnder}
 use Rattle.memory.specs.declared.span.Holder.the-variants as holder
 use Rattle.change.specs.Change.{Change, changeKept}
 use Rattle.change.specs.Size.{recordSize}
@@ -145,7 +143,7 @@ module _
         → length image ≡ imageLength d  -- any other gives 13
         → replayedAs 0 (judged d (left .output) 0 (l .id) image) ≡ record { answer = Done; position = recordSize l }
     replay-accepts image long =
-        ap (λ (log : List ℕ). replayedAs 0 (judged d log 0 (l .id) image)) record-first ∙ replayed-done d l kept words more image long
+        ap (λ (log : List ℕ). replayedAs 0 (judged d log 0 (l .id) image)) record-first ∙ replayed-done d l more image kept words long
 
     reads : read.recordAgain d (left .output) 0 ≡ walked again (recordSize l)
     reads =

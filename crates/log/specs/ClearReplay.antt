@@ -2,6 +2,7 @@
 -- 0, clears dirty."; log.rs lines 816 to 837).
 use mathlib.Core.Bool.{_&&_}
 use mathlib.Core.List.{List}
+use Prim.Native.Nat.{ℕ}
 use Rattle.words.specs.Choice.{if_then_else_}
 use Rattle.answer.specs.declared.answer.Answer.the-variants.{Done, BadState}
 use Rattle.memory.specs.Parts.{partsKept}

@@ -25,22 +25,27 @@ spanOf holder.List Index = record { room = 32; «words_at» = 0; «words_end» =
 spanOf holder.List Value = record { room = 32; «words_at» = 160; «words_end» = 320; «bytes_at» = 16384; «bytes_end» = 32768 }
 spanOf holder.List RefCount = record { room = 16; «words_at» = 320; «words_end» = 400; «bytes_at» = 32768; «bytes_end» = 49152 }
 
+-- how many words the three parts have together
 abbrev pub wordsAll : Holder → ℕ
 wordsAll holder.Shared = 3840
 wordsAll holder.List = 400
 
+-- and how many bytes
 abbrev pub bytesAll : Holder → ℕ
 bytesAll holder.Shared = 524288
 bytesAll holder.List = 49152
 
+-- no key of any kind
 abbrev pub noCounts : Counts
 noCounts = record { index = 0; value = 0; «ref_count» = 0 }
 
+-- how many keys of a kind are in use
 abbrev pub countOf : TableKind → Counts → ℕ
 countOf Index c = c .index
 countOf Value c = c .value
 countOf RefCount c = c .«ref_count»
 
+-- another number of them
 abbrev pub withCount : TableKind → Counts → ℕ → Counts
 withCount Index c n = record { index = n; value = c .value; «ref_count» = c .«ref_count» }
 withCount Value c n = record { index = c .index; value = n; «ref_count» = c .«ref_count» }
@@ -50,9 +55,11 @@ withCount RefCount c n = record { index = c .index; value = c .value; «ref_coun
 abbrev pub partFrom : ℕ → ℕ → List ℕ → List ℕ
 partFrom a e l = take (e - a) (drop a l)
 
+-- a kind's part of the words
 abbrev pub wordsIn : Holder → TableKind → List ℕ → List ℕ
 wordsIn h kind words = partFrom (spanOf h kind .«words_at») (spanOf h kind .«words_end») words
 
+-- and of the bytes
 abbrev pub bytesIn : Holder → TableKind → List ℕ → List ℕ
 bytesIn h kind bytes = partFrom (spanOf h kind .«bytes_at») (spanOf h kind .«bytes_end») bytes
 
@@ -68,6 +75,7 @@ pub record Parts : Type 0 where
   pub wordsMore : List ℕ
   pub bytesMore : List ℕ
 
+-- as a call is handed them: how many keys of each kind, and the two memories
 abbrev pub partsOf : Holder → Counts → List ℕ → List ℕ → Parts
 partsOf h c words bytes = record {
   index = partOf h Index c words bytes;
@@ -77,6 +85,7 @@ partsOf h c words bytes = record {
   bytesMore = drop (bytesAll h) bytes;
 }
 
+-- one of the three
 abbrev pub ofKind : TableKind → Parts → Overlay
 ofKind Index p = p .index
 ofKind Value p = p .value

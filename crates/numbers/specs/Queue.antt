@@ -9,9 +9,11 @@ use Rattle.words.specs.Choice.{if_then_else_}
 use Rattle.numbers.specs.Numbers.{spot, least, putIn, over}
 use Rattle.numbers.specs.declared.queue.NumberQueue.{NumberQueue}
 
+-- the numbers in a queue, in its order
 abbrev pub listOf : NumberQueue → List ℕ
 listOf q = take (q .count) (q .numbers)
 
+-- an empty queue
 abbrev pub noNumbers : NumberQueue
 noNumbers = record { count = 0; numbers = replicate 64 0 }
 
@@ -19,6 +21,7 @@ noNumbers = record { count = 0; numbers = replicate 64 0 }
 abbrev pub pushed : NumberQueue → ℕ → NumberQueue
 pushed q v = record { count = q .count + 1; numbers = set (q .numbers) (q .count) v }
 
+-- v at the end, if there is one
 abbrev pub pushedIf : NumberQueue → Bool → ℕ → NumberQueue
 pushedIf q b v = if b then pushed q v else q
 
@@ -26,9 +29,11 @@ pushedIf q b v = if b then pushed q v else q
 abbrev pub appended : NumberQueue → NumberQueue → NumberQueue
 appended q r = record { count = q .count + r .count; numbers = paste (q .numbers) (q .count) (r .numbers) (r .count) }
 
+-- the first
 abbrev pub frontOf : NumberQueue → ℕ
 frontOf q = getD (q .numbers) 0 0
 
+-- the first n, or all if there are fewer
 abbrev pub firstOf : ℕ → NumberQueue → NumberQueue
 firstOf n q = record { count = least n (q .count); numbers = q .numbers }
 
@@ -36,6 +41,7 @@ firstOf n q = record { count = least n (q .count); numbers = q .numbers }
 abbrev pub withoutFirst : ℕ → NumberQueue → NumberQueue
 withoutFirst n q = record { count = q .count - n; numbers = over (q .numbers) (drop n (q .numbers)) (q .count - n) }
 
+-- emptied; the array keeps what it has
 abbrev pub emptied : NumberQueue → NumberQueue
 emptied q = record { count = 0; numbers = q .numbers }
 
@@ -43,6 +49,7 @@ emptied q = record { count = 0; numbers = q .numbers }
 abbrev pub sortedIn : NumberQueue → ℕ → NumberQueue
 sortedIn q v = record { count = q .count + 1; numbers = putIn (spot v (listOf q)) (q .count) v (q .numbers) }
 
+-- each of a list put into an ascending queue
 abbrev pub allSortedIn : NumberQueue → List ℕ → NumberQueue
 allSortedIn q [] = q
 allSortedIn q (v ∷ vs) = allSortedIn (sortedIn q v) vs

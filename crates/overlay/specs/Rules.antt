@@ -53,6 +53,7 @@ overlayKept kind room o =
 abbrev pub rowsOf : ℕ → List ℕ → List ℕ
 rowsOf room words = take (4 * room) words
 
+-- and behind them the order
 abbrev pub orderOf : ℕ → List ℕ → List ℕ
 orderOf room words = drop (4 * room) words
 

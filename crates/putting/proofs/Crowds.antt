@@ -1,5 +1,5 @@
 -- The keys of both counted, kind by kind. Assumes nothing.
-use mathlib.Core.Path.{_≡_, refl, sym, ap, _∙_, subst}
+use mathlib.Core.Path.{_≡_, refl, ap, _∙_, subst}
 use mathlib.Core.Bool.{Bool, true, false, _||_}
 use mathlib.Core.List.{List, []}
 use Prim.Native.Nat.{ℕ, _+_, _-_, _*_, _≤_}
@@ -13,7 +13,7 @@ use Rattle.keys.proofs.Rank.{ltb-same}
 use Rattle.overlay.specs.Rules.{Overlay, rowsOf, orderOf, overlayOf}
 use Rattle.overlay.proofs.Parts.{rest-part}
 use Rattle.overlay.proofs.Ruled.{keys-room}
-use Rattle.memory.specs.Parts.{Parts, spanOf, countOf, partFrom, partOf, ofKind}
+use Rattle.memory.specs.Parts.{Parts, spanOf, countOf, partOf, ofKind}
 use Rattle.memory.specs.declared.counts.Counts.{Counts}
 use Rattle.memory.specs.declared.span.Holder.the-variants as holder
 use Rattle.memory.specs.declared.span.Span.{Span}

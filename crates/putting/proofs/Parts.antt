@@ -1,15 +1,14 @@
 -- One kind's part of the words, as the code lends it: the span with its equation. Assumes nothing.
 use mathlib.Core.Path.{_≡_, refl, sym, ap, _∙_, subst}
-use mathlib.Core.Bool.{Bool, true}
+use mathlib.Core.Bool.{true}
 use mathlib.Core.List.{List, []}
-use Prim.Native.Nat.{ℕ, _+_, _-_, _*_, _≤_}
+use Prim.Native.Nat.{ℕ, _-_, _*_}
 use native.Mathlib.Omega.{arith}
 use lib.ListN.{length}
 use Rattle.directory.specs.declared.table.TableKind.{TableKind}
 use Rattle.directory.specs.declared.table.TableKind.the-variants.{Index, Value, RefCount}
 use Rattle.directory.specs.declared.directory.Directory.{Directory}
 use Rattle.overlay.specs.Rules.{keysRuled, rowsOf, orderOf, overlayOf}
-use Rattle.overlay.proofs.Ruled.{shows}
 use Rattle.memory.specs.Parts.{spanOf, countOf, partFrom, partOf, partsOf, partsKept}
 use Rattle.memory.specs.declared.counts.Counts.{Counts}
 use Rattle.memory.specs.declared.overlays.LogOverlays.{LogOverlays}

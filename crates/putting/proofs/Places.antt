@@ -17,9 +17,9 @@ use Rattle.overlay.proofs.Slots.{slot-length}
 use Rattle.memory.specs.Parts.{Parts, ofKind, withKind, partsKept, Takes, putInto}
 use Rattle.memory.specs.declared.span.Holder.{Holder}
 use Rattle.putting.specs.Listed.{storedAt, putPlace}
-use Rattle.putting.specs.Inner.{rowAt, rowPut, RowGoes}
+use Rattle.putting.specs.Inner.{rowAt, placePut, RowGoes}
 use Rattle.change.proofs.Listed.{Placed}
-use Rattle.putting.specs.declared.place.Row.{Row}
+use Rattle.putting.specs.declared.place.ListedRow.{ListedRow}
 
 pub order-word : (room i : ℕ) (words : List ℕ) → getD words (4 * room + i) 0 ≡ getD (orderOf room words) i 0
 order-word room i words = sym (getD-drop (4 * room) words i 0)
@@ -72,12 +72,12 @@ module _ (kind : TableKind) (room : ℕ) (words bytes : List ℕ) (n p : ℕ) (r
     takes = subst (λ (k : ℕ). Takes h kind shared k) key-word free;
   }
 
-  pub row-put : (id : ℕ) (shared : Parts) → rowPut kind id (rowAt words p) bytes p shared ≡ withKind kind shared (putPlace kind id (overlayOf room words bytes n) p (ofKind kind shared))
-  unfolding rowPut putInto putPlace
+  pub row-put : (id : ℕ) (shared : Parts) → placePut kind id (rowAt words p) bytes p shared ≡ withKind kind shared (putPlace kind id (overlayOf room words bytes n) p (ofKind kind shared))
+  unfolding placePut putInto putPlace
   row-put id shared = ap (withKind kind shared) (over-same kind (ofKind kind shared) id p bytes (sym table-word) (sym index-word) (sym mark-word))
 
 -- the bytes of an entry, which the code lends
-module _ (h : Holder) (kind : TableKind) (row : Row) (stored : List ℕ) (p : ℕ) (shared : Parts) (g : RowGoes h kind row stored p shared) (s n : ℕ) (size : s ≡ slotSize kind) (many : n ≡ storedLength kind (row .mark)) where
+module _ (h : Holder) (kind : TableKind) (row : ListedRow) (stored : List ℕ) (p : ℕ) (shared : Parts) (g : RowGoes h kind row stored p shared) (s n : ℕ) (size : s ≡ slotSize kind) (many : n ≡ storedLength kind (row .mark)) where
   from-is : s * p ≡ slotSize kind * p
   from-is = ap (λ (k : ℕ). k * p) size
 
@@ -94,6 +94,6 @@ module _ (h : Holder) (kind : TableKind) (row : Row) (stored : List ℕ) (p : �
       omega (arith, ap length part-is, slot-length (storedLength kind (row .mark)) (slotSize kind * p) stored (g .lies), unit-fits kind (row .mark) (g .mark))
 
   pub part-put : (id : ℕ) (q : Parts) (src : List ℕ) → q ≡ putInto kind shared (row .table) (row .index) id (row .mark) src → src ≡ take (s * p + n - s * p) (drop (s * p) stored)
-      → q ≡ rowPut kind id row stored p shared
-  unfolding rowPut
+      → q ≡ placePut kind id row stored p shared
+  unfolding placePut
   part-put id q src f e = f ∙ ap (putInto kind shared (row .table) (row .index) id (row .mark)) (e ∙ part-is)

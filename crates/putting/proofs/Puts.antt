@@ -25,8 +25,8 @@ use Rattle.memory.specs.Parts.{Parts, spanOf, ofKind, withKind, partsKept, Take
 use Rattle.memory.specs.declared.span.Holder.the-variants as holder
 use Rattle.memory.proofs.Spans.{with-kept}
 use Rattle.putting.specs.Listed.{keysHeld, passes, storedAt, putPlace, putPlaces}
-use Rattle.putting.specs.Inner.{rowAt, rowPut, listPut, RowGoes, KindGoes}
-use Rattle.putting.specs.declared.place.Row.{Row}
+use Rattle.putting.specs.Inner.{rowAt, placePut, listPut, RowGoes, KindGoes}
+use Rattle.putting.specs.declared.place.ListedRow.{ListedRow}
 use Rattle.change.proofs.Listed.{Placed, placed}
 use Rattle.putting.proofs.OneKind.{of-with, with-with, with-of, kind-kept, shared-room}
 use Rattle.putting.proofs.Places.{order-word, order-holds, bytes-long, bytes-fit, table-small, row-goes, row-put}
@@ -211,9 +211,9 @@ module _ (kind : TableKind) (id room : ℕ) (words bytes : List ℕ) (n : ℕ) (
   pub turn-small : getD words (4 * p) 0 < 65536
   turn-small = table-small kind room words bytes n p ready
 
-  pub turn-goes : (row : Row) → row ≡ rowAt words p → RowGoes holder.Shared kind row bytes p shared
+  pub turn-goes : (row : ListedRow) → row ≡ rowAt words p → RowGoes holder.Shared kind row bytes p shared
   turn-goes row e = rw e (row-goes kind room words bytes n p ready holder.Shared shared (t .kept) (left-takes kind id list room ok i shared whole t h p is))
 
-  pub turn-next : (row : Row) → row ≡ rowAt words p → (q : Parts) → q ≡ rowPut kind id row bytes p shared → Left kind id list (i + 1) q whole
+  pub turn-next : (row : ListedRow) → row ≡ rowAt words p → (q : Parts) → q ≡ placePut kind id row bytes p shared → Left kind id list (i + 1) q whole
   turn-next row e q f =
-      left-next kind id list room ok i shared whole t h p is q (f ∙ ap (λ (r : Row). rowPut kind id r bytes p shared) e ∙ row-put kind room words bytes n p ready id shared)
+      left-next kind id list room ok i shared whole t h p is q (f ∙ ap (λ (r : ListedRow). placePut kind id r bytes p shared) e ∙ row-put kind room words bytes n p ready id shared)

@@ -14,7 +14,7 @@ use Rattle.memory.specs.declared.span.Holder.{Holder}
 use Rattle.memory.specs.declared.span.Holder.the-variants as holder
 use Rattle.memory.specs.declared.overlays.LogOverlays.{LogOverlays}
 use Rattle.putting.specs.Listed.{passes, putListed}
-use Rattle.putting.specs.declared.place.Row.{Row}
+use Rattle.putting.specs.declared.place.ListedRow.{ListedRow}
 
 -- `partsOf` and `overlaysOf` shut: two of them are then compared by what they are of, and no memory's length is counted
 unfoldable pub partsAt : Holder → Counts → List ℕ → List ℕ → Parts
@@ -24,19 +24,19 @@ unfoldable pub overlaysAt : LogOverlays → List ℕ → List ℕ → Overlays
 overlaysAt o words bytes = overlaysOf o words bytes
 
 -- the words of a place
-abbrev pub rowAt : List ℕ → ℕ → Row
+abbrev pub rowAt : List ℕ → ℕ → ListedRow
 rowAt words p = record { table = getD words (4 * p) 0; index = getD words (4 * p + 1) 0; mark = getD words (4 * p + 3) 0 }
 
 -- one entry of a list put among all kinds, and all of one kind
-unfoldable pub rowPut : TableKind → ℕ → Row → List ℕ → ℕ → Parts → Parts
-rowPut kind id row stored p shared =
+unfoldable pub placePut : TableKind → ℕ → ListedRow → List ℕ → ℕ → Parts → Parts
+placePut kind id row stored p shared =
     putInto kind shared (row .table) (row .index) id (row .mark) (take (storedLength kind (row .mark)) (drop (slotSize kind * p) stored))
 
 unfoldable pub listPut : TableKind → ℕ → Overlay → Parts → Parts
 listPut kind id list shared = withKind kind shared (putListed kind id list (ofKind kind shared))
 
 -- the entry of a row can be put
-pub record RowGoes (h : Holder) (kind : TableKind) (row : Row) (stored : List ℕ) (p : ℕ) (shared : Parts) : Type 0 where
+pub record RowGoes (h : Holder) (kind : TableKind) (row : ListedRow) (stored : List ℕ) (p : ℕ) (shared : Parts) : Type 0 where
   pub kept : partsKept h shared ≡ true
   pub mark : markRuled kind (row .mark) ≡ true
   pub lies : slotSize kind * p + storedLength kind (row .mark) ≤ length stored

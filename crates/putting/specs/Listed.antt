@@ -25,6 +25,7 @@ keysHeld o = keysOf (o .rows) (o .order) (o .count)
 unfoldable pub passes : Overlay → Overlay → Bool
 passes list shared = ltb 256 (shared .count + news (keysHeld shared) (keysHeld list))
 
+-- the same of any of the three kinds
 unfoldable pub crowded : Parts → Parts → Bool
 crowded list shared =
     passes (list .index) (shared .index) || (passes (list .value) (shared .value) || passes (list .refCount) (shared .refCount))
@@ -47,6 +48,7 @@ putPlaces kind id list (p ∷ ps) shared = putPlaces kind id list ps (putPlace k
 abbrev pub putListed : TableKind → ℕ → Overlay → Overlay → Overlay
 putListed kind id list shared = putPlaces kind id list (take (list .count) (list .order)) shared
 
+-- all entries of a kind, in their order, over the shared ones of that kind
 unfoldable pub putKind : TableKind → ℕ → Parts → Parts → Parts
 putKind kind id list shared = withKind kind shared (putListed kind id (ofKind kind list) (ofKind kind shared))
 
@@ -64,6 +66,7 @@ unfoldable pub lastIdsBy : Directory → ℕ → List ℕ → List ℕ → List 
 lastIdsBy d id rows [] ids = ids
 lastIdsBy d id rows (p ∷ ps) ids = lastIdsBy d id rows ps (set ids (columnOf (findTable d Value (getD rows (4 * p) 0))) id)
 
+-- each value of the list, in its order
 abbrev pub lastIdsPut : Directory → ℕ → Overlay → List ℕ → List ℕ
 lastIdsPut d id values ids = lastIdsBy d id (values .rows) (take (values .count) (values .order)) ids
 

@@ -5,7 +5,7 @@ ghost use Prim.Native.Nat.{_+_, _*_, _<_, _≤_};
 ghost use lib.ListN.{length, getD};
 ghost use Rattle.overlay.specs.Rules.{storedLength, markRuled, overlayOf};
 ghost use Rattle.memory.specs.declared.span.Holder.the-variants.{Shared};
-ghost use Rattle.putting.specs.Inner.{partsAt, rowAt, rowPut, listPut, RowGoes, KindGoes};
+ghost use Rattle.putting.specs.Inner.{partsAt, rowAt, placePut, listPut, RowGoes, KindGoes};
 use directory::TableKind;
 use memory::Counts;
 use memory::Holder;
@@ -23,24 +23,24 @@ fn stored_length(kind: TableKind, mark: u64) -> usize
 }
 
 // What the list says of a place.
-pub struct Row {
+pub struct ListedRow {
     pub table: u16,
     pub index: u64,
     pub mark: u64,
 }
 
-fn row_at(listed: &[u64], p: usize) -> Row
+fn row_at(listed: &[u64], p: usize) -> ListedRow
     requires { ⌜ (4 * p + 4 ≤ length (now listed)) × (getD (now listed) (4 * p) 0 < 65536) ⌝ }
     ensures { λ r. ⌜ r ≡ rowAt (now (listed .entry)) p ⌝ }
 {
-    Row {
+    ListedRow {
         table: listed[4 * p] as u16,
         index: listed[4 * p + 1],
         mark: listed[4 * p + 3],
     }
 }
 
-// The entry of that row, whose bytes are in place p.
+// The entry of that row, whose bytes are in place p, into the memories of any holder.
 fn put_place(
     holder: Holder,
     kind: TableKind,
@@ -48,13 +48,13 @@ fn put_place(
     words: &mut [u64],
     bytes: &mut [u8],
     id: u64,
-    row: Row,
+    row: ListedRow,
     stored: &[u8],
     p: usize,
 ) -> Counts
     requires { ⌜ RowGoes holder kind row (now stored) p (partsAt holder counts (now words) (now bytes)) ⌝ }
     ensures { λ r. ⌜ partsAt holder r (now (words .exit)) (now (bytes .exit))
-        ≡ rowPut kind id row (now (stored .entry)) p (partsAt holder counts (now (words .entry)) (now (bytes .entry))) ⌝ }
+        ≡ placePut kind id row (now (stored .entry)) p (partsAt holder counts (now (words .entry)) (now (bytes .entry))) ⌝ }
 {
     let from = overlay::slot_size(kind) * p;
     let to = from + stored_length(kind, row.mark);

@@ -9,7 +9,6 @@ use lib.Dec.{ltb, eqb}
 use lib.ListN.{length}
 use Rattle.words.specs.Choice.{if_then_else_}
 use Rattle.directory.specs.declared.table.TableKind.{TableKind}
-use Rattle.answer.specs.Answer.{numberOf}
 use Rattle.answer.specs.declared.answer.Answer.the-variants.{Done, BadState}
 use Rattle.numbers.proofs.Laws.{left-of, right-of}
 use Rattle.keys.specs.Keys.{rank}
@@ -23,7 +22,7 @@ use Rattle.memory.specs.declared.span.Holder.the-variants as holder
 use Rattle.memory.proofs.Spans.{all-shows}
 use Rattle.change.specs.Change.{Change, changeRuled}
 use Rattle.change.proofs.Rules.{ruled-parts}
-use Rattle.query.specs.Query.{Looked, lookedIf, sharedLook, listedLook, bytesOf, HandsOut, isThere, copiedBy}
+use Rattle.query.specs.Query.{lookedIf, sharedLook, listedLook, bytesOf, HandsOut, copiedBy}
 use Rattle.query.specs.Inner.{foundIn}
 use Rattle.query.proofs.Copies.{copied-if}
 use Rattle.query.proofs.Found.{some-bytes, first-all, first-own, some-first}

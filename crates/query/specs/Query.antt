@@ -49,6 +49,7 @@ bytesOf (some e) = e .bytes
 abbrev pub HandsOut : Looked → ℕ → List ℕ → Type 0
 HandsOut l number bytes = (number ≡ numberOf (l .answer)) × (bytes ≡ bytesOf (l .entry))
 
+-- whether there is one
 abbrev pub isThere : Option Entry → Bool
 isThere none = false
 isThere (some e) = true

@@ -63,8 +63,10 @@ fn look_kept<'a>(
     table: u16,
     index: u64,
 ) -> &'a [u8]
-    requires { ⌜ (changeRuled (changeOf list (now «local_words») (now «local_bytes»)) ≡ true) × (overlayKept kind 256 (sharedPart kind overlays (now words) (now bytes)) ≡ true) ⌝ }
-    ensures { λ r. ⌜ now r ≡ bytesOf (listedLook kind (changeOf list (now («local_words» .entry)) (now («local_bytes» .entry))) (sharedPart kind overlays (now (words .entry)) (now (bytes .entry))) (rank table index) .entry) ⌝ }
+    requires { ⌜ (changeRuled (changeOf list (now «local_words») (now «local_bytes»)) ≡ true)
+        × (overlayKept kind 256 (sharedPart kind overlays (now words) (now bytes)) ≡ true) ⌝ }
+    ensures { λ r. ⌜ now r ≡ bytesOf (listedLook kind (changeOf list (now («local_words» .entry)) (now («local_bytes» .entry)))
+        (sharedPart kind overlays (now (words .entry)) (now (bytes .entry))) (rank table index) .entry) ⌝ }
 {
     let counts = list.counts;
     let mine = find_listed(kind, counts, local_words, local_bytes, table, index);
@@ -86,7 +88,8 @@ fn look<'a>(
     index: u64,
     number: &mut u64,
 ) -> &'a [u8]
-    ensures { λ r. ⌜ HandsOut (listedLook kind (changeOf list (now («local_words» .entry)) (now («local_bytes» .entry))) (sharedPart kind overlays (now (words .entry)) (now (bytes .entry))) (rank table index)) (now (number .exit)) (now r) ⌝ }
+    ensures { λ r. ⌜ HandsOut (listedLook kind (changeOf list (now («local_words» .entry)) (now («local_bytes» .entry)))
+        (sharedPart kind overlays (now (words .entry)) (now (bytes .entry))) (rank table index)) (now (number .exit)) (now r) ⌝ }
 {
     *number = 13;
     if !list.ruled(local_words, local_bytes) {
@@ -121,7 +124,8 @@ pub fn with_index<'a>(
     index: u64,
     number: &mut u64,
 ) -> &'a [u8]
-    ensures { λ r. ⌜ HandsOut (listedLook Index (changeOf list (now («local_words» .entry)) (now («local_bytes» .entry))) (sharedPart Index overlays (now (words .entry)) (now (bytes .entry))) (rank (table .0) index)) (now (number .exit)) (now r) ⌝ }
+    ensures { λ r. ⌜ HandsOut (listedLook Index (changeOf list (now («local_words» .entry)) (now («local_bytes» .entry)))
+        (sharedPart Index overlays (now (words .entry)) (now (bytes .entry))) (rank (table .0) index)) (now (number .exit)) (now r) ⌝ }
 {
     look(
         TableKind::Index,
@@ -147,8 +151,10 @@ pub fn with_index_kept<'a>(
     table: IndexTableId,
     index: u64,
 ) -> &'a [u8]
-    requires { ⌜ (changeRuled (changeOf list (now «local_words») (now «local_bytes»)) ≡ true) × (overlayKept Index 256 (sharedPart Index overlays (now words) (now bytes)) ≡ true) ⌝ }
-    ensures { λ r. ⌜ now r ≡ bytesOf (listedLook Index (changeOf list (now («local_words» .entry)) (now («local_bytes» .entry))) (sharedPart Index overlays (now (words .entry)) (now (bytes .entry))) (rank (table .0) index) .entry) ⌝ }
+    requires { ⌜ (changeRuled (changeOf list (now «local_words») (now «local_bytes»)) ≡ true)
+        × (overlayKept Index 256 (sharedPart Index overlays (now words) (now bytes)) ≡ true) ⌝ }
+    ensures { λ r. ⌜ now r ≡ bytesOf (listedLook Index (changeOf list (now («local_words» .entry)) (now («local_bytes» .entry)))
+        (sharedPart Index overlays (now (words .entry)) (now (bytes .entry))) (rank (table .0) index) .entry) ⌝ }
 {
     look_kept(
         TableKind::Index,
@@ -174,7 +180,8 @@ pub fn value_ref<'a>(
     index: u64,
     number: &mut u64,
 ) -> &'a [u8]
-    ensures { λ r. ⌜ HandsOut (listedLook Value (changeOf list (now («local_words» .entry)) (now («local_bytes» .entry))) (sharedPart Value overlays (now (words .entry)) (now (bytes .entry))) (rank (table .0) index)) (now (number .exit)) (now r) ⌝ }
+    ensures { λ r. ⌜ HandsOut (listedLook Value (changeOf list (now («local_words» .entry)) (now («local_bytes» .entry)))
+        (sharedPart Value overlays (now (words .entry)) (now (bytes .entry))) (rank (table .0) index)) (now (number .exit)) (now r) ⌝ }
 {
     look(
         TableKind::Value,
@@ -200,8 +207,10 @@ pub fn value_ref_kept<'a>(
     table: ValueTableId,
     index: u64,
 ) -> &'a [u8]
-    requires { ⌜ (changeRuled (changeOf list (now «local_words») (now «local_bytes»)) ≡ true) × (overlayKept Value 256 (sharedPart Value overlays (now words) (now bytes)) ≡ true) ⌝ }
-    ensures { λ r. ⌜ now r ≡ bytesOf (listedLook Value (changeOf list (now («local_words» .entry)) (now («local_bytes» .entry))) (sharedPart Value overlays (now (words .entry)) (now (bytes .entry))) (rank (table .0) index) .entry) ⌝ }
+    requires { ⌜ (changeRuled (changeOf list (now «local_words») (now «local_bytes»)) ≡ true)
+        × (overlayKept Value 256 (sharedPart Value overlays (now words) (now bytes)) ≡ true) ⌝ }
+    ensures { λ r. ⌜ now r ≡ bytesOf (listedLook Value (changeOf list (now («local_words» .entry)) (now («local_bytes» .entry)))
+        (sharedPart Value overlays (now (words .entry)) (now (bytes .entry))) (rank (table .0) index) .entry) ⌝ }
 {
     look_kept(
         TableKind::Value,
@@ -227,7 +236,8 @@ pub fn ref_count<'a>(
     index: u64,
     number: &mut u64,
 ) -> &'a [u8]
-    ensures { λ r. ⌜ HandsOut (listedLook RefCount (changeOf list (now («local_words» .entry)) (now («local_bytes» .entry))) (sharedPart RefCount overlays (now (words .entry)) (now (bytes .entry))) (rank (table .0) index)) (now (number .exit)) (now r) ⌝ }
+    ensures { λ r. ⌜ HandsOut (listedLook RefCount (changeOf list (now («local_words» .entry)) (now («local_bytes» .entry)))
+        (sharedPart RefCount overlays (now (words .entry)) (now (bytes .entry))) (rank (table .0) index)) (now (number .exit)) (now r) ⌝ }
 {
     look(
         TableKind::RefCount,
@@ -253,8 +263,10 @@ pub fn ref_count_kept<'a>(
     table: RefCountTableId,
     index: u64,
 ) -> &'a [u8]
-    requires { ⌜ (changeRuled (changeOf list (now «local_words») (now «local_bytes»)) ≡ true) × (overlayKept RefCount 256 (sharedPart RefCount overlays (now words) (now bytes)) ≡ true) ⌝ }
-    ensures { λ r. ⌜ now r ≡ bytesOf (listedLook RefCount (changeOf list (now («local_words» .entry)) (now («local_bytes» .entry))) (sharedPart RefCount overlays (now (words .entry)) (now (bytes .entry))) (rank (table .0) index) .entry) ⌝ }
+    requires { ⌜ (changeRuled (changeOf list (now «local_words») (now «local_bytes»)) ≡ true)
+        × (overlayKept RefCount 256 (sharedPart RefCount overlays (now words) (now bytes)) ≡ true) ⌝ }
+    ensures { λ r. ⌜ now r ≡ bytesOf (listedLook RefCount (changeOf list (now («local_words» .entry)) (now («local_bytes» .entry)))
+        (sharedPart RefCount overlays (now (words .entry)) (now (bytes .entry))) (rank (table .0) index) .entry) ⌝ }
 {
     look_kept(
         TableKind::RefCount,
@@ -280,7 +292,8 @@ pub fn value<'a>(
     index: u64,
     dest: &mut [u8],
 ) -> Copied
-    ensures { λ r. ⌜ CopiesOut (listedLook Value (changeOf list (now («local_words» .entry)) (now («local_bytes» .entry))) (sharedPart Value overlays (now (words .entry)) (now (bytes .entry))) (rank (table .0) index)) r (now (dest .entry)) (now (dest .exit)) ⌝ }
+    ensures { λ r. ⌜ CopiesOut (listedLook Value (changeOf list (now («local_words» .entry)) (now («local_bytes» .entry)))
+        (sharedPart Value overlays (now (words .entry)) (now (bytes .entry))) (rank (table .0) index)) r (now (dest .entry)) (now (dest .exit)) ⌝ }
 {
     let mut number: u64 = 0;
     let stored = value_ref(
@@ -308,8 +321,10 @@ pub fn value_kept<'a>(
     index: u64,
     dest: &mut [u8],
 ) -> Copied
-    requires { ⌜ (changeRuled (changeOf list (now «local_words») (now «local_bytes»)) ≡ true) × (overlayKept Value 256 (sharedPart Value overlays (now words) (now bytes)) ≡ true) ⌝ }
-    ensures { λ r. ⌜ CopiesOut (listedLook Value (changeOf list (now («local_words» .entry)) (now («local_bytes» .entry))) (sharedPart Value overlays (now (words .entry)) (now (bytes .entry))) (rank (table .0) index)) r (now (dest .entry)) (now (dest .exit)) ⌝ }
+    requires { ⌜ (changeRuled (changeOf list (now «local_words») (now «local_bytes»)) ≡ true)
+        × (overlayKept Value 256 (sharedPart Value overlays (now words) (now bytes)) ≡ true) ⌝ }
+    ensures { λ r. ⌜ CopiesOut (listedLook Value (changeOf list (now («local_words» .entry)) (now («local_bytes» .entry)))
+        (sharedPart Value overlays (now (words .entry)) (now (bytes .entry))) (rank (table .0) index)) r (now (dest .entry)) (now (dest .exit)) ⌝ }
 {
     let stored = value_ref_kept(
         list,

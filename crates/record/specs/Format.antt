@@ -32,6 +32,7 @@ _>>=_ (need k short f) g = need k short (λ bs. f bs >>= g)
 _>>=_ (refuse answer) g = refuse answer
 _>>=_ (give a) g = g a
 
+-- the same where the first gives nothing to go by
 abbrev pub _>>_ : {A B : Type 0} → Format A → Format B → Format B
 _>>_ f g = f >>= λ a. g
 
@@ -39,6 +40,7 @@ _>>_ f g = f >>= λ a. g
 abbrev pub bytes : ℕ → Answer → Format (List ℕ)
 bytes k short = need k short give
 
+-- one byte as a number
 abbrev pub byte : Answer → Format ℕ
 byte short = need 1 short (λ bs. give (getD bs 0 0))
 

@@ -79,6 +79,7 @@ stepped log r (got item end) = Took (record {
 abbrev pub beginning : LogReader → ℕ → LogReader
 beginning r id = record { position = r .position; record_id = id; crc32 = allOnes; validate = r .validate; inside = true }
 
+-- what the step answers at an opening: the refusal, or the begin tag, behind which the reader stands
 abbrev pub opened : List ℕ → LogReader → Got ℕ → Step
 opened log r (stopped answer) = refused answer
 opened log r (got id end) = Took (record { action = BeginRecord; start = end; length = 0; reader = forwardTo log (beginning r id) end })

@@ -38,6 +38,7 @@ insertOf RefCount table index = InsertRefCount (record { table = record { 0 = ta
 abbrev pub dropIndex : ℕ → LogAction
 dropIndex table = DropTable (record { 0 = table })
 
+-- a drop of a reference count table
 abbrev pub dropRefCount : ℕ → LogAction
 dropRefCount table = DropRefCountTable (record { 0 = table })
 
@@ -81,6 +82,7 @@ maskedItem d kind width = do
 abbrev pub valueLength : TableDescription → ℕ
 valueLength t = t .length
 
+-- behind the key, the value
 unfoldable pub value : Key → Format Item
 value k = do
   bytes (valueLength (k .description)) Cut  -- 2

@@ -64,6 +64,7 @@ recordAt d log at expected = byOpening expected (restIn d log) (stepOf d log (re
 unfoldable pub tablesKept : Directory → List ℕ → Bool
 tablesKept d image = directoryKept d && eqb (length image) (imageLength d)
 
+-- the record that `replay` is asked for, behind 13
 unfoldable pub judged : Directory → List ℕ → ℕ → ℕ → List ℕ → Walked (List Written)
 judged d log at expected image = if tablesKept d image then recordAt d log at expected else fault (refusal BadState)
 
@@ -89,6 +90,7 @@ abbrev pub wholeBy : LogReader → Walked (List Written) → WholeAnswer
 wholeBy r (fault x) = NotWhole x
 wholeBy r (walked ws end) = Whole (record { opened = r; end = end })
 
+-- the same from the step at its opening on
 abbrev pub wholeOf : (LogReader → Walked (List Written)) → Step → WholeAnswer
 wholeOf rest (Refused x) = NotWhole x
 wholeOf rest (Took s) = wholeBy (s .reader) (rest (s .reader))

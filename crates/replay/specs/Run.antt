@@ -22,6 +22,7 @@ pub record Outcome : Type 0 where
   pub ran : Ran
   pub image : List ℕ
 
+-- a stop with that answer, at a position and after so many records
 abbrev pub stops : Answer → ℕ → ℕ → List ℕ → Outcome
 stops answer position count image = record { ran = record { answer = answer; position = position; count = count }; image = image }
 
@@ -41,6 +42,7 @@ runFrom (suc n) d log at expected count image = byRecord d (runFrom n d log) at 
 abbrev pub runIn : Directory → List ℕ → ℕ → ℕ → ℕ → List ℕ → Outcome
 runIn d log at expected count image = runFrom (suc (length log)) d log at expected count image
 
+-- `run`: 13, then the records
 unfoldable pub runOf : Directory → List ℕ → ℕ → ℕ → List ℕ → Outcome
 runOf d log at expected image = if tablesKept d image then runIn d log at expected 0 image else stops BadState at 0 image
 
@@ -53,10 +55,12 @@ byWhole on k expected (fault x) = []
 byWhole on k expected (walked ws end) =
     if leb end k then ws ∷ (if eqb expected lastRecordId then [] else on end (expected + 1)) else []
 
+-- those of them that come next, at most n
 unfoldable pub wholeWithin : ℕ → ℕ → Directory → List ℕ → ℕ → ℕ → List (List Written)
 wholeWithin zero k d log at expected = []
 wholeWithin (suc n) k d log at expected = byWhole (wholeWithin n k d log) k expected (recordAt d log at expected)
 
+-- all of them: a record takes a byte or more
 abbrev pub wholeRecords : ℕ → Directory → List ℕ → ℕ → ℕ → List (List Written)
 wholeRecords k d log at expected = wholeWithin (suc (length log)) k d log at expected
 

@@ -25,6 +25,7 @@ insertAt kind o p =
 unfoldable pub inserts : TableKind → Overlay → List Written
 inserts kind o = map (insertAt kind o) (take (o .count) (o .order))
 
+-- a drop as an action; it has no payload
 abbrev pub dropAt : (ℕ → LogAction) → ℕ → Written
 dropAt action table = written (action table) []
 
@@ -40,6 +41,7 @@ allInserts l = inserts Index (l .parts .index) ++ inserts Value (l .parts .value
 unfoldable pub allDrops : Change → List Written
 allDrops l = dropsOf dropIndex (l .drops) ++ dropsOf dropRefCount (l .countDrops)
 
+-- all of them: "index, values, reference counts, index drops, reference count drops"
 unfoldable pub listActions : Change → List Written
 listActions l = allInserts l ++ allDrops l
 
@@ -53,6 +55,7 @@ namedBytes (DropRefCountTable t) = le 2 (t .0)
 namedBytes BeginRecord = []
 namedBytes EndRecord = []
 
+-- the bytes of an action: its tag, what it names, its payload
 abbrev pub actionBytes : Written → List ℕ
 actionBytes w = le 1 (tagOf (w .action)) ++ namedBytes (w .action) ++ w .payload
 

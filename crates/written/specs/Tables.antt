@@ -24,6 +24,7 @@ use Rattle.writer.specs.Bytes.{recordOf}
 abbrev pub placesOf : TableKind → Change → List ℕ
 placesOf kind l = take (ofKind kind (l .parts) .count) (ofKind kind (l .parts) .order)
 
+-- the dropped tables of a kind: no value table is dropped
 abbrev pub droppedOf : TableKind → Change → List ℕ
 droppedOf Index l = take (l .drops .count) (l .drops .tables)
 droppedOf Value l = []
@@ -33,9 +34,11 @@ droppedOf RefCount l = take (l .countDrops .count) (l .countDrops .tables)
 abbrev pub tableAt : TableKind → Change → ℕ → ℕ
 tableAt kind l q = getD (ofKind kind (l .parts) .rows) (4 * q) 0
 
+-- the index of the key in place q
 abbrev pub indexAt : TableKind → Change → ℕ → ℕ
 indexAt kind l q = getD (ofKind kind (l .parts) .rows) (4 * q + 1) 0
 
+-- its mark: a mask, or a value's length
 abbrev pub placeMark : TableKind → Change → ℕ → ℕ
 placeMark kind l q = markAt (ofKind kind (l .parts) .rows) q
 
@@ -44,17 +47,21 @@ abbrev pub startIn : Directory → Found → ℕ
 startIn d (At row t) = startOf d row
 startIn d Nothing = 0
 
+-- how long a table is that was found; 0 if there is none
 abbrev pub sizeIn : Found → ℕ
 sizeIn (At row t) = sizeOf t
 sizeIn Nothing = 0
 
+-- how long a slot of a table is that was found; 0 if there is none
 abbrev pub slotIn : Found → ℕ
 slotIn (At row t) = slotLength t
 slotIn Nothing = 0
 
+-- where the table of a kind and a number begins
 abbrev pub tableStart : Directory → TableKind → ℕ → ℕ
 tableStart d kind number = startIn d (findTable d kind number)
 
+-- how long it is
 abbrev pub tableSize : Directory → TableKind → ℕ → ℕ
 tableSize d kind number = sizeIn (findTable d kind number)
 

@@ -1,6 +1,5 @@
 -- `bytes_fit` meets its contract. Assumes nothing.
 use mathlib.Core.Path.{ap}
-use Prim.Native.Nat.{ℕ}
 use denote.Ref.{now}
 use lib.Dec.{eqb}
 use lib.ListN.{length}

@@ -1,25 +1,43 @@
--- `place` meets its contract: a key is looked up only in an order that was tested. Assumes nothing.
-use mathlib.Core.Path.{sym, _∙_}
+-- `place` meets its contract: rows and order lent at once. Assumes nothing.
+use native.Mathlib.Omega.{arith}
+use lib.ListN.{length-take, length-drop}
 use borrow.Author.Needs.{needs}
-use borrow.Author.Tests.{not-false}
 use Rattle.compare_keys.proofs.forging.place.Statement.{statement}
 use Rattle.compare_keys.proofs.forging.place.Tie as tie
 
-ascending-requires : tie.Need-ascending-requires
-ascending-requires c κs = search needs
+mul-cut : tie.Need-mul-cut
+mul-cut c = search needs
+
+slice-aggregate-place-in : tie.Need-slice-aggregate-place-in
+slice-aggregate-place-in c = simp length-take (omega arith)
+
+mul-place-in : tie.Need-mul-place-in
+mul-place-in c = search needs
+
+sub-place-in : tie.Need-sub-place-in
+sub-place-in c = search needs
+
+part-place-in-start : tie.Need-part-place-in-start
+part-place-in-start c = search needs
+
+part-place-in-end : tie.Need-part-place-in-end
+part-place-in-end c = search needs
+
+place-in-requires : tie.Need-place-in-requires
+place-in-requires c κs = (simp length-take (omega arith), simp (length-take, length-drop) (omega arith))
 
 returns : tie.Need-returns
 returns c = search needs
 
-place-requires : tie.Need-place-requires
-place-requires c κs = ((search needs, search needs), sym (c .before .ascending .ensures) ∙ not-false _ (c .if1 .left))
-
-least-requires : tie.Need-least-requires
-least-requires c κs = search needs
-
-returns-2 : tie.Need-returns-2
-returns-2 c = search needs
-
 pub place-spec : {M : Type 1} → statement M
 place-spec =
-    tie.close (tie.spec ascending-requires returns place-requires least-requires returns-2)
+    tie.close
+    (tie.spec
+    mul-cut
+    slice-aggregate-place-in
+    mul-place-in
+    sub-place-in
+    part-place-in-start
+    part-place-in-end
+    place-in-requires
+    returns)

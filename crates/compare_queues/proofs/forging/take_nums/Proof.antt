@@ -1,14 +1,15 @@
 -- `take_nums` keeps within its rooms. Assumes nothing.
 use Prim.Native.Nat.{_≤_, _-_}
+use borrow.Author.Needs.{needs}
 use native.Mathlib.Omega.{arith}
 use Rattle.compare_queues.proofs.forging.take_nums.Statement.{statement}
 use Rattle.compare_queues.proofs.forging.take_nums.Tie as tie
 
 abbrev Inv-loop : tie.InvT-loop
-Inv-loop command at room₀ count i₀ room i = i ≤ count
+Inv-loop command at count numbers₀ i₀ numbers i = i ≤ count
 
 abbrev μ-loop : tie.MeasureT-loop
-μ-loop command at room₀ count i₀ room i = count - i
+μ-loop command at count numbers₀ i₀ numbers i = count - i
 
 count-at-requires : tie.Need-count-at-requires Inv-loop μ-loop
 count-at-requires c κs = omega arith
@@ -28,11 +29,11 @@ add-number-at-2 c = omega arith
 number-at-requires : tie.Need-number-at-requires Inv-loop μ-loop
 number-at-requires c κs = omega arith
 
-mul-room : tie.Need-mul-room Inv-loop μ-loop
-mul-room c = omega arith
+mul-numbers : tie.Need-mul-numbers Inv-loop μ-loop
+mul-numbers c = omega arith
 
-element-write-room : tie.Need-element-write-room Inv-loop μ-loop
-element-write-room c = omega arith
+array-write-numbers : tie.Need-array-write-numbers Inv-loop μ-loop
+array-write-numbers c = search needs
 
 add-i : tie.Need-add-i Inv-loop μ-loop
 add-i c = omega arith
@@ -61,8 +62,8 @@ take-nums-spec =
     mul-number-at
     add-number-at-2
     number-at-requires
-    mul-room
-    element-write-room
+    mul-numbers
+    array-write-numbers
     add-i
     loop-less
     loop-again

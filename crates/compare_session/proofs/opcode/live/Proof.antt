@@ -16,7 +16,7 @@ serve-requires : tie.Need-serve-requires
 serve-requires c κs = search needs
 
 replied-requires : tie.Need-replied-requires
-replied-requires c κs = c .before .before .before .before .before .before .before .before .before .before .before .before .before .before .before .before .before .before .before .before .before .before .before .pre .0
+replied-requires c κs = c .before .before .before .before .before .before .before .before .before .before .before .before .before .before .before .before .pre .0
 
 returns : tie.Need-returns
 returns c = search needs

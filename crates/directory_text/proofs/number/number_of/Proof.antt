@@ -8,30 +8,30 @@ use borrow.Author.Needs.{needs}
 use borrow.Author.Tests.{lt-ltb, le-ltb}
 use lib.ListN.{length, drop, getD, drop-of-length-le}
 use lib.Seq.{drop-cons}
-use Rattle.directory_text.specs.Number.{digitOf, numberFrom, numberOf}
+use Rattle.directory_text.specs.Number.{decimalDigit, numberFrom, wordNumber}
 use Rattle.directory_text.specs.declared.number.Number.{Number}
 use Rattle.directory_text.specs.declared.number.Number.the-variants.{Is, NotDecimal, TooLarge}
 use Rattle.directory_text.proofs.number.number_of.Statement.{statement}
 use Rattle.directory_text.proofs.number.number_of.Tie as tie
 
 abbrev Inv-loop : tie.InvT-loop
-Inv-loop word number₀ i₀ number i = (i ≤ length word) × (numberFrom number (drop i word) ≡ numberOf word)
+Inv-loop word number₀ i₀ number i = (i ≤ length word) × (numberFrom number (drop i word) ≡ wordNumber word)
 
 abbrev μ-loop : tie.MeasureT-loop
 μ-loop word number₀ i₀ number i = length word - i
 
-none : (w : List ℕ) → length w ≡ 0 → NotDecimal ≡ numberOf w
-unfolding numberOf
+none : (w : List ℕ) → length w ≡ 0 → NotDecimal ≡ wordNumber w
+unfolding wordNumber
 none [] e = refl
 none (b ∷ bs) e = absurd (omega arith)
 
-some : (w : List ℕ) → 0 < length w → numberFrom 0 w ≡ numberOf w
-unfolding numberOf
+some : (w : List ℕ) → 0 < length w → numberFrom 0 w ≡ wordNumber w
+unfolding wordNumber
 some [] h = absurd (omega arith)
 some (b ∷ bs) h = refl
 
 -- one digit more, or a fault
-module _ (w : List ℕ) (i acc d : ℕ) (r : Number) (h : i < length w) (e : d ≡ digitOf (getD w i 0)) (so-far : numberFrom acc (drop i w) ≡ r) where
+module _ (w : List ℕ) (i acc d : ℕ) (r : Number) (h : i < length w) (e : d ≡ decimalDigit (getD w i 0)) (so-far : numberFrom acc (drop i w) ≡ r) where
   no-digit : 9 < d → NotDecimal ≡ r
   unfolding numberFrom
   no-digit k = sym (rw (drop-cons w i 0 h, ← e, lt-ltb 9 d k)) ∙ so-far

@@ -3,23 +3,23 @@ use mathlib.Core.Path.{_≡_, ap, _∙_}
 use mathlib.Core.Bool.{Bool, not}
 use Prim.Native.Nat.{ℕ}
 use lib.Dec.{eqb}
-use Rattle.directory_text.specs.Scan.{isBlank, passes}
+use Rattle.directory_text.specs.Scan.{isBlank, scansPast}
 use Rattle.directory_text.specs.declared.scan.Pass.{Pass}
 use Rattle.directory_text.specs.declared.scan.Pass.the-variants.{Blanks, Word, Before}
 use borrow.Author.Needs.{needs}
 use Rattle.directory_text.proofs.scan.is_passed.Statement.{statement}
 use Rattle.directory_text.proofs.scan.is_passed.Tie as tie
 
-blanks : (p : Pass) (b : ℕ) (r : Bool) → p ≡ Blanks → r ≡ isBlank b → r ≡ passes p b
-unfolding passes
+blanks : (p : Pass) (b : ℕ) (r : Bool) → p ≡ Blanks → r ≡ isBlank b → r ≡ scansPast p b
+unfolding scansPast
 blanks p b r e f = f ∙ rw e
 
-of-word : (p : Pass) (b : ℕ) (r : Bool) → p ≡ Word → r ≡ isBlank b → not r ≡ passes p b
-unfolding passes
+of-word : (p : Pass) (b : ℕ) (r : Bool) → p ≡ Word → r ≡ isBlank b → not r ≡ scansPast p b
+unfolding scansPast
 of-word p b r e f = ap not f ∙ rw e
 
-other : (p : Pass) (b c : ℕ) → p ≡ Before c → not (eqb b c) ≡ passes p b
-unfolding passes
+other : (p : Pass) (b c : ℕ) → p ≡ Before c → not (eqb b c) ≡ scansPast p b
+unfolding scansPast
 other p b c e = rw e
 
 enum-told : tie.Need-enum-told

@@ -5,14 +5,14 @@ use native.Mathlib.Omega.{arith}
 use borrow.Author.Needs.{needs}
 use borrow.Author.Tests.{not-true, not-false}
 use lib.ListN.{length, drop}
-use Rattle.directory_text.specs.Scan.{passes, front}
+use Rattle.directory_text.specs.Scan.{scansPast, front}
 use Rattle.directory_text.proofs.Laws.{front-goes, front-stops, front-end}
 use Rattle.directory_text.proofs.scan.pass_over.Statement.{statement}
 use Rattle.directory_text.proofs.scan.pass_over.Tie as tie
 
 abbrev Inv-loop : tie.InvT-loop
 Inv-loop text from pass at₀ at =
-    (from ≤ at) × (at ≤ length text) × (at + length (front (passes pass) (drop at text)) ≡ from + length (front (passes pass) (drop from text)))
+    (from ≤ at) × (at ≤ length text) × (at + length (front (scansPast pass) (drop at text)) ≡ from + length (front (scansPast pass) (drop from text)))
 
 abbrev μ-loop : tie.MeasureT-loop
 μ-loop text from pass at₀ at = length text - at
@@ -35,19 +35,19 @@ loop-less c = omega arith
 loop-again : tie.Need-loop-again Inv-loop μ-loop
 loop-again c =
     let a = c .before .before .before .before .before .before .args in
-    let e = front-goes (passes (a .pass)) (a .text .now) (c .before .before .before .before .loop .at) (omega arith) (sym (c .before .is-passed .ensures) ∙ not-false _ (c .if1 .left)) in
+    let e = front-goes (scansPast (a .pass)) (a .text .now) (c .before .before .before .before .loop .at) (omega arith) (sym (c .before .is-passed .ensures) ∙ not-false _ (c .if1 .left)) in
     (omega arith, omega arith, omega (arith, e, c .before .before .before .before .loop .inv .2))
 
 returns : tie.Need-returns Inv-loop μ-loop
 returns c =
     let a = c .before .before .before .args in
-    let e = front-end (passes (a .pass)) (a .text .now) (c .before .loop .at) (omega arith) in
+    let e = front-end (scansPast (a .pass)) (a .text .now) (c .before .loop .at) (omega arith) in
     (omega arith, omega arith, omega (arith, e, c .before .loop .inv .2))
 
 returns-2 : tie.Need-returns-2 Inv-loop μ-loop
 returns-2 c =
     let a = c .before .before .before .before .before .before .args in
-    let e = front-stops (passes (a .pass)) (a .text .now) (c .before .before .before .before .loop .at) (omega arith) (sym (c .before .is-passed .ensures) ∙ not-true _ (c .if1 .taken)) in
+    let e = front-stops (scansPast (a .pass)) (a .text .now) (c .before .before .before .before .loop .at) (omega arith) (sym (c .before .is-passed .ensures) ∙ not-true _ (c .if1 .taken)) in
     (omega arith, omega arith, omega (arith, e, c .before .before .before .before .loop .inv .2))
 
 pub pass-over-spec : {M : Type 1} → statement M

@@ -56,7 +56,7 @@ use Rattle.directory.proofs.directory.Directory.new.Symbol as none-def
 use Rattle.directory.proofs.directory.Directory.new.Symbol.{name as #none}
 use Rattle.directory.proofs.directory.Directory.new.Met as none-thm
 use Rattle.lent.specs.Lent.{gathered}
-use Rattle.lent.specs.Inner.{pushed}
+use Rattle.lent.specs.Inner.{withOneMore}
 use Rattle.lent.proofs.Held.{Tab, Dir}
 use Rattle.lent.proofs.Gathered.{gathered-none, gathered-next, gathered-all}
 use Rattle.lent.proofs.slice.push as push
@@ -99,8 +99,8 @@ module _ {M : Type 1} (𝓤 : URA M) (H : Heap 𝓤) (A : Atoms 𝓤) (mem : Mem
   none-of : (r : Directory) → ent 𝓤 (ensured 𝓤 H A none.ended (none.clauses 𝓤 H A mem run) tt tt tt r) (fact 𝓤 (r ≡ noTables))
   none-of r = exE 𝓤 _ (λ ws. snd∗ 𝓤 (sem 𝓤 H A (lasts none.ended tt tt ws)) (fact 𝓤 (r ≡ noTables)))
 
-  push-of : (d : Directory) (t : TableDescription) (r : Directory) → ent 𝓤 (ensured 𝓤 H A push.ended (push.clauses 𝓤 H A mem run) tt (d, (t, tt)) tt r) (fact 𝓤 (r ≡ pushed d t))
-  push-of d t r = exE 𝓤 _ (λ ws. snd∗ 𝓤 (sem 𝓤 H A (lasts push.ended tt (d, (t, tt)) ws)) (fact 𝓤 (r ≡ pushed d t)))
+  push-of : (d : Directory) (t : TableDescription) (r : Directory) → ent 𝓤 (ensured 𝓤 H A push.ended (push.clauses 𝓤 H A mem run) tt (d, (t, tt)) tt r) (fact 𝓤 (r ≡ withOneMore d t))
+  push-of d t r = exE 𝓤 _ (λ ws. snd∗ 𝓤 (sem 𝓤 H A (lasts push.ended tt (d, (t, tt)) ws)) (fact 𝓤 (r ≡ withOneMore d t)))
 
 module _ {M : Type 1} (𝓤 : URA M) (H : Heap 𝓤) (A : Atoms 𝓤) (W : Given 𝓤 H A) (mem : Memory → SProp 𝓤) (run : Routine → Fun 𝓤) where
   abbrev to-none : None 𝓤 H A mem run .Ghost
@@ -162,7 +162,7 @@ module _ {M : Type 1} (𝓤 : URA M) (H : Heap 𝓤) (A : Atoms 𝓤) (W : Given
     abbrev En : Env 𝓤 H
     En = (D′.mir, l₀) ∷ (slice, l₁) ∷ (D′.mir, l₂) ∷ (word, l₃) ∷ (word, l₄) ∷ (tyBool, l₅) ∷ (tyPtr, l₆) ∷ (T′.mir, l₇) ∷ []
 
-    -- i descriptions are pushed, and v is the directory's machine value
+    -- i descriptions are withOneMore, and v is the directory's machine value
     abbrev At : ℕ → Val → List (Item 𝓤)
     At i v = ‵ (flft κ q) ∷ ‵ Own ∷ ‵ (fat fullShare word l₃ 0 (vint w64 i)) ∷ ‵ (froom word l₄ 0) ∷ ‵ (froom tyBool l₅ 0) ∷ ‵ (froom tyPtr l₆ 0) ∷ ‵ (froom T′.mir l₇ 0)
         ∷ ‵ (fat fullShare D′.mir l₂ 0 v) ∷ ‵ (fat fullShare slice l₁ 0 (sliceVal (b, o) n)) ∷ ‵ (froom D′.mir l₀ 0)
@@ -182,7 +182,7 @@ module _ {M : Type 1} (𝓤 : URA M) (H : Heap 𝓤) (A : Atoms 𝓤) (W : Given
 
     -- a turn that pushes one description
     more : (i : ℕ) (d : Directory) (v : Val) (X : SProp 𝓤) → i < n → Is (Dir .row) d (v ∷ [])
-        → ((r : Directory) (u : Val) → Is (Dir .row) r (u ∷ []) → r ≡ pushed d (elem i) → ent 𝓤 (⋆ 𝓤 H A (At (i + 1) u)) X)
+        → ((r : Directory) (u : Val) → Is (Dir .row) r (u ∷ []) → r ≡ withOneMore d (elem i) → ent 𝓤 (⋆ 𝓤 H A (At (i + 1) u)) X)
         → ent 𝓤 (⋆ 𝓤 H A (At i v)) (Wp 𝓤 H C Λ En mir′.turn-1 (afterTurn 𝓤 H X Left))
     unfolding afterTurn
     more i d v X small isd k =
@@ -205,7 +205,7 @@ module _ {M : Type 1} (𝓤 : URA M) (H : Heap 𝓤) (A : Atoms 𝓤) (W : Given
         use2 W (raw (Push 𝓤 H A mem run .pre (to-push 𝓤 H A W mem run d v (elem i) (mach i)))) (goes-to-push 𝓤 H A W mem run d v (elem i) (mach i)) $
         calls-at ! (fmOf 𝓤 H (W .laws) 𝓣) (Push 𝓤 H A mem run) known-push (to-push 𝓤 H A W mem run d v (elem i) (mach i)) (and-then ! (load ! (from ! (stop !)) (look ! 8 refl)) (and-then ! (load ! (from ! (stop !)) (look ! 7 refl)) (no-more !))) (λ u.
         use1 W (later (some (λ (r : Directory). (‵ ftrue ⊛ ‵ ((Dir .row) .own r (u ∷ []))) ⊛ raw (ensured 𝓤 H A push.ended (push.clauses 𝓤 H A mem run) tt (d, (elem i, tt)) tt r)))) (id⊢ 𝓤 _) $ await ! tt $ pick ! (λ r.
-        split ! $ move ! (1 ∷ []) $ use1 W (raw (fact 𝓤 (r ≡ pushed d (elem i)))) (push-of 𝓤 H A mem run d (elem i) r) $ heard ! (r ≡ pushed d (elem i)) (λ e. split ! $ drop ! $
+        split ! $ move ! (1 ∷ []) $ use1 W (raw (fact 𝓤 (r ≡ withOneMore d (elem i)))) (push-of 𝓤 H A mem run d (elem i) r) $ heard ! (r ≡ withOneMore d (elem i)) (λ e. split ! $ drop ! $
         peeks ! (Dir .row) (Is (Dir .row)) (shows 𝓤 H A (Dir .row)) r (u ∷ []) (λ is. drop ! $
         land ! (from ! (stop !)) (store ! 7 refl (wtD r u is)) $
         assigns-last ! (bin ! (load ! (from ! (stop !)) (look ! 2 refl)) (lit ! tt) (record { fits = next-fits i n small (gn .0) })) (from ! (stop !)) (store ! 2 refl (tt, record { fits = next-fits i n small (gn .0) })) $
@@ -241,7 +241,7 @@ module _ {M : Type 1} (𝓤 : URA M) (H : Heap 𝓤) (A : Atoms 𝓤) (W : Given
         at-end : i ≡ n
         at-end = sym (add-zero i) ∙ f .0
     turn-at (suc t) i d v f =
-        more i d v (Below (suc t)) small (f .2) (λ r u is e. via 𝓤 (Inv t) (has t (i + 1) r u (one-on, e ∙ ap (λ (z : Directory). pushed z (elem i)) (f .1) ∙ gathered-next ys i noTable small, is))
+        more i d v (Below (suc t)) small (f .2) (λ r u is e. via 𝓤 (Inv t) (has t (i + 1) r u (one-on, e ∙ ap (λ (z : Directory). withOneMore z (elem i)) (f .1) ∙ gathered-next ys i noTable small, is))
         (via 𝓤 (guard 𝓤 (t < suc t) (Inv t)) (guardI 𝓤 (t < suc t) (Inv t) (lt-suc-self t)) (exI 𝓤 (λ (u′ : ℕ). guard 𝓤 (u′ < suc t) (Inv u′)) t)))
       where
         total : i + suc t ≡ n

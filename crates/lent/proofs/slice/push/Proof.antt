@@ -2,7 +2,7 @@
 use native.Mathlib.Omega.{arith}
 use borrow.Author.Needs.{needs}
 use borrow.Author.Tests.{lt-ltb, le-ltb}
-use Rattle.lent.specs.Inner.{pushed}
+use Rattle.lent.specs.Inner.{withOneMore}
 use Rattle.lent.proofs.slice.push.Statement.{statement}
 use Rattle.lent.proofs.slice.push.Tie as tie
 
@@ -16,11 +16,11 @@ add-e : tie.Need-add-e
 add-e c = search needs
 
 returns : tie.Need-returns
-unfolding pushed
+unfolding withOneMore
 returns c = simp (lt-ltb (c .before .args .d .count) 16 (omega arith))
 
 returns-2 : tie.Need-returns-2
-unfolding pushed
+unfolding withOneMore
 returns-2 c = simp (le-ltb (c .before .args .d .count) 16 (omega arith))
 
 pub push-spec : {M : Type 1} → statement M

@@ -1,5 +1,5 @@
 -- `set_last_ids` meets its contract: the values' part of a list's words. Assumes nothing.
-use mathlib.Core.Path.{_≡_, refl, _∙_}
+use mathlib.Core.Path.{refl, _∙_}
 use native.Mathlib.Omega.{arith}
 use denote.Ref.{now}
 use Rattle.directory.specs.declared.table.TableKind.the-variants.{Value}

@@ -1,7 +1,6 @@
 -- `put_list` meets its contract: the last ids, then three kinds, each leaving the others their room. Assumes nothing.
-use mathlib.Core.Path.{_≡_, ap}
+use mathlib.Core.Path.{ap}
 use mathlib.Core.List.{List}
-use Prim.Native.Nat.{ℕ}
 use denote.Ref.{now}
 use Rattle.directory.specs.declared.table.TableKind.the-variants.{Value}
 use Rattle.memory.specs.Parts.{Parts}

@@ -1,5 +1,4 @@
 -- `look_kept` meets its contract: the list's entry, or the shared one. Assumes nothing.
-use mathlib.Core.Path.{_≡_}
 use native.Mathlib.Omega.{arith}
 use denote.Ref.{now}
 use Rattle.keys.specs.Keys.{rank}
@@ -8,7 +7,6 @@ use Rattle.change.specs.Change.{Change, changeOf}
 use Rattle.change.proofs.Rules.{ruled-parts}
 use Rattle.query.specs.Query.{sharedPart}
 use Rattle.query.proofs.Looks.{mine-found, shared-next}
-use borrow.Author.Needs.{needs}
 use Rattle.query.proofs.listed.look_kept.Statement.{statement}
 use Rattle.query.proofs.listed.look_kept.Tie as tie
 
@@ -23,13 +21,13 @@ find-listed-requires : tie.Need-find-listed-requires
 find-listed-requires c κs = ruled-parts (own (c .before .before .before .before .before)) (c .before .before .before .before .before .pre .0)
 
 returns : tie.Need-returns
-returns c = mine-found (c .before .before .before .before .before .before .before .args .kind) (own (c .before .before .before .before .before .before .before)) (over (c .before .before .before .before .before .before .before)) (rank (c .before .before .before .before .before .before .before .args .table) (c .before .before .before .before .before .before .before .args .index)) (c .before .before .before .before .before .before .before .pre .0) (c .before .before .before .before .before .before .before .pre .1) _ (c .before .find-listed .ensures) (c .if1 .taken)
+returns c = mine-found (c .before .before .before .before .before .before .before .args .kind) (own (c .before .before .before .before .before .before .before)) (over (c .before .before .before .before .before .before .before)) (rank (c .before .before .before .before .before .before .before .args .table) (c .before .before .before .before .before .before .before .args .index)) (c .before .before .before .before .before .before .before .pre .0) (c .before .before .before .before .before .before .before .pre .1) _ (c .before .find-listed .ensures) (omega (arith, c .if1 .taken))
 
 look-kept-requires : tie.Need-look-kept-requires
 look-kept-requires c κs = c .before .before .before .before .before .before .before .pre .1
 
 returns-2 : tie.Need-returns-2
-returns-2 c = shared-next (c .before .before .before .before .before .before .before .before .args .kind) (own (c .before .before .before .before .before .before .before .before)) (over (c .before .before .before .before .before .before .before .before)) (rank (c .before .before .before .before .before .before .before .before .args .table) (c .before .before .before .before .before .before .before .before .args .index)) (c .before .before .before .before .before .before .before .before .pre .0) (c .before .before .before .before .before .before .before .before .pre .1) _ _ (c .before .before .find-listed .ensures) (c .before .if1 .left) (c .look-kept .ensures)
+returns-2 c = shared-next (c .before .before .before .before .before .before .before .before .args .kind) (own (c .before .before .before .before .before .before .before .before)) (over (c .before .before .before .before .before .before .before .before)) (rank (c .before .before .before .before .before .before .before .before .args .table) (c .before .before .before .before .before .before .before .before .args .index)) (c .before .before .before .before .before .before .before .before .pre .0) (c .before .before .before .before .before .before .before .before .pre .1) _ _ (c .before .before .find-listed .ensures) (omega (arith, c .before .if1 .left)) (c .look-kept .ensures)
 
 pub look-kept-spec : {M : Type 1} → statement M
 look-kept-spec = tie.close (tie.spec find-listed-requires returns look-kept-requires returns-2)

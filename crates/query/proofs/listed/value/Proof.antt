@@ -8,7 +8,7 @@ use Rattle.keys.specs.Keys.{rank}
 use Rattle.overlay.specs.Rules.{Overlay}
 use Rattle.query.specs.Query.{sharedPart, copiedOver}
 use Rattle.change.specs.Change.{Change, changeOf}
-use Rattle.query.proofs.Looks.{listed-copied, listed-done}
+use Rattle.query.proofs.Looks.{listed-copied}
 use borrow.Author.Needs.{needs}
 use Rattle.query.proofs.listed.value.Statement.{statement}
 use Rattle.query.proofs.listed.value.Tie as tie

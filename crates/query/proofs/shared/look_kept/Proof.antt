@@ -1,5 +1,5 @@
 -- `look_kept` meets its contract: one find. Assumes nothing.
-use mathlib.Core.Path.{_≡_, ap, _∙_}
+use mathlib.Core.Path.{ap, _∙_}
 use Prim.Native.Nat.{ℕ}
 use denote.Ref.{now}
 use Rattle.keys.specs.Keys.{rank}

@@ -7,7 +7,7 @@ use Rattle.directory.specs.declared.table.TableKind.the-variants.{Value}
 use Rattle.keys.specs.Keys.{rank}
 use Rattle.overlay.specs.Rules.{Overlay}
 use Rattle.query.specs.Query.{sharedPart, copiedOver}
-use Rattle.query.proofs.Looks.{shared-copied, shared-done}
+use Rattle.query.proofs.Looks.{shared-copied}
 use borrow.Author.Needs.{needs}
 use Rattle.query.proofs.shared.value.Statement.{statement}
 use Rattle.query.proofs.shared.value.Tie as tie

@@ -1,12 +1,10 @@
-use mathlib.Core.Path.{refl}
 -- `LogChange::insert` meets its contract: 13, then as a list that keeps its rules. Assumes nothing.
-use mathlib.Core.Path.{sym, _∙_}
+use mathlib.Core.Path.{refl, sym, _∙_}
 use borrow.Author.Tests.{not-true, not-false}
 use denote.Ref.{now}
 use Rattle.words.proofs.Choices.{if-true, if-false}
 use Rattle.change.specs.Change.{changeOf, changeKept}
 use Rattle.change.specs.Insert.{inserted}
-use borrow.Author.Needs.{needs}
 use Rattle.change.proofs.change.LogChange.insert.Statement.{statement}
 use Rattle.change.proofs.change.LogChange.insert.Tie as tie
 

@@ -1,14 +1,12 @@
 -- `LogChange::kind_size` meets its contract: the kind's part of the words is lent. Assumes nothing.
-use mathlib.Core.Path.{refl, sym, ap, _∙_}
+use mathlib.Core.Path.{refl, _∙_, _≡_}
 use native.Mathlib.Omega.{arith}
 use denote.Ref.{now}
-use Rattle.memory.specs.Parts.{countOf}
+use Rattle.memory.specs.Parts.{countOf, spanOf}
 use Rattle.change.specs.Change.{changeOf}
 use Rattle.change.proofs.OneKind.{KindLent, kind-lent, reads-part}
-use mathlib.Core.Path.{_≡_}
 use Rattle.memory.specs.declared.span.Span.{Span}
 use Rattle.memory.specs.declared.span.Holder.the-variants as holder
-use Rattle.memory.specs.Parts.{spanOf}
 use Rattle.change.specs.Size.{entriesSize}
 use Rattle.change.proofs.Rules.{ruled-parts}
 use Rattle.change.proofs.Sizes.{size-keys}

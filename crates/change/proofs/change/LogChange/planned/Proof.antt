@@ -1,18 +1,16 @@
 -- `LogChange::planned` meets its contract: the kind's part of the words is lent. Assumes nothing.
-use mathlib.Core.Path.{refl, sym, ap, _∙_}
+use mathlib.Core.Path.{refl, ap, _∙_, _≡_}
 use native.Mathlib.Omega.{arith}
 use denote.Ref.{now}
-use Rattle.memory.specs.Parts.{countOf}
+use Rattle.memory.specs.Parts.{countOf, spanOf, partFrom}
 use Rattle.change.specs.Change.{changeOf}
 use Rattle.change.proofs.OneKind.{KindLent, kind-lent, reads-part}
-use mathlib.Core.Path.{_≡_}
 use mathlib.Core.List.{[]}
 use Rattle.directory.specs.Directory.{findTable}
 use Rattle.directory.specs.declared.directory.Found.{Found}
 use Rattle.overlay.specs.Rules.{Overlay, overlayOf}
 use Rattle.memory.specs.declared.span.Span.{Span}
 use Rattle.memory.specs.declared.span.Holder.the-variants as holder
-use Rattle.memory.specs.Parts.{spanOf, partFrom}
 use Rattle.change.specs.Insert.{planIn}
 use Rattle.change.proofs.Rules.{kept-parts}
 use Rattle.change.proofs.Accepted.{plan-keys}

@@ -4,7 +4,7 @@ use Prim.Native.Nat.{_+_}
 use lib.Dec.{leb}
 use native.Mathlib.Omega.{arith}
 use mathlib.Core.Path.{sym, ap, _∙_}
-use Rattle.files.specs.Queues.{sizeOf}
+use Rattle.files.specs.Queues.{appendingSize}
 use Rattle.files.specs.Calls.{filesUsedUp}
 use Rattle.files.proofs.Rule.{kept-facts, leb-moved}
 use borrow.Author.Needs.{needs}
@@ -32,7 +32,7 @@ returns-2 : tie.Need-returns-2
 unfolding filesUsedUp
 returns-2 c =
     let q = c .before .before .before .args .self in
-    leb-moved (sizeOf q) (c .size .result) (c .before .before .before .args .length) (c .size .ensures) (kept-facts q (c .before .before .before .pre) .size) ∙ ap (λ (b : Bool). b || leb 9223372036854775808 (sizeOf q + c .before .before .before .args .length)) (sym (sym (c .before .before .lacks-number .ensures) ∙ c .before .if1 .left))
+    leb-moved (appendingSize q) (c .size .result) (c .before .before .before .args .length) (c .size .ensures) (kept-facts q (c .before .before .before .pre) .size) ∙ ap (λ (b : Bool). b || leb 9223372036854775808 (appendingSize q + c .before .before .before .args .length)) (sym (sym (c .before .before .lacks-number .ensures) ∙ c .before .if1 .left))
 
 pub files-used-up-spec : {M : Type 1} → statement M
 files-used-up-spec =

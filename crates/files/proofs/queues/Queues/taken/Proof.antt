@@ -5,7 +5,7 @@ use mathlib.Core.Path.{sym, ap, _∙_}
 use Rattle.words.proofs.Choices.{if-true, if-false}
 use lib.Dec.{eqb}
 use borrow.Author.Tests.{eq-eqb, ne-eqb}
-use Rattle.files.specs.Queues.{sizeOf}
+use Rattle.files.specs.Queues.{appendingSize}
 use Rattle.files.specs.Moves.{withNext}
 use Rattle.files.specs.Calls.{grown, tookFrom, takenBy}
 use Rattle.files.specs.declared.writing.FileSource.the-variants.{Appending, New}
@@ -58,7 +58,7 @@ unfolding takenBy
 returns-2 c =
     let q = c .before .before .before .before .before .before .before .before .args .self in
     c .took2 .ensures ∙ ap (tookFrom New (c .before .before .before .wide .result)) (c .before .grown2 .ensures ∙ ap (λ (n : ℕ). grown (withNext q (q .«next_log_id» + 1)) (c .before .before .before .wide .result) (n + c .before .before .before .before .before .before .before .before .args .length)) (c .before .before .before .before .before .before .before .size .ensures))
-    ∙ ap (λ (n : ℕ). tookFrom New n (grown (withNext q (q .«next_log_id» + 1)) n (sizeOf q + c .before .before .before .before .before .before .before .before .args .length))) (c .before .before .before .wide .ensures)
+    ∙ ap (λ (n : ℕ). tookFrom New n (grown (withNext q (q .«next_log_id» + 1)) n (appendingSize q + c .before .before .before .before .before .before .before .before .args .length))) (c .before .before .before .wide .ensures)
     ∙ sym (if-false (q .appending .some) _ _ (c .before .before .before .before .before .before .if1 .left) ∙ if-true (eqb (q .«log_pool» .count) 0) _ _ (eq-eqb _ _ (c .before .before .before .before .if2 .taken)))
 
 front-requires : tie.Need-front-requires

@@ -1,7 +1,0 @@
-// Every call of a host, for Rust and C: numbers and lent slices alone. A call loads the states from their words, calls the library, and stores
-// them back; it has no rules of its own. include/hongsathep.h says what each wants.
-mod listing;
-mod queueing;
-mod reading;
-mod replaying;
-mod tables;

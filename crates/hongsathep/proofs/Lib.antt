@@ -1,0 +1,2 @@
+-- Theorems that speak of every call of a host.
+pub mod Demand1
