@@ -8,7 +8,8 @@ use directory::Directory;
 use directory::TableDescription;
 use directory::TableKind;
 
-fn kind_of(k: u64) -> TableKind
+// The kind that a number is: 0 index, 1 value, any other reference count.
+pub fn kind_of(k: u64) -> TableKind
     ensures { λ r. ⌜ r ≡ kindFrom k ⌝ }
 {
     if k == 0 {

@@ -7,6 +7,7 @@ mod reader_words;
 mod writing;
 
 pub use directory_words::directory_of;
+pub use directory_words::kind_of;
 pub use list_words::keep_list;
 pub use list_words::list_of;
 pub use overlay_words::keep_overlays;
