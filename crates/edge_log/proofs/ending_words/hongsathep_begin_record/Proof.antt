@@ -1,0 +1,27 @@
+use borrow.Author.Needs.{needs}
+use Rattle.edge_log.proofs.ending_words.hongsathep_begin_record.Statement.{statement}
+use Rattle.edge_log.proofs.ending_words.hongsathep_begin_record.Tie as tie
+use Rattle.edge_log.proofs.ending_words.hongsathep_begin_record.Reads as reads
+use Rattle.edge_log.proofs.ending_words.hongsathep_begin_record.Lts as lts
+use Rattle.edge_log.proofs.ending_words.begin.Reads as begin-reads
+use Rattle.host_words.proofs.keep_list.Reads as keep-list-reads
+
+-- src/ending_words.rt:81:9
+begin-requires : tie.Need-begin-requires
+begin-requires c κs = search needs
+
+-- src/ending_words.rt:85:5
+keep-list-requires : tie.Need-keep-list-requires
+keep-list-requires c κs = search needs
+
+-- src/ending_words.rt:74:1
+same-length : tie.Need-same-length
+same-length c = search needs
+
+-- src/ending_words.rt:74:1
+returns : tie.Need-returns
+returns c = ?
+
+pub hongsathep-begin-record-spec : {M : Type 1} → statement M
+hongsathep-begin-record-spec =
+    tie.close (tie.spec begin-requires keep-list-requires same-length returns)
