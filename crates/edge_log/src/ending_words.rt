@@ -275,10 +275,7 @@ pub extern "C" fn hongsathep_clear_replay_logs(
 }
 
 #[no_mangle]
-pub extern "C" fn hongsathep_clear_replay_logs_kept(
-    overlays: &mut [u64],
-    queues: &mut [u64],
-) -> u64
+pub extern "C" fn hongsathep_clear_replay_logs_kept(overlays: &mut [u64], queues: &mut [u64]) -> u64
     requires { ⌜ queuesKept (queuesFrom (now queues)) ≡ true ⌝ }
     ensures answer { λ r. ⌜ r ≡ numberOf (logsClearedKept (queuesFrom (now (queues .entry))) .answer) ⌝ }
     ensures overlays { λ r. ⌜ now (overlays .exit) ≡ headAfter overlaysSize (numberOf (logsClearedKept (queuesFrom (now (queues .entry))) .answer)) (now (overlays .entry)) (overlaysWords (logsClearedKept (queuesFrom (now (queues .entry))) .overlays)) ⌝ }

@@ -131,16 +131,7 @@ fn listed_spot_kept(
 {
     let there = shared_spot_kept(kind, counts, words, bytes, table, index);
     let own = list.counts;
-    spot_in(
-        Holder::List,
-        kind,
-        own,
-        items,
-        chunks,
-        table,
-        index,
-        there,
-    )
+    spot_in(Holder::List, kind, own, items, chunks, table, index, there)
 }
 
 fn shared_spot(
@@ -178,7 +169,17 @@ fn listed_spot(
     if !shared_kept(kind, counts, words, bytes) {
         return no_spot(Answer::BadState);
     }
-    listed_spot_kept(kind, list, items, chunks, counts, words, bytes, table, index)
+    listed_spot_kept(
+        kind,
+        list,
+        items,
+        chunks,
+        counts,
+        words,
+        bytes,
+        table,
+        index,
+    )
 }
 
 #[no_mangle]

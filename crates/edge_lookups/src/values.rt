@@ -74,14 +74,7 @@ pub extern "C" fn hongsathep_value<'a>(
     ensures dest { λ r. ⌜ now (dest .exit) ≡ copiedOver (bytesOf (valueLook (overlaysFrom (now (overlays .entry))) (now (words .entry)) (now (bytes .entry)) (rank table index) .entry)) (now (dest .entry)) ⌝ }
     ensures found { λ r. ⌜ now (found .exit) ≡ oneIf (isThere (valueLook (overlaysFrom (now (overlays .entry))) (now (words .entry)) (now (bytes .entry)) (rank table index) .entry)) ⌝ }
 {
-    let done = copied(
-        overlays_of(overlays),
-        words,
-        bytes,
-        table,
-        index,
-        dest,
-    );
+    let done = copied(overlays_of(overlays), words, bytes, table, index, dest);
     *found = flag(done.found);
     let answer = done.answer;
     number(answer)
@@ -123,14 +116,7 @@ pub extern "C" fn hongsathep_value_kept<'a>(
     ensures dest { λ r. ⌜ now (dest .exit) ≡ copiedOver (bytesOf (valueLook (overlaysFrom (now (overlays .entry))) (now (words .entry)) (now (bytes .entry)) (rank table index) .entry)) (now (dest .entry)) ⌝ }
     ensures found { λ r. ⌜ now (found .exit) ≡ oneIf (isThere (valueLook (overlaysFrom (now (overlays .entry))) (now (words .entry)) (now (bytes .entry)) (rank table index) .entry)) ⌝ }
 {
-    let done = copied_kept(
-        overlays_of(overlays),
-        words,
-        bytes,
-        table,
-        index,
-        dest,
-    );
+    let done = copied_kept(overlays_of(overlays), words, bytes, table, index, dest);
     *found = flag(done.found);
     let answer = done.answer;
     number(answer)

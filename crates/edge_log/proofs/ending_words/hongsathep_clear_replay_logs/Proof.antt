@@ -1,3 +1,15 @@
+-- `hongsathep_clear_replay_logs` meets its contract. Assumes nothing.
+use mathlib.Core.Path.{_≡_, sym, ap, ap₂, _∙_}
+use Rattle.answer.specs.Answer.{numberOf}
+use Rattle.directory.specs.declared.directory.Directory.{Directory}
+use Rattle.memory.specs.declared.overlays.LogOverlays.{LogOverlays}
+use Rattle.host_words.specs.Head.{headAfter}
+use Rattle.host_words.specs.Overlays.{overlaysSize, overlaysWords, overlaysLeft}
+use Rattle.files.specs.Queues.{queuesKept}
+use Rattle.files.specs.declared.queues.Queues.{Queues}
+use Rattle.log.specs.ClearReplay.{logsClearedKept, logsCleared}
+use Rattle.log.specs.declared.clear_replay.LogsCleared.{LogsCleared}
+use Rattle.host_queues.specs.Queues.{queuesSize, queuesWords}
 use borrow.Author.Needs.{needs}
 use Rattle.edge_log.proofs.ending_words.hongsathep_clear_replay_logs.Statement.{statement}
 use Rattle.edge_log.proofs.ending_words.hongsathep_clear_replay_logs.Tie as tie
@@ -39,7 +51,14 @@ same-length-2 c = search needs
 
 -- src/ending_words.rt:258:1
 returns : tie.Need-returns
-returns c = ?
+returns c =
+    let e = c .before .before .before .before .before .before .before .before .before .before .clear-replay-logs .ensures ∙ ap₂ (λ (o : LogOverlays) (q : Queues). logsCleared o (c .before .before .before .before .before .before .before .before .before .before .before .before .before .before .before .before .before .before .before .args .words .now) (c .before .before .before .before .before .before .before .before .before .before .before .before .before .before .before .before .before .before .before .args .bytes .now) q) (c .before .before .before .before .before .before .before .before .before .before .before .before .before .overlays-of .ensures) (c .before .before .before .before .before .before .before .before .before .before .before .queues-of .ensures) in (
+      c .before .before .keep-queues .ensures .0 ∙ ap (λ (x : LogsCleared). numberOf (x .answer)) e,
+      (
+        c .before .before .before .before .before .before .keep-overlays .ensures .1 ∙ ap (λ (x : LogsCleared). headAfter overlaysSize (numberOf (x .answer)) (c .before .before .before .before .before .before .before .before .before .before .before .before .before .before .before .before .before .before .before .args .overlays .now) (overlaysWords (x .overlays))) e,
+        c .before .before .keep-queues .ensures .1 ∙ ap (λ (x : LogsCleared). headAfter queuesSize (numberOf (x .answer)) (c .before .before .before .before .before .before .before .before .before .before .before .before .before .before .before .before .before .before .before .args .queues .now) (queuesWords (x .queues))) e,
+      ),
+    )
 
 pub hongsathep-clear-replay-logs-spec : {M : Type 1} → statement M
 hongsathep-clear-replay-logs-spec =

@@ -1,3 +1,19 @@
+-- `hongsathep_end_record` meets its contract. Assumes nothing.
+use mathlib.Core.Path.{_≡_, sym, ap, ap₂, _∙_}
+use Rattle.answer.specs.Answer.{numberOf}
+use Rattle.directory.specs.declared.directory.Directory.{Directory}
+use Rattle.memory.specs.declared.overlays.LogOverlays.{LogOverlays}
+use Rattle.host_words.specs.Head.{headAfter}
+use Rattle.host_words.specs.Overlays.{overlaysSize, overlaysWords, overlaysLeft}
+use Rattle.memory.specs.Overlays.{Overlays}
+use Rattle.change.specs.declared.change.LogChange.{LogChange}
+use Rattle.files.specs.declared.queues.Queues.{Queues}
+use Rattle.ending.specs.EndRecord.{EndState, handedOf, handedKept, endStateOf, endRecord}
+use Rattle.host_words.specs.Tables.{directoryFrom}
+use Rattle.host_words.specs.Change.{listFrom}
+use Rattle.host_queues.specs.Queues.{queuesSize, queuesWords}
+use Rattle.edge_log.specs.Ending.{sourceNumber}
+use Rattle.edge_log.proofs.Memories.{left-memory}
 use borrow.Author.Needs.{needs}
 use Rattle.edge_log.proofs.ending_words.hongsathep_end_record.Statement.{statement}
 use Rattle.edge_log.proofs.ending_words.hongsathep_end_record.Tie as tie
@@ -66,7 +82,32 @@ same-length-5 c = search needs
 
 -- src/ending_words.rt:88:1
 returns : tie.Need-returns
-returns c = ?
+unfolding endStateOf
+returns c =
+    let e = c .before .before .before .before .before .before .before .before .before .before .before .before .before .before .before .before .before .end-record .ensures
+    ∙ ap₂ (λ (d : Directory) (l : LogChange). endRecord d (handedOf l (c .before .before .before .before .before .before .before .before .before .before .before .before .before .before .before .before .before .before .before .before .before .before .before .before .before .before .before .before .before .before .before .before .before .before .before .before .args .items .now) (c .before .before .before .before .before .before .before .before .before .before .before .before .before .before .before .before .before .before .before .before .before .before .before .before .before .before .before .before .before .before .before .before .before .before .before .before .args .chunks .now) (c .before .before .before .before .before .before .before .before .before .before .before .before .before .before .before .before .before .before .before .before .before .before .before .overlays-of .result) (c .before .before .before .before .before .before .before .before .before .before .before .before .before .before .before .before .before .before .before .before .before .before .before .before .before .before .before .before .before .before .before .before .before .before .before .before .args .words .now) (c .before .before .before .before .before .before .before .before .before .before .before .before .before .before .before .before .before .before .before .before .before .before .before .before .before .before .before .before .before .before .before .before .before .before .before .before .args .bytes .now) (c .before .before .before .before .before .before .before .before .before .before .before .before .before .before .before .before .before .before .before .queues-of .result) (c .before .before .before .before .before .before .before .before .before .before .before .before .before .before .before .before .before .before .before .before .before .before .before .before .before .before .before .before .before .before .before .before .before .before .before .before .args .next) (c .before .before .before .before .before .before .before .before .before .before .before .before .before .before .before .before .before .before .before .before .before .before .before .before .before .before .before .before .before .before .before .before .before .before .before .before .args .out .now))) (c .before .before .before .before .before .before .before .before .before .before .before .before .before .before .before .before .before .before .before .before .before .before .before .before .before .before .directory-of .ensures) (c .before .before .before .before .before .before .before .before .before .before .before .before .before .before .before .before .before .before .before .before .before .before .before .before .before .list-of .ensures)
+    ∙ ap₂ (λ (o : LogOverlays) (q : Queues). endRecord (directoryFrom (c .before .before .before .before .before .before .before .before .before .before .before .before .before .before .before .before .before .before .before .before .before .before .before .before .before .before .before .before .before .before .before .before .before .before .before .before .args .tables .now)) (handedOf (listFrom (c .before .before .before .before .before .before .before .before .before .before .before .before .before .before .before .before .before .before .before .before .before .before .before .before .before .before .before .before .before .before .before .before .before .before .before .before .args .list .now)) (c .before .before .before .before .before .before .before .before .before .before .before .before .before .before .before .before .before .before .before .before .before .before .before .before .before .before .before .before .before .before .before .before .before .before .before .before .args .items .now) (c .before .before .before .before .before .before .before .before .before .before .before .before .before .before .before .before .before .before .before .before .before .before .before .before .before .before .before .before .before .before .before .before .before .before .before .before .args .chunks .now) o (c .before .before .before .before .before .before .before .before .before .before .before .before .before .before .before .before .before .before .before .before .before .before .before .before .before .before .before .before .before .before .before .before .before .before .before .before .args .words .now) (c .before .before .before .before .before .before .before .before .before .before .before .before .before .before .before .before .before .before .before .before .before .before .before .before .before .before .before .before .before .before .before .before .before .before .before .before .args .bytes .now) q (c .before .before .before .before .before .before .before .before .before .before .before .before .before .before .before .before .before .before .before .before .before .before .before .before .before .before .before .before .before .before .before .before .before .before .before .before .args .next) (c .before .before .before .before .before .before .before .before .before .before .before .before .before .before .before .before .before .before .before .before .before .before .before .before .before .before .before .before .before .before .before .before .before .before .before .before .args .out .now))) (c .before .before .before .before .before .before .before .before .before .before .before .before .before .before .before .before .before .before .before .before .before .before .before .overlays-of .ensures) (c .before .before .before .before .before .before .before .before .before .before .before .before .before .before .before .before .before .before .before .queues-of .ensures) in (
+      c .before .before .keep-queues .ensures .0 ∙ ap (λ (x : EndState). numberOf (x .answer)) e,
+      (
+        c .before .before .before .before .before .before .keep-overlays .ensures .1 ∙ ap (λ (x : EndState). headAfter overlaysSize (numberOf (x .answer)) (c .before .before .before .before .before .before .before .before .before .before .before .before .before .before .before .before .before .before .before .before .before .before .before .before .before .before .before .before .before .before .before .before .before .before .before .before .args .overlays .now) (overlaysWords (overlaysLeft (x .overlays)))) e,
+        (
+          left-memory (c .before .before .before .before .before .before .before .before .before .before .before .before .before .before .before .before .before .end-record .last .1 .1 .1 .1 .1 .0) (c .before .before .before .before .before .before .before .before .before .before .before .before .before .before .before .before .before .end-record .last .1 .1 .1 .1 .1 .1 .0) (c .before .before .before .before .before .before .before .before .before .before .before .before .before .before .before .before .before .end-record .result .overlays) _ (ap (λ (x : EndState). x .overlays) e),
+          (
+            c .before .before .keep-queues .ensures .1 ∙ ap (λ (x : EndState). headAfter queuesSize (numberOf (x .answer)) (c .before .before .before .before .before .before .before .before .before .before .before .before .before .before .before .before .before .before .before .before .before .before .before .before .before .before .before .before .before .before .before .before .before .before .before .before .args .queues .now) (queuesWords (x .queues))) e,
+            (
+              ap (λ (x : EndState). x .output) e,
+              (
+                ap (λ (x : EndState). x .length) e,
+                (
+                  c .before .before .before .before .before .before .before .before .before .before .source-number .ensures ∙ ap (λ (x : EndState). sourceNumber (x .source)) e,
+                  ap (λ (x : EndState). x .number) e,
+                ),
+              ),
+            ),
+          ),
+        ),
+      ),
+    )
 
 pub hongsathep-end-record-spec : {M : Type 1} → statement M
 hongsathep-end-record-spec =

@@ -1,3 +1,11 @@
+-- `hongsathep_last_record_id` meets its contract. Assumes nothing.
+use mathlib.Core.Path.{_≡_, sym, ap, ap₂, _∙_}
+use Rattle.answer.specs.Answer.{numberOf}
+use Rattle.directory.specs.declared.directory.Directory.{Directory}
+use Rattle.memory.specs.declared.overlays.LogOverlays.{LogOverlays}
+use Rattle.host_words.specs.Head.{headAfter}
+use Rattle.host_words.specs.Overlays.{overlaysSize, overlaysWords, overlaysLeft}
+use Rattle.memory.specs.Overlays.{lastIdOf}
 use borrow.Author.Needs.{needs}
 use Rattle.edge_log.proofs.ending_words.hongsathep_last_record_id.Statement.{statement}
 use Rattle.edge_log.proofs.ending_words.hongsathep_last_record_id.Tie as tie
@@ -16,7 +24,7 @@ last-record-id-requires c κs = search needs
 
 -- src/ending_words.rt:43:1
 returns : tie.Need-returns
-returns c = ?
+returns c = c .last-record-id .ensures ∙ ap (λ (o : LogOverlays). lastIdOf o (c .before .before .before .args .col)) (c .before .overlays-of .ensures)
 
 pub hongsathep-last-record-id-spec : {M : Type 1} → statement M
 hongsathep-last-record-id-spec =

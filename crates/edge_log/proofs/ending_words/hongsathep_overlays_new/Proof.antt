@@ -1,3 +1,11 @@
+-- `hongsathep_overlays_new` meets its contract. Assumes nothing.
+use mathlib.Core.Path.{_≡_, sym, ap, ap₂, _∙_}
+use Rattle.answer.specs.Answer.{numberOf}
+use Rattle.directory.specs.declared.directory.Directory.{Directory}
+use Rattle.memory.specs.declared.overlays.LogOverlays.{LogOverlays}
+use Rattle.host_words.specs.Head.{headAfter}
+use Rattle.host_words.specs.Overlays.{overlaysSize, overlaysWords, overlaysLeft}
+use Rattle.answer.specs.declared.answer.Answer.{Answer}
 use borrow.Author.Needs.{needs}
 use Rattle.edge_log.proofs.ending_words.hongsathep_overlays_new.Statement.{statement}
 use Rattle.edge_log.proofs.ending_words.hongsathep_overlays_new.Tie as tie
@@ -25,7 +33,10 @@ same-length c = search needs
 
 -- src/ending_words.rt:34:1
 returns : tie.Need-returns
-returns c = ?
+returns c = (
+  c .before .before .keep-overlays .ensures .0 ∙ ap numberOf (c .before .before .before .before .before .head-room .ensures),
+  c .before .before .keep-overlays .ensures .1 ∙ ap₂ (λ (a : Answer) (o : LogOverlays). headAfter overlaysSize (numberOf a) (c .before .before .before .before .before .before .before .before .args .overlays .now) (overlaysWords o)) (c .before .before .before .before .before .head-room .ensures) (c .before .before .before .new .ensures),
+)
 
 pub hongsathep-overlays-new-spec : {M : Type 1} → statement M
 hongsathep-overlays-new-spec =
