@@ -1,7 +1,7 @@
 // Where a key's bytes lie in one kind's part of a memory.
 ghost use mathlib.Core.Path.{_≡_};
 ghost use mathlib.Core.Bool.{true};
-ghost use Prim.Native.Nat.{_<_};
+ghost use Prim.Native.Nat.{_≤_};
 ghost use lib.ListN.{length};
 ghost use Rattle.keys.specs.Keys.{rank};
 ghost use Rattle.overlay.specs.Rules.{storedLength, overlayOf, overlayKept};
@@ -38,7 +38,7 @@ fn place_in(
     index: u64,
 ) -> Place
     requires { ⌜ overlayKept kind room (overlayOf room (now words) (now bytes) n) ≡ true ⌝ }
-    ensures { λ r. ⌜ (r ≡ placeOf kind (overlayOf room (now (words .entry)) (now (bytes .entry)) n) (rank table index)) × (r .at < 9223372036854775808) ⌝ }
+    ensures { λ r. ⌜ (r ≡ placeOf kind (overlayOf room (now (words .entry)) (now (bytes .entry)) n) (rank table index)) × (r .at ≤ length (now (bytes .entry))) ⌝ }
 {
     match overlay::seat_of(room, words, n, table as u64, index) {
         Seat::Over(p) => Place {
@@ -65,7 +65,7 @@ pub(crate) fn place_of(
     index: u64,
 ) -> Place
     requires { ⌜ (length (now words) ≡ wordsAll holder) × (length (now bytes) ≡ bytesAll holder) × (overlayKept kind (spanOf holder kind .room) (partOf holder kind counts (now words) (now bytes)) ≡ true) ⌝ }
-    ensures { λ r. ⌜ (r ≡ placeOf kind (partOf holder kind counts (now (words .entry)) (now (bytes .entry))) (rank table index)) × (r .at < 9223372036854775808) ⌝ }
+    ensures { λ r. ⌜ (r ≡ placeOf kind (partOf holder kind counts (now (words .entry)) (now (bytes .entry))) (rank table index)) × (r .at ≤ length (now (bytes .entry))) ⌝ }
 {
     let s = memory::span_of(holder, kind);
     let a = s.words_at;
