@@ -39,8 +39,8 @@ same-length c = search needs
 -- src/listing.rt:245:1
 returns : tie.Need-returns
 returns c =
-    let e = c .before .before .before .before .before .drop-ref-count-table .ensures ∙ ap₂ (λ (d : Directory) (l : LogChange). countTableDropped d (changeOf l (c .before .before .before .before .before .before .before .before .before .before .before .before .before .args .words .now) (c .before .before .before .before .before .before .before .before .before .before .before .before .before .args .bytes .now)) (c .before .before .before .before .before .before .before .before .before .before .before .before .before .args .table)) (c .before .before .before .before .before .before .directory-of .ensures) (c .before .before .before .before .before .before .before .list-of .ensures) in
-    made-kept (c .before .before .before .before .before .before .before .before .before .before .before .before .before .args .list .now) (c .before .before .before .before .before .before .before .before .before .before .before .before .before .args .words .now) (c .before .before .before .before .before .before .before .before .before .before .before .before .before .args .bytes .now) (c .before .before .before .before .before .drop-ref-count-table .result) _ e (c .before .before .keep-list .ensures)
+    let e = c .before .before .before .before .before .drop-ref-count-table .ensures ∙ ap₂ (λ (d : Directory) (l : LogChange). countTableDropped d (changeOf l (c .before .before .before .before .before .before .before .before .before .before .before .before .before .args .items .now) (c .before .before .before .before .before .before .before .before .before .before .before .before .before .args .chunks .now)) (c .before .before .before .before .before .before .before .before .before .before .before .before .before .args .table)) (c .before .before .before .before .before .before .directory-of .ensures) (c .before .before .before .before .before .before .before .list-of .ensures) in
+    made-kept (c .before .before .before .before .before .before .before .before .before .before .before .before .before .args .list .now) (c .before .before .before .before .before .before .before .before .before .before .before .before .before .args .items .now) (c .before .before .before .before .before .before .before .before .before .before .before .before .before .args .chunks .now) (c .before .before .before .before .before .drop-ref-count-table .result) _ e (c .before .before .keep-list .ensures)
 
 pub hongsathep-drop-ref-count-table-spec : {M : Type 1} → statement M
 hongsathep-drop-ref-count-table-spec =

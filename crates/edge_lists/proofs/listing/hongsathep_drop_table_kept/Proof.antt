@@ -26,7 +26,7 @@ directory-of-requires c κs = search needs
 
 -- src/listing.rt:239:9
 drop-table-kept-requires : tie.Need-drop-table-kept-requires
-drop-table-kept-requires c κs = ap₂ (λ (d : Directory) (l : LogChange). changeKept d (changeOf l (c .before .before .before .before .before .before .before .args .words .now) (c .before .before .before .before .before .before .before .args .bytes .now))) (c .directory-of .ensures) (c .before .list-of .ensures) ∙ c .before .before .before .before .before .before .before .pre
+drop-table-kept-requires c κs = ap₂ (λ (d : Directory) (l : LogChange). changeKept d (changeOf l (c .before .before .before .before .before .before .before .args .items .now) (c .before .before .before .before .before .before .before .args .chunks .now))) (c .directory-of .ensures) (c .before .list-of .ensures) ∙ c .before .before .before .before .before .before .before .pre
 
 -- src/listing.rt:242:5
 keep-list-requires : tie.Need-keep-list-requires
@@ -39,8 +39,8 @@ same-length c = search needs
 -- src/listing.rt:227:1
 returns : tie.Need-returns
 returns c =
-    let e = c .before .before .before .before .before .drop-table-kept .ensures ∙ ap₂ (λ (d : Directory) (l : LogChange). tableDroppedKept d (changeOf l (c .before .before .before .before .before .before .before .before .before .before .before .before .before .args .words .now) (c .before .before .before .before .before .before .before .before .before .before .before .before .before .args .bytes .now)) (c .before .before .before .before .before .before .before .before .before .before .before .before .before .args .table)) (c .before .before .before .before .before .before .directory-of .ensures) (c .before .before .before .before .before .before .before .list-of .ensures) in
-    made-kept (c .before .before .before .before .before .before .before .before .before .before .before .before .before .args .list .now) (c .before .before .before .before .before .before .before .before .before .before .before .before .before .args .words .now) (c .before .before .before .before .before .before .before .before .before .before .before .before .before .args .bytes .now) (c .before .before .before .before .before .drop-table-kept .result) _ e (c .before .before .keep-list .ensures)
+    let e = c .before .before .before .before .before .drop-table-kept .ensures ∙ ap₂ (λ (d : Directory) (l : LogChange). tableDroppedKept d (changeOf l (c .before .before .before .before .before .before .before .before .before .before .before .before .before .args .items .now) (c .before .before .before .before .before .before .before .before .before .before .before .before .before .args .chunks .now)) (c .before .before .before .before .before .before .before .before .before .before .before .before .before .args .table)) (c .before .before .before .before .before .before .directory-of .ensures) (c .before .before .before .before .before .before .before .list-of .ensures) in
+    made-kept (c .before .before .before .before .before .before .before .before .before .before .before .before .before .args .list .now) (c .before .before .before .before .before .before .before .before .before .before .before .before .before .args .items .now) (c .before .before .before .before .before .before .before .before .before .before .before .before .before .args .chunks .now) (c .before .before .before .before .before .drop-table-kept .result) _ e (c .before .before .keep-list .ensures)
 
 pub hongsathep-drop-table-kept-spec : {M : Type 1} → statement M
 hongsathep-drop-table-kept-spec =

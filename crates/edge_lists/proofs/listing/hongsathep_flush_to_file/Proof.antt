@@ -38,7 +38,7 @@ same-length c = search needs
 -- src/listing.rt:355:1
 returns : tie.Need-returns
 returns c =
-    let e = c .before .before .before .flush-to-file .ensures ∙ ap₂ (λ (d : Directory) (l : LogChange). flushToFile d (changeOf l (c .before .before .before .before .before .before .before .before .before .before .before .before .args .words .now) (c .before .before .before .before .before .before .before .before .before .before .before .before .args .bytes .now)) (c .before .before .before .before .before .before .before .before .before .before .before .before .args .out .now)) (c .before .before .before .before .before .directory-of .ensures) (c .before .before .before .before .before .before .list-of .ensures) in (
+    let e = c .before .before .before .flush-to-file .ensures ∙ ap₂ (λ (d : Directory) (l : LogChange). flushToFile d (changeOf l (c .before .before .before .before .before .before .before .before .before .before .before .before .args .items .now) (c .before .before .before .before .before .before .before .before .before .before .before .before .args .chunks .now)) (c .before .before .before .before .before .before .before .before .before .before .before .before .args .out .now)) (c .before .before .before .before .before .directory-of .ensures) (c .before .before .before .before .before .before .list-of .ensures) in (
       c .number .ensures ∙ ap (λ (x : FlushedLog). numberOf (x .sized .answer)) e,
       (
         ap (λ (x : FlushedLog). x .output) e,

@@ -20,7 +20,7 @@ list-of-requires c κs = search needs
 
 -- src/listing.rt:387:9
 flush-to-file-kept-requires : tie.Need-flush-to-file-kept-requires
-flush-to-file-kept-requires c κs = ap (λ (l : LogChange). changeRuled (changeOf l (c .before .before .before .before .before .before .args .words .now) (c .before .before .before .before .before .before .args .bytes .now))) (c .before .list-of .ensures) ∙ c .before .before .before .before .before .before .pre
+flush-to-file-kept-requires c κs = ap (λ (l : LogChange). changeRuled (changeOf l (c .before .before .before .before .before .before .args .items .now) (c .before .before .before .before .before .before .args .chunks .now))) (c .before .list-of .ensures) ∙ c .before .before .before .before .before .before .pre
 
 -- src/listing.rt:390:5
 number-requires : tie.Need-number-requires
@@ -33,7 +33,7 @@ same-length c = search needs
 -- src/listing.rt:374:1
 returns : tie.Need-returns
 returns c =
-    let e = c .before .before .before .flush-to-file-kept .ensures ∙ ap (λ (l : LogChange). flushToFileKept (changeOf l (c .before .before .before .before .before .before .before .before .before .before .args .words .now) (c .before .before .before .before .before .before .before .before .before .before .args .bytes .now)) (c .before .before .before .before .before .before .before .before .before .before .args .out .now)) (c .before .before .before .before .before .list-of .ensures) in (
+    let e = c .before .before .before .flush-to-file-kept .ensures ∙ ap (λ (l : LogChange). flushToFileKept (changeOf l (c .before .before .before .before .before .before .before .before .before .before .args .items .now) (c .before .before .before .before .before .before .before .before .before .before .args .chunks .now)) (c .before .before .before .before .before .before .before .before .before .before .args .out .now)) (c .before .before .before .before .before .list-of .ensures) in (
       c .number .ensures ∙ ap (λ (x : FlushedLog). numberOf (x .sized .answer)) e,
       (
         ap (λ (x : FlushedLog). x .output) e,

@@ -48,7 +48,7 @@ same-length-3 c = search needs
 -- src/listing.rt:37:1
 returns : tie.Need-returns
 returns c =
-    let e = c .before .before .before .before .before .before .before .before .before .insert-index .ensures ∙ ap₂ (λ (d : Directory) (l : LogChange). inserted Index d (changeOf l (c .before .before .before .before .before .before .before .before .before .before .before .before .before .before .before .before .before .before .before .before .args .words .now) (c .before .before .before .before .before .before .before .before .before .before .before .before .before .before .before .before .before .before .before .before .args .bytes .now)) (c .before .before .before .before .before .before .before .before .before .before .before .before .before .before .before .before .before .before .before .before .args .table) (c .before .before .before .before .before .before .before .before .before .before .before .before .before .before .before .before .before .before .before .before .args .index) (c .before .before .before .before .before .before .before .before .before .before .before .before .before .before .before .before .before .before .before .before .args .sub) (c .before .before .before .before .before .before .before .before .before .before .before .before .before .before .before .before .before .before .before .before .args .data .now)) (c .before .before .before .before .before .before .before .before .before .before .before .before .directory-of .ensures) (c .before .before .before .before .before .before .before .before .before .before .before .before .before .list-of .ensures) in
+    let e = c .before .before .before .before .before .before .before .before .before .insert-index .ensures ∙ ap₂ (λ (d : Directory) (l : LogChange). inserted Index d (changeOf l (c .before .before .before .before .before .before .before .before .before .before .before .before .before .before .before .before .before .before .before .before .args .items .now) (c .before .before .before .before .before .before .before .before .before .before .before .before .before .before .before .before .before .before .before .before .args .chunks .now)) (c .before .before .before .before .before .before .before .before .before .before .before .before .before .before .before .before .before .before .before .before .args .table) (c .before .before .before .before .before .before .before .before .before .before .before .before .before .before .before .before .before .before .before .before .args .index) (c .before .before .before .before .before .before .before .before .before .before .before .before .before .before .before .before .before .before .before .before .args .sub) (c .before .before .before .before .before .before .before .before .before .before .before .before .before .before .before .before .before .before .before .before .args .data .now)) (c .before .before .before .before .before .before .before .before .before .before .before .before .directory-of .ensures) (c .before .before .before .before .before .before .before .before .before .before .before .before .before .list-of .ensures) in
     let r = c .before .before .before .before .before .before .before .before .before .insert-index .result in
     let w = c .before .before .before .before .before .before .before .before .before .insert-index .last .1 .1 .0 in
     let b = c .before .before .before .before .before .before .before .before .before .insert-index .last .1 .1 .1 .0 in

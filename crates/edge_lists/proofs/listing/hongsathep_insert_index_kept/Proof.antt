@@ -27,7 +27,7 @@ directory-of-requires c κs = search needs
 
 -- src/listing.rt:82:9
 insert-index-kept-requires : tie.Need-insert-index-kept-requires
-insert-index-kept-requires c κs = ap₂ (λ (d : Directory) (l : LogChange). changeKept d (changeOf l (c .before .before .before .before .before .before .before .before .before .before .args .words .now) (c .before .before .before .before .before .before .before .before .before .before .args .bytes .now))) (c .before .before .directory-of .ensures) (c .before .before .before .list-of .ensures) ∙ c .before .before .before .before .before .before .before .before .before .before .pre
+insert-index-kept-requires c κs = ap₂ (λ (d : Directory) (l : LogChange). changeKept d (changeOf l (c .before .before .before .before .before .before .before .before .before .before .args .items .now) (c .before .before .before .before .before .before .before .before .before .before .args .chunks .now))) (c .before .before .directory-of .ensures) (c .before .before .before .list-of .ensures) ∙ c .before .before .before .before .before .before .before .before .before .before .pre
 
 -- src/listing.rt:93:5
 keep-list-requires : tie.Need-keep-list-requires
@@ -48,7 +48,7 @@ same-length-3 c = search needs
 -- src/listing.rt:66:1
 returns : tie.Need-returns
 returns c =
-    let e = c .before .before .before .before .before .before .before .before .before .insert-index-kept .ensures ∙ ap₂ (λ (d : Directory) (l : LogChange). insertedKept Index d (changeOf l (c .before .before .before .before .before .before .before .before .before .before .before .before .before .before .before .before .before .before .before .before .args .words .now) (c .before .before .before .before .before .before .before .before .before .before .before .before .before .before .before .before .before .before .before .before .args .bytes .now)) (c .before .before .before .before .before .before .before .before .before .before .before .before .before .before .before .before .before .before .before .before .args .table) (c .before .before .before .before .before .before .before .before .before .before .before .before .before .before .before .before .before .before .before .before .args .index) (c .before .before .before .before .before .before .before .before .before .before .before .before .before .before .before .before .before .before .before .before .args .sub) (c .before .before .before .before .before .before .before .before .before .before .before .before .before .before .before .before .before .before .before .before .args .data .now)) (c .before .before .before .before .before .before .before .before .before .before .before .before .directory-of .ensures) (c .before .before .before .before .before .before .before .before .before .before .before .before .before .list-of .ensures) in
+    let e = c .before .before .before .before .before .before .before .before .before .insert-index-kept .ensures ∙ ap₂ (λ (d : Directory) (l : LogChange). insertedKept Index d (changeOf l (c .before .before .before .before .before .before .before .before .before .before .before .before .before .before .before .before .before .before .before .before .args .items .now) (c .before .before .before .before .before .before .before .before .before .before .before .before .before .before .before .before .before .before .before .before .args .chunks .now)) (c .before .before .before .before .before .before .before .before .before .before .before .before .before .before .before .before .before .before .before .before .args .table) (c .before .before .before .before .before .before .before .before .before .before .before .before .before .before .before .before .before .before .before .before .args .index) (c .before .before .before .before .before .before .before .before .before .before .before .before .before .before .before .before .before .before .before .before .args .sub) (c .before .before .before .before .before .before .before .before .before .before .before .before .before .before .before .before .before .before .before .before .args .data .now)) (c .before .before .before .before .before .before .before .before .before .before .before .before .directory-of .ensures) (c .before .before .before .before .before .before .before .before .before .before .before .before .before .list-of .ensures) in
     let r = c .before .before .before .before .before .before .before .before .before .insert-index-kept .result in
     let w = c .before .before .before .before .before .before .before .before .before .insert-index-kept .last .1 .1 .0 in
     let b = c .before .before .before .before .before .before .before .before .before .insert-index-kept .last .1 .1 .1 .0 in

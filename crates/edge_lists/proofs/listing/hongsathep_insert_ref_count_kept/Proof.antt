@@ -27,7 +27,7 @@ directory-of-requires c κs = search needs
 
 -- src/listing.rt:196:9
 insert-ref-count-kept-requires : tie.Need-insert-ref-count-kept-requires
-insert-ref-count-kept-requires c κs = ap₂ (λ (d : Directory) (l : LogChange). changeKept d (changeOf l (c .before .before .before .before .before .before .before .before .before .before .args .words .now) (c .before .before .before .before .before .before .before .before .before .before .args .bytes .now))) (c .before .before .directory-of .ensures) (c .before .before .before .list-of .ensures) ∙ c .before .before .before .before .before .before .before .before .before .before .pre
+insert-ref-count-kept-requires c κs = ap₂ (λ (d : Directory) (l : LogChange). changeKept d (changeOf l (c .before .before .before .before .before .before .before .before .before .before .args .items .now) (c .before .before .before .before .before .before .before .before .before .before .args .chunks .now))) (c .before .before .directory-of .ensures) (c .before .before .before .list-of .ensures) ∙ c .before .before .before .before .before .before .before .before .before .before .pre
 
 -- src/listing.rt:207:5
 keep-list-requires : tie.Need-keep-list-requires
@@ -48,7 +48,7 @@ same-length-3 c = search needs
 -- src/listing.rt:180:1
 returns : tie.Need-returns
 returns c =
-    let e = c .before .before .before .before .before .before .before .before .before .insert-ref-count-kept .ensures ∙ ap₂ (λ (d : Directory) (l : LogChange). insertedKept RefCount d (changeOf l (c .before .before .before .before .before .before .before .before .before .before .before .before .before .before .before .before .before .before .before .before .args .words .now) (c .before .before .before .before .before .before .before .before .before .before .before .before .before .before .before .before .before .before .before .before .args .bytes .now)) (c .before .before .before .before .before .before .before .before .before .before .before .before .before .before .before .before .before .before .before .before .args .table) (c .before .before .before .before .before .before .before .before .before .before .before .before .before .before .before .before .before .before .before .before .args .index) (c .before .before .before .before .before .before .before .before .before .before .before .before .before .before .before .before .before .before .before .before .args .sub) (c .before .before .before .before .before .before .before .before .before .before .before .before .before .before .before .before .before .before .before .before .args .data .now)) (c .before .before .before .before .before .before .before .before .before .before .before .before .directory-of .ensures) (c .before .before .before .before .before .before .before .before .before .before .before .before .before .list-of .ensures) in
+    let e = c .before .before .before .before .before .before .before .before .before .insert-ref-count-kept .ensures ∙ ap₂ (λ (d : Directory) (l : LogChange). insertedKept RefCount d (changeOf l (c .before .before .before .before .before .before .before .before .before .before .before .before .before .before .before .before .before .before .before .before .args .items .now) (c .before .before .before .before .before .before .before .before .before .before .before .before .before .before .before .before .before .before .before .before .args .chunks .now)) (c .before .before .before .before .before .before .before .before .before .before .before .before .before .before .before .before .before .before .before .before .args .table) (c .before .before .before .before .before .before .before .before .before .before .before .before .before .before .before .before .before .before .before .before .args .index) (c .before .before .before .before .before .before .before .before .before .before .before .before .before .before .before .before .before .before .before .before .args .sub) (c .before .before .before .before .before .before .before .before .before .before .before .before .before .before .before .before .before .before .before .before .args .data .now)) (c .before .before .before .before .before .before .before .before .before .before .before .before .directory-of .ensures) (c .before .before .before .before .before .before .before .before .before .before .before .before .before .list-of .ensures) in
     let r = c .before .before .before .before .before .before .before .before .before .insert-ref-count-kept .result in
     let w = c .before .before .before .before .before .before .before .before .before .insert-ref-count-kept .last .1 .1 .0 in
     let b = c .before .before .before .before .before .before .before .before .before .insert-ref-count-kept .last .1 .1 .1 .0 in

@@ -27,7 +27,7 @@ directory-of-requires c κs = search needs
 
 -- src/listing.rt:138:9
 insert-value-kept-requires : tie.Need-insert-value-kept-requires
-insert-value-kept-requires c κs = ap₂ (λ (d : Directory) (l : LogChange). changeKept d (changeOf l (c .before .before .before .before .before .before .before .before .before .before .args .words .now) (c .before .before .before .before .before .before .before .before .before .before .args .bytes .now))) (c .before .before .directory-of .ensures) (c .before .before .before .list-of .ensures) ∙ c .before .before .before .before .before .before .before .before .before .before .pre
+insert-value-kept-requires c κs = ap₂ (λ (d : Directory) (l : LogChange). changeKept d (changeOf l (c .before .before .before .before .before .before .before .before .before .before .args .items .now) (c .before .before .before .before .before .before .before .before .before .before .args .chunks .now))) (c .before .before .directory-of .ensures) (c .before .before .before .list-of .ensures) ∙ c .before .before .before .before .before .before .before .before .before .before .pre
 
 -- src/listing.rt:148:5
 keep-list-requires : tie.Need-keep-list-requires
@@ -48,7 +48,7 @@ same-length-3 c = search needs
 -- src/listing.rt:123:1
 returns : tie.Need-returns
 returns c =
-    let e = c .before .before .before .before .before .before .before .before .before .insert-value-kept .ensures ∙ ap₂ (λ (d : Directory) (l : LogChange). insertedKept Value d (changeOf l (c .before .before .before .before .before .before .before .before .before .before .before .before .before .before .before .before .before .before .before .before .args .words .now) (c .before .before .before .before .before .before .before .before .before .before .before .before .before .before .before .before .before .before .before .before .args .bytes .now)) (c .before .before .before .before .before .before .before .before .before .before .before .before .before .before .before .before .before .before .before .before .args .table) (c .before .before .before .before .before .before .before .before .before .before .before .before .before .before .before .before .before .before .before .before .args .index) 0 (c .before .before .before .before .before .before .before .before .before .before .before .before .before .before .before .before .before .before .before .before .args .data .now)) (c .before .before .before .before .before .before .before .before .before .before .before .before .directory-of .ensures) (c .before .before .before .before .before .before .before .before .before .before .before .before .before .list-of .ensures) in
+    let e = c .before .before .before .before .before .before .before .before .before .insert-value-kept .ensures ∙ ap₂ (λ (d : Directory) (l : LogChange). insertedKept Value d (changeOf l (c .before .before .before .before .before .before .before .before .before .before .before .before .before .before .before .before .before .before .before .before .args .items .now) (c .before .before .before .before .before .before .before .before .before .before .before .before .before .before .before .before .before .before .before .before .args .chunks .now)) (c .before .before .before .before .before .before .before .before .before .before .before .before .before .before .before .before .before .before .before .before .args .table) (c .before .before .before .before .before .before .before .before .before .before .before .before .before .before .before .before .before .before .before .before .args .index) 0 (c .before .before .before .before .before .before .before .before .before .before .before .before .before .before .before .before .before .before .before .before .args .data .now)) (c .before .before .before .before .before .before .before .before .before .before .before .before .directory-of .ensures) (c .before .before .before .before .before .before .before .before .before .before .before .before .before .list-of .ensures) in
     let r = c .before .before .before .before .before .before .before .before .before .insert-value-kept .result in
     let w = c .before .before .before .before .before .before .before .before .before .insert-value-kept .last .1 .1 .0 in
     let b = c .before .before .before .before .before .before .before .before .before .insert-value-kept .last .1 .1 .1 .0 in

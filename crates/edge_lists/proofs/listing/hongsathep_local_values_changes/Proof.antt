@@ -30,7 +30,7 @@ number-requires c κs = search needs
 -- src/listing.rt:314:1
 returns : tie.Need-returns
 returns c =
-    let e = c .before .local-values-changes .ensures ∙ ap (λ (l : LogChange). valuesOf (changeOf l (c .before .before .before .before .before .before .args .words .now) (c .before .before .before .before .before .before .args .bytes .now)) (c .before .before .before .before .before .before .args .table)) (c .before .before .list-of .ensures) in (
+    let e = c .before .local-values-changes .ensures ∙ ap (λ (l : LogChange). valuesOf (changeOf l (c .before .before .before .before .before .before .args .items .now) (c .before .before .before .before .before .before .args .chunks .now)) (c .before .before .before .before .before .before .args .table)) (c .before .before .list-of .ensures) in (
       c .number .ensures ∙ ap (λ (x : LocalValues). numberOf (x .answer)) e,
       (
         ap (λ (x : LocalValues). x .from) e,

@@ -21,7 +21,7 @@ list-of-requires c κs = search needs
 
 -- src/listing.rt:348:9
 local-values-changes-kept-requires : tie.Need-local-values-changes-kept-requires
-local-values-changes-kept-requires c κs = ap (λ (l : LogChange). changeRuled (changeOf l (c .before .before .before .before .args .words .now) (c .before .before .before .before .args .bytes .now))) (c .list-of .ensures) ∙ c .before .before .before .before .pre
+local-values-changes-kept-requires c κs = ap (λ (l : LogChange). changeRuled (changeOf l (c .before .before .before .before .args .items .now) (c .before .before .before .before .args .chunks .now))) (c .list-of .ensures) ∙ c .before .before .before .before .pre
 
 -- src/listing.rt:352:5
 number-requires : tie.Need-number-requires
@@ -30,7 +30,7 @@ number-requires c κs = search needs
 -- src/listing.rt:334:1
 returns : tie.Need-returns
 returns c =
-    let e = c .before .local-values-changes-kept .ensures ∙ ap (λ (l : LogChange). valuesOfKept (changeOf l (c .before .before .before .before .before .before .args .words .now) (c .before .before .before .before .before .before .args .bytes .now)) (c .before .before .before .before .before .before .args .table)) (c .before .before .list-of .ensures) in (
+    let e = c .before .local-values-changes-kept .ensures ∙ ap (λ (l : LogChange). valuesOfKept (changeOf l (c .before .before .before .before .before .before .args .items .now) (c .before .before .before .before .before .before .args .chunks .now)) (c .before .before .before .before .before .before .args .table)) (c .before .before .list-of .ensures) in (
       c .number .ensures ∙ ap (λ (x : LocalValues). numberOf (x .answer)) e,
       (
         ap (λ (x : LocalValues). x .from) e,

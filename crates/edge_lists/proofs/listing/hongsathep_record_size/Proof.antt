@@ -35,7 +35,7 @@ number-requires c κs = search needs
 -- src/listing.rt:280:1
 returns : tie.Need-returns
 returns c =
-    let e = c .before .record-size .ensures ∙ ap₂ (λ (d : Directory) (l : LogChange). sized d (changeOf l (c .before .before .before .before .before .before .before .before .args .words .now) (c .before .before .before .before .before .before .before .before .args .bytes .now))) (c .before .before .directory-of .ensures) (c .before .before .before .list-of .ensures) in (
+    let e = c .before .record-size .ensures ∙ ap₂ (λ (d : Directory) (l : LogChange). sized d (changeOf l (c .before .before .before .before .before .before .before .before .args .items .now) (c .before .before .before .before .before .before .before .before .args .chunks .now))) (c .before .before .directory-of .ensures) (c .before .before .before .list-of .ensures) in (
       c .number .ensures ∙ ap (λ (x : Sized). numberOf (x .answer)) e,
       ap (λ (x : Sized). x .length) e,
     )

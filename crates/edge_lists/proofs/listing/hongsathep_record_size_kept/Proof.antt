@@ -21,7 +21,7 @@ list-of-requires c κs = search needs
 
 -- src/listing.rt:308:9
 record-size-kept-requires : tie.Need-record-size-kept-requires
-record-size-kept-requires c κs = ap (λ (l : LogChange). changeRuled (changeOf l (c .before .before .before .before .args .words .now) (c .before .before .before .before .args .bytes .now))) (c .list-of .ensures) ∙ c .before .before .before .before .pre
+record-size-kept-requires c κs = ap (λ (l : LogChange). changeRuled (changeOf l (c .before .before .before .before .args .items .now) (c .before .before .before .before .args .chunks .now))) (c .list-of .ensures) ∙ c .before .before .before .before .pre
 
 -- src/listing.rt:311:5
 number-requires : tie.Need-number-requires
@@ -30,7 +30,7 @@ number-requires c κs = search needs
 -- src/listing.rt:297:1
 returns : tie.Need-returns
 returns c =
-    let e = c .before .record-size-kept .ensures ∙ ap (λ (l : LogChange). sizedKept (changeOf l (c .before .before .before .before .before .before .args .words .now) (c .before .before .before .before .before .before .args .bytes .now))) (c .before .before .list-of .ensures) in (
+    let e = c .before .record-size-kept .ensures ∙ ap (λ (l : LogChange). sizedKept (changeOf l (c .before .before .before .before .before .before .args .items .now) (c .before .before .before .before .before .before .args .chunks .now))) (c .before .before .list-of .ensures) in (
       c .number .ensures ∙ ap (λ (x : Sized). numberOf (x .answer)) e,
       ap (λ (x : Sized). x .length) e,
     )
