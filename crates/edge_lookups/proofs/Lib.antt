@@ -1,0 +1,3 @@
+-- The laws, for other crates to cite.
+pub mod Places
+pub mod Copies

@@ -1,0 +1,122 @@
+-- A place is where the entry's bytes lie; what the memories' rules give to the lookups. Assumes nothing.
+use mathlib.Core.Path.{_≡_, refl, sym, ap, subst, _∙_}
+use mathlib.Core.Bool.{Bool, true, false, _&&_}
+use mathlib.Core.List.{List, []}
+use mathlib.Core.Option.{none}
+use Prim.Native.Nat.{ℕ, _+_, _*_, _≤_, _<_}
+use native.Mathlib.Omega.{arith}
+use borrow.Author.Tests.{eqb-true, eq-eqb, ne-eqb}
+use lib.Dec.{eqb}
+use lib.ListN.{length, take, drop, getD, length-take, length-drop}
+use lib.Seq.{getD-take}
+use Rattle.directory.specs.declared.table.TableKind.{TableKind}
+use Rattle.directory.specs.declared.table.TableKind.the-variants.{Index, Value, RefCount}
+use Rattle.numbers.proofs.Laws.{left-of, right-of}
+use Rattle.keys.specs.Keys.{markAt}
+use Rattle.overlay.specs.Rules.{Overlay, slotSize, storedLength, overlayOf, overlayKept}
+use Rattle.overlay.specs.Inner.{seatIn}
+use Rattle.overlay.specs.declared.seat.Seat.{Seat}
+use Rattle.overlay.specs.declared.seat.Seat.the-variants.{Over, Next}
+use Rattle.memory.specs.Parts.{spanOf, wordsAll, bytesAll, partOf, partsOf, partsKept}
+use Rattle.memory.specs.declared.counts.Counts.{Counts}
+use Rattle.memory.specs.declared.span.Holder.{Holder}
+use Rattle.memory.specs.declared.span.Holder.the-variants as holder
+use Rattle.memory.proofs.Spans.{words-all, bytes-all, of-parts, AllKept, all-shows}
+use Rattle.query.specs.Inner.{foundIn}
+use Rattle.query.proofs.Found.{FoundAt, found, not-found}
+use Rattle.edge_lookups.specs.Lookups.{noPlace, placeBy, placeOf, memoryNumber, spotBy, sharedKept}
+use Rattle.edge_lookups.specs.declared.place.Place.{Place}
+use Rattle.edge_lookups.specs.declared.lookups.Spotted.{Spotted}
+use Rattle.answer.specs.declared.answer.Answer.the-variants.{Done}
+use Rattle.memory.specs.declared.span.Span.{Span}
+
+-- the bytes in the place are the entry's; where there is none, there is no entry
+pub place-bytes : (kind : TableKind) (room : ℕ) (o : Overlay) → overlayKept kind room o ≡ true → (key : ℕ) → take (placeOf kind o key .length) (drop (placeOf kind o key .at) (o .bytes)) ≡ foundIn kind o key
+unfolding placeOf
+place-bytes kind room o ok key = by (seatIn o key) refl
+  where
+    by : (s : Seat) → seatIn o key ≡ s → take (placeBy kind o (seatIn o key) .length) (drop (placeBy kind o (seatIn o key) .at) (o .bytes)) ≡ foundIn kind o key
+    by (Over p) e = rw e (found kind room o ok key p e .bytes)
+    by (Next j) e = rw e (not-found kind room o ok key j e)
+
+-- the place that the code has
+pub place-over : (kind : TableKind) (room : ℕ) (words bytes : List ℕ) (n key p s u : ℕ) → p < room → seatIn (overlayOf room words bytes n) key ≡ Over p → s ≡ slotSize kind
+    → u ≡ storedLength kind (getD words (4 * p + 3) 0) → record { found = true; at = s * p; length = u } ≡ placeOf kind (overlayOf room words bytes n) key
+unfolding placeOf
+place-over kind room words bytes n key p s u low e d q =
+    let m : u ≡ storedLength kind (markAt (take (4 * room) words) p) = q ∙ ap (storedLength kind) (sym (getD-take (4 * room) words (4 * p + 3) 0 (omega arith))) in
+    rw (e, d, m)
+
+pub place-none : (kind : TableKind) (o : Overlay) (key j : ℕ) → seatIn o key ≡ Next j → noPlace ≡ placeOf kind o key
+unfolding placeOf
+place-none kind o key j e = rw e
+
+pub part-le : (n b : ℕ) (l : List ℕ) → length (take n (drop b l)) ≤ length l
+part-le n b l = simp (length-take, length-drop) (omega arith)
+
+pub shared-room : (kind : TableKind) → spanOf holder.Shared kind .room ≡ 256
+shared-room Index = refl
+shared-room Value = refl
+shared-room RefCount = refl
+
+pub span-low : (h : Holder) (kind : TableKind) → spanOf h kind .«bytes_at» ≤ 524288
+span-low holder.Shared Index = omega arith
+span-low holder.Shared Value = omega arith
+span-low holder.Shared RefCount = omega arith
+span-low holder.List Index = omega arith
+span-low holder.List Value = omega arith
+span-low holder.List RefCount = omega arith
+
+pub bytes-low : (h : Holder) → bytesAll h ≤ 524288
+bytes-low holder.Shared = omega arith
+bytes-low holder.List = omega arith
+
+-- what a kind of a holder has, as the lookups ask it
+pub record Ready (h : Holder) (kind : TableKind) (c : Counts) (words bytes : List ℕ) : Type 0 where
+  pub words-long : length words ≡ wordsAll h
+  pub bytes-long : length bytes ≡ bytesAll h
+  pub rules : overlayKept kind (spanOf h kind .room) (partOf h kind c words bytes) ≡ true
+
+pub shared-ready : (kind : TableKind) (c : Counts) (words bytes : List ℕ) → sharedKept kind c words bytes ≡ true → Ready holder.Shared kind c words bytes
+unfolding sharedKept
+shared-ready kind c words bytes h =
+    let b = right-of (eqb (length words) 3840) _ h in
+    record {
+      words-long = eqb-true _ _ (left-of (eqb (length words) 3840) _ h);
+      bytes-long = eqb-true _ _ (left-of (eqb (length bytes) 524288) _ b);
+      rules = subst (λ (n : ℕ). overlayKept kind n (partOf holder.Shared kind c words bytes) ≡ true) (sym (shared-room kind)) (right-of (eqb (length bytes) 524288) _ b);
+    }
+
+pub all-ready : (h : Holder) (kind : TableKind) (c : Counts) (words bytes : List ℕ) → partsKept h (partsOf h c words bytes) ≡ true → Ready h kind c words bytes
+all-ready h kind c words bytes ok =
+    record {
+      words-long = words-all h c words bytes ok;
+      bytes-long = bytes-all h c words bytes ok;
+      rules = subst (λ (o : Overlay). overlayKept kind (spanOf h kind .room) o ≡ true) (of-parts h kind c words bytes) (all-shows h (partsOf h c words bytes) ok .each kind);
+    }
+
+-- the test in its parts
+module _ (kind : TableKind) (c : Counts) (words bytes : List ℕ) where
+  pub shared-words : (length words ≡ 3840 → ⊥) → false ≡ sharedKept kind c words bytes
+  unfolding sharedKept
+  shared-words h = rw (ne-eqb _ _ h)
+
+  pub shared-bytes : length words ≡ 3840 → (length bytes ≡ 524288 → ⊥) → false ≡ sharedKept kind c words bytes
+  unfolding sharedKept
+  shared-bytes w h = rw (eq-eqb _ _ w, ne-eqb _ _ h)
+
+  pub shared-rest : length words ≡ 3840 → length bytes ≡ 524288 → (r : Bool) → r ≡ overlayKept kind (spanOf holder.Shared kind .room) (partOf holder.Shared kind c words bytes) → r ≡ sharedKept kind c words bytes
+  unfolding sharedKept
+  shared-rest w b r e = rw (eq-eqb _ _ w, eq-eqb _ _ b) (e ∙ ap (λ (n : ℕ). overlayKept kind n (partOf holder.Shared kind c words bytes)) (shared-room kind))
+
+-- a place that the code has, as a place in its memory
+module _ (h : Holder) (kind : TableKind) (p q : Place) (e : p ≡ q) (otherwise : Spotted) where
+  pub spot-none : p .found ≡ false → otherwise ≡ spotBy h kind q otherwise
+  spot-none f =
+      let g : q .found ≡ false = ap (λ (x : Place). x .found) (sym e) ∙ f in
+      rw g
+
+  pub spot-some : p .found ≡ true → (m : ℕ) → m ≡ memoryNumber h → (s : Span) → s ≡ spanOf h kind → record { answer = Done; memory = m; place = s .«bytes_at» + p .at; length = p .length } ≡ spotBy h kind q otherwise
+  spot-some f m a s b =
+      let g : q .found ≡ true = ap (λ (x : Place). x .found) (sym e) ∙ f in
+      rw (g, a, b, e)

@@ -1,0 +1,87 @@
+-- Lookups over words. A part of a lent memory can't be handed across: which memory it lies in, its place and its length are (document 01: "answers
+-- with the stored bytes themselves, from the local memory or the shared one"). That they are those bytes: proofs/Places.
+use mathlib.Core.Bool.{Bool, true, false, _&&_}
+use mathlib.Core.List.{List}
+use mathlib.Core.Option.{none}
+use Prim.Native.Nat.{ℕ, _+_, _*_}
+use lib.Dec.{eqb}
+use lib.ListN.{length}
+use Rattle.words.specs.Choice.{if_then_else_}
+use Rattle.answer.specs.declared.answer.Answer.{Answer}
+use Rattle.answer.specs.declared.answer.Answer.the-variants.{Done, BadState}
+use Rattle.directory.specs.declared.table.TableKind.{TableKind}
+use Rattle.directory.specs.declared.table.TableKind.the-variants.{Value}
+use Rattle.keys.specs.Keys.{markAt}
+use Rattle.overlay.specs.Rules.{Overlay, slotSize, storedLength, overlayKept}
+use Rattle.overlay.specs.Inner.{seatIn}
+use Rattle.overlay.specs.declared.seat.Seat.{Seat}
+use Rattle.overlay.specs.declared.seat.Seat.the-variants.{Over, Next}
+use Rattle.memory.specs.Parts.{spanOf, partOf}
+use Rattle.memory.specs.declared.counts.Counts.{Counts}
+use Rattle.memory.specs.declared.overlays.LogOverlays.{LogOverlays}
+use Rattle.memory.specs.declared.span.Holder.{Holder}
+use Rattle.memory.specs.declared.span.Holder.the-variants as holder
+use Rattle.change.specs.Change.{changeOf, changeRuled}
+use Rattle.change.specs.declared.change.LogChange.{LogChange}
+use Rattle.query.specs.Query.{Looked, lookedIf, sharedLook, listedLook}
+use Rattle.edge_lookups.specs.declared.place.Place.{Place}
+use Rattle.edge_lookups.specs.declared.lookups.Spotted.{Spotted}
+
+-- where a key's bytes lie in its kind's part of a memory, and how many there are
+abbrev pub noPlace : Place
+noPlace = record { found = false; at = 0; length = 0 }
+
+abbrev pub placeBy : TableKind → Overlay → Seat → Place
+placeBy kind o (Over p) = record { found = true; at = slotSize kind * p; length = storedLength kind (markAt (o .rows) p) }
+placeBy kind o (Next j) = noPlace
+
+unfoldable pub placeOf : TableKind → Overlay → ℕ → Place
+placeOf kind o key = placeBy kind o (seatIn o key)
+
+-- an answer that shows nothing
+abbrev pub nowhere : Answer → Spotted
+nowhere answer = record { answer = answer; memory = 0; place = 0; length = 0 }
+
+-- a memory's number: 1 the list's, 2 the shared one
+abbrev pub memoryNumber : Holder → ℕ
+memoryNumber holder.Shared = 2
+memoryNumber holder.List = 1
+
+-- a place in one kind's part, as a place in its memory; where there is none, what is said otherwise
+abbrev pub spotBy : Holder → TableKind → Place → Spotted → Spotted
+spotBy h kind p otherwise =
+    if p .found
+    then record { answer = Done; memory = memoryNumber h; place = spanOf h kind .«bytes_at» + p .at; length = p .length }
+    else otherwise
+
+unfoldable pub spotIn : Holder → TableKind → Counts → List ℕ → List ℕ → ℕ → Spotted → Spotted
+spotIn h kind c words bytes key otherwise = spotBy h kind (placeOf kind (partOf h kind c words bytes) key) otherwise
+
+-- the shared memories are as long as they should be, and the kind keeps its rules
+unfoldable pub sharedKept : TableKind → Counts → List ℕ → List ℕ → Bool
+sharedKept kind c words bytes =
+    eqb (length words) 3840 && (eqb (length bytes) 524288 && overlayKept kind 256 (partOf holder.Shared kind c words bytes))
+
+-- in the shared overlays alone
+unfoldable pub sharedSpot : TableKind → Counts → List ℕ → List ℕ → ℕ → Spotted
+sharedSpot kind c words bytes key =
+    if sharedKept kind c words bytes then spotIn holder.Shared kind c words bytes key (nowhere Done) else nowhere BadState
+
+-- "Lookup goes to the local list first, then the shared overlays."
+unfoldable pub listedSpot : TableKind → LogChange → List ℕ → List ℕ → Counts → List ℕ → List ℕ → ℕ → Spotted
+listedSpot kind l items chunks c words bytes key =
+    if changeRuled (changeOf l items chunks) && sharedKept kind c words bytes
+    then spotIn holder.List kind (l .counts) items chunks key (spotIn holder.Shared kind c words bytes key (nowhere Done))
+    else nowhere BadState
+
+-- `value`: the value that is copied, or 13 where the memories are not as long as they should be
+unfoldable pub valueLook : LogOverlays → List ℕ → List ℕ → ℕ → Looked
+valueLook o words bytes key =
+    if eqb (length words) 3840 && eqb (length bytes) 524288 then sharedLook Value (partOf holder.Shared Value (o .counts) words bytes) key else
+    lookedIf false none
+
+unfoldable pub valueListedLook : LogChange → List ℕ → List ℕ → LogOverlays → List ℕ → List ℕ → ℕ → Looked
+valueListedLook l items chunks o words bytes key =
+    if eqb (length words) 3840 && eqb (length bytes) 524288
+    then listedLook Value (changeOf l items chunks) (partOf holder.Shared Value (o .counts) words bytes) key
+    else lookedIf false none

@@ -1,0 +1,84 @@
+// Where a key's bytes lie in one kind's part of a memory.
+ghost use mathlib.Core.Path.{_≡_};
+ghost use mathlib.Core.Bool.{true};
+ghost use Prim.Native.Nat.{_≤_};
+ghost use lib.ListN.{length};
+ghost use Rattle.keys.specs.Keys.{rank};
+ghost use Rattle.overlay.specs.Rules.{storedLength, overlayOf, overlayKept};
+ghost use Rattle.memory.specs.Parts.{spanOf, wordsAll, bytesAll, partOf};
+ghost use Rattle.edge_lookups.specs.Lookups.{placeOf};
+use directory::TableKind;
+use memory::Counts;
+use memory::Holder;
+use overlay::Seat;
+
+pub struct Place {
+    pub found: bool,
+    pub at: usize,
+    pub length: usize,
+}
+
+fn stored_length(kind: TableKind, mark: u64) -> usize
+    ensures { λ r. ⌜ r ≡ storedLength kind mark ⌝ }
+{
+    match kind {
+        TableKind::Index => 512,
+        TableKind::Value => mark as usize,
+        TableKind::RefCount => 1024,
+    }
+}
+
+fn place_in(
+    kind: TableKind,
+    room: usize,
+    words: &[u64],
+    bytes: &[u8],
+    n: usize,
+    table: u16,
+    index: u64,
+) -> Place
+    requires { ⌜ overlayKept kind room (overlayOf room (now words) (now bytes) n) ≡ true ⌝ }
+    ensures { λ r. ⌜ (r ≡ placeOf kind (overlayOf room (now (words .entry)) (now (bytes .entry)) n) (rank table index)) × (r .at ≤ length (now (bytes .entry))) ⌝ }
+{
+    match overlay::seat_of(room, words, n, table as u64, index) {
+        Seat::Over(p) => Place {
+            found: true,
+            at: overlay::slot_size(kind) * p,
+            length: stored_length(kind, words[4 * p + 3]),
+        },
+        Seat::Next(_) => Place {
+            found: false,
+            at: 0,
+            length: 0,
+        },
+    }
+}
+
+// The same of a kind in its holder's two memories.
+pub(crate) fn place_of(
+    holder: Holder,
+    kind: TableKind,
+    counts: Counts,
+    words: &[u64],
+    bytes: &[u8],
+    table: u16,
+    index: u64,
+) -> Place
+    requires { ⌜ (length (now words) ≡ wordsAll holder) × (length (now bytes) ≡ bytesAll holder) × (overlayKept kind (spanOf holder kind .room) (partOf holder kind counts (now words) (now bytes)) ≡ true) ⌝ }
+    ensures { λ r. ⌜ (r ≡ placeOf kind (partOf holder kind counts (now (words .entry)) (now (bytes .entry))) (rank table index)) × (r .at ≤ length (now (bytes .entry))) ⌝ }
+{
+    let s = memory::span_of(holder, kind);
+    let a = s.words_at;
+    let e = s.words_end;
+    let b = s.bytes_at;
+    let f = s.bytes_end;
+    place_in(
+        kind,
+        s.room,
+        &words[a..e],
+        &bytes[b..f],
+        counts.of(kind),
+        table,
+        index,
+    )
+}

@@ -1,0 +1,5 @@
+-- The laws, for other crates to cite.
+pub mod Laws
+pub mod Heads
+pub mod RoundTrip
+pub mod Rows
