@@ -24,15 +24,15 @@ use Rattle.memory.specs.declared.span.Holder.the-variants as holder
 use Rattle.memory.proofs.Spans.{words-all, bytes-all, of-parts, AllKept, all-shows}
 use Rattle.query.specs.Inner.{foundIn}
 use Rattle.query.proofs.Found.{FoundAt, found, not-found}
-use Rattle.edge_lookups.specs.Lookups.{noPlace, placeBy, placeOf, memoryNumber, spotBy, sharedKept}
+use Rattle.edge_lookups.specs.Lookups.{noPlace, placeBy, storedPlace, memoryNumber, spotBy, sharedKept}
 use Rattle.edge_lookups.specs.declared.place.Place.{Place}
 use Rattle.edge_lookups.specs.declared.lookups.Spotted.{Spotted}
 use Rattle.answer.specs.declared.answer.Answer.the-variants.{Done}
 use Rattle.memory.specs.declared.span.Span.{Span}
 
 -- the bytes in the place are the entry's; where there is none, there is no entry
-pub place-bytes : (kind : TableKind) (room : ℕ) (o : Overlay) → overlayKept kind room o ≡ true → (key : ℕ) → take (placeOf kind o key .length) (drop (placeOf kind o key .at) (o .bytes)) ≡ foundIn kind o key
-unfolding placeOf
+pub place-bytes : (kind : TableKind) (room : ℕ) (o : Overlay) → overlayKept kind room o ≡ true → (key : ℕ) → take (storedPlace kind o key .length) (drop (storedPlace kind o key .at) (o .bytes)) ≡ foundIn kind o key
+unfolding storedPlace
 place-bytes kind room o ok key = by (seatIn o key) refl
   where
     by : (s : Seat) → seatIn o key ≡ s → take (placeBy kind o (seatIn o key) .length) (drop (placeBy kind o (seatIn o key) .at) (o .bytes)) ≡ foundIn kind o key
@@ -41,14 +41,14 @@ place-bytes kind room o ok key = by (seatIn o key) refl
 
 -- the place that the code has
 pub place-over : (kind : TableKind) (room : ℕ) (words bytes : List ℕ) (n key p s u : ℕ) → p < room → seatIn (overlayOf room words bytes n) key ≡ Over p → s ≡ slotSize kind
-    → u ≡ storedLength kind (getD words (4 * p + 3) 0) → record { found = true; at = s * p; length = u } ≡ placeOf kind (overlayOf room words bytes n) key
-unfolding placeOf
+    → u ≡ storedLength kind (getD words (4 * p + 3) 0) → record { found = true; at = s * p; length = u } ≡ storedPlace kind (overlayOf room words bytes n) key
+unfolding storedPlace
 place-over kind room words bytes n key p s u low e d q =
     let m : u ≡ storedLength kind (markAt (take (4 * room) words) p) = q ∙ ap (storedLength kind) (sym (getD-take (4 * room) words (4 * p + 3) 0 (omega arith))) in
     rw (e, d, m)
 
-pub place-none : (kind : TableKind) (o : Overlay) (key j : ℕ) → seatIn o key ≡ Next j → noPlace ≡ placeOf kind o key
-unfolding placeOf
+pub place-none : (kind : TableKind) (o : Overlay) (key j : ℕ) → seatIn o key ≡ Next j → noPlace ≡ storedPlace kind o key
+unfolding storedPlace
 place-none kind o key j e = rw e
 
 pub part-le : (n b : ℕ) (l : List ℕ) → length (take n (drop b l)) ≤ length l

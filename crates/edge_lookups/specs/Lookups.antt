@@ -31,12 +31,14 @@ use Rattle.edge_lookups.specs.declared.lookups.Spotted.{Spotted}
 abbrev pub noPlace : Place
 noPlace = record { found = false; at = 0; length = 0 }
 
+-- where an entry's bytes lie in its kind's part, by its seat
 abbrev pub placeBy : TableKind → Overlay → Seat → Place
 placeBy kind o (Over p) = record { found = true; at = slotSize kind * p; length = storedLength kind (markAt (o .rows) p) }
 placeBy kind o (Next j) = noPlace
 
-unfoldable pub placeOf : TableKind → Overlay → ℕ → Place
-placeOf kind o key = placeBy kind o (seatIn o key)
+-- the same of a key
+unfoldable pub storedPlace : TableKind → Overlay → ℕ → Place
+storedPlace kind o key = placeBy kind o (seatIn o key)
 
 -- an answer that shows nothing
 abbrev pub nowhere : Answer → Spotted
@@ -54,8 +56,9 @@ spotBy h kind p otherwise =
     then record { answer = Done; memory = memoryNumber h; place = spanOf h kind .«bytes_at» + p .at; length = p .length }
     else otherwise
 
-unfoldable pub spotIn : Holder → TableKind → Counts → List ℕ → List ℕ → ℕ → Spotted → Spotted
-spotIn h kind c words bytes key otherwise = spotBy h kind (placeOf kind (partOf h kind c words bytes) key) otherwise
+-- where a key's bytes lie, among one holder's entries of a kind
+unfoldable pub spottedIn : Holder → TableKind → Counts → List ℕ → List ℕ → ℕ → Spotted → Spotted
+spottedIn h kind c words bytes key otherwise = spotBy h kind (storedPlace kind (partOf h kind c words bytes) key) otherwise
 
 -- the shared memories are as long as they should be, and the kind keeps its rules
 unfoldable pub sharedKept : TableKind → Counts → List ℕ → List ℕ → Bool
@@ -65,13 +68,13 @@ sharedKept kind c words bytes =
 -- in the shared overlays alone
 unfoldable pub sharedSpot : TableKind → Counts → List ℕ → List ℕ → ℕ → Spotted
 sharedSpot kind c words bytes key =
-    if sharedKept kind c words bytes then spotIn holder.Shared kind c words bytes key (nowhere Done) else nowhere BadState
+    if sharedKept kind c words bytes then spottedIn holder.Shared kind c words bytes key (nowhere Done) else nowhere BadState
 
 -- "Lookup goes to the local list first, then the shared overlays."
 unfoldable pub listedSpot : TableKind → LogChange → List ℕ → List ℕ → Counts → List ℕ → List ℕ → ℕ → Spotted
 listedSpot kind l items chunks c words bytes key =
     if changeRuled (changeOf l items chunks) && sharedKept kind c words bytes
-    then spotIn holder.List kind (l .counts) items chunks key (spotIn holder.Shared kind c words bytes key (nowhere Done))
+    then spottedIn holder.List kind (l .counts) items chunks key (spottedIn holder.Shared kind c words bytes key (nowhere Done))
     else nowhere BadState
 
 -- `value`: the value that is copied, or 13 where the memories are not as long as they should be
@@ -80,6 +83,7 @@ valueLook o words bytes key =
     if eqb (length words) 3840 && eqb (length bytes) 524288 then sharedLook Value (partOf holder.Shared Value (o .counts) words bytes) key else
     lookedIf false none
 
+-- the value of a key, the list's first
 unfoldable pub valueListedLook : LogChange → List ℕ → List ℕ → LogOverlays → List ℕ → List ℕ → ℕ → Looked
 valueListedLook l items chunks o words bytes key =
     if eqb (length words) 3840 && eqb (length bytes) 524288

@@ -12,7 +12,7 @@ ghost use Rattle.change.specs.Change.{changeOf, changeRuled};
 ghost use Rattle.host_words.specs.Tables.{kindFrom};
 ghost use Rattle.host_words.specs.Change.{listFrom};
 ghost use Rattle.host_words.specs.Overlays.{overlaysFrom};
-ghost use Rattle.edge_lookups.specs.Lookups.{nowhere, memoryNumber, spotIn, sharedKept, sharedSpot, listedSpot};
+ghost use Rattle.edge_lookups.specs.Lookups.{nowhere, memoryNumber, spottedIn, sharedKept, sharedSpot, listedSpot};
 use super::place::place_of;
 use answer::Answer;
 use change::LogChange;
@@ -63,7 +63,7 @@ fn spot_in(
     otherwise: Spotted,
 ) -> Spotted
     requires { ⌜ (length (now words) ≡ wordsAll holder) × (length (now bytes) ≡ bytesAll holder) × (overlayKept kind (spanOf holder kind .room) (partOf holder kind counts (now words) (now bytes)) ≡ true) ⌝ }
-    ensures { λ r. ⌜ r ≡ spotIn holder kind counts (now (words .entry)) (now (bytes .entry)) (rank table index) otherwise ⌝ }
+    ensures { λ r. ⌜ r ≡ spottedIn holder kind counts (now (words .entry)) (now (bytes .entry)) (rank table index) otherwise ⌝ }
 {
     let p = place_of(holder, kind, counts, words, bytes, table, index);
     if !p.found {
@@ -100,7 +100,7 @@ fn shared_spot_kept(
     index: u64,
 ) -> Spotted
     requires { ⌜ sharedKept kind counts (now words) (now bytes) ≡ true ⌝ }
-    ensures { λ r. ⌜ r ≡ spotIn Shared kind counts (now (words .entry)) (now (bytes .entry)) (rank table index) (nowhere Done) ⌝ }
+    ensures { λ r. ⌜ r ≡ spottedIn Shared kind counts (now (words .entry)) (now (bytes .entry)) (rank table index) (nowhere Done) ⌝ }
 {
     let none = no_spot(Answer::Done);
     spot_in(
@@ -127,7 +127,7 @@ fn listed_spot_kept(
     index: u64,
 ) -> Spotted
     requires { ⌜ (changeRuled (changeOf list (now items) (now chunks)) ≡ true) × (sharedKept kind counts (now words) (now bytes) ≡ true) ⌝ }
-    ensures { λ r. ⌜ r ≡ spotIn List kind (list .counts) (now (items .entry)) (now (chunks .entry)) (rank table index) (spotIn Shared kind counts (now (words .entry)) (now (bytes .entry)) (rank table index) (nowhere Done)) ⌝ }
+    ensures { λ r. ⌜ r ≡ spottedIn List kind (list .counts) (now (items .entry)) (now (chunks .entry)) (rank table index) (spottedIn Shared kind counts (now (words .entry)) (now (bytes .entry)) (rank table index) (nowhere Done)) ⌝ }
 {
     let there = shared_spot_kept(kind, counts, words, bytes, table, index);
     let own = list.counts;
@@ -260,10 +260,10 @@ pub extern "C" fn hongsathep_lookup_kept(
     length: &mut u64,
 ) -> u64
     requires { ⌜ sharedKept (kindFrom kind) (overlaysFrom (now overlays) .counts) (now words) (now bytes) ≡ true ⌝ }
-    ensures answer { λ r. ⌜ r ≡ numberOf (spotIn Shared (kindFrom kind) (overlaysFrom (now (overlays .entry)) .counts) (now (words .entry)) (now (bytes .entry)) (rank table index) (nowhere Done) .answer) ⌝ }
-    ensures memory { λ r. ⌜ now (memory .exit) ≡ spotIn Shared (kindFrom kind) (overlaysFrom (now (overlays .entry)) .counts) (now (words .entry)) (now (bytes .entry)) (rank table index) (nowhere Done) .memory ⌝ }
-    ensures place { λ r. ⌜ now (place .exit) ≡ spotIn Shared (kindFrom kind) (overlaysFrom (now (overlays .entry)) .counts) (now (words .entry)) (now (bytes .entry)) (rank table index) (nowhere Done) .place ⌝ }
-    ensures length { λ r. ⌜ now (length .exit) ≡ spotIn Shared (kindFrom kind) (overlaysFrom (now (overlays .entry)) .counts) (now (words .entry)) (now (bytes .entry)) (rank table index) (nowhere Done) .length ⌝ }
+    ensures answer { λ r. ⌜ r ≡ numberOf (spottedIn Shared (kindFrom kind) (overlaysFrom (now (overlays .entry)) .counts) (now (words .entry)) (now (bytes .entry)) (rank table index) (nowhere Done) .answer) ⌝ }
+    ensures memory { λ r. ⌜ now (memory .exit) ≡ spottedIn Shared (kindFrom kind) (overlaysFrom (now (overlays .entry)) .counts) (now (words .entry)) (now (bytes .entry)) (rank table index) (nowhere Done) .memory ⌝ }
+    ensures place { λ r. ⌜ now (place .exit) ≡ spottedIn Shared (kindFrom kind) (overlaysFrom (now (overlays .entry)) .counts) (now (words .entry)) (now (bytes .entry)) (rank table index) (nowhere Done) .place ⌝ }
+    ensures length { λ r. ⌜ now (length .exit) ≡ spottedIn Shared (kindFrom kind) (overlaysFrom (now (overlays .entry)) .counts) (now (words .entry)) (now (bytes .entry)) (rank table index) (nowhere Done) .length ⌝ }
 {
     let counts = overlays_of(overlays).counts;
     let spot = shared_spot_kept(kind_of(kind), counts, words, bytes, table, index);
@@ -290,10 +290,10 @@ pub extern "C" fn hongsathep_lookup_listed_kept(
     length: &mut u64,
 ) -> u64
     requires { ⌜ (changeRuled (changeOf (listFrom (now list)) (now items) (now chunks)) ≡ true) × (sharedKept (kindFrom kind) (overlaysFrom (now overlays) .counts) (now words) (now bytes) ≡ true) ⌝ }
-    ensures answer { λ r. ⌜ r ≡ numberOf (spotIn List (kindFrom kind) (listFrom (now (list .entry)) .counts) (now (items .entry)) (now (chunks .entry)) (rank table index) (spotIn Shared (kindFrom kind) (overlaysFrom (now (overlays .entry)) .counts) (now (words .entry)) (now (bytes .entry)) (rank table index) (nowhere Done)) .answer) ⌝ }
-    ensures memory { λ r. ⌜ now (memory .exit) ≡ spotIn List (kindFrom kind) (listFrom (now (list .entry)) .counts) (now (items .entry)) (now (chunks .entry)) (rank table index) (spotIn Shared (kindFrom kind) (overlaysFrom (now (overlays .entry)) .counts) (now (words .entry)) (now (bytes .entry)) (rank table index) (nowhere Done)) .memory ⌝ }
-    ensures place { λ r. ⌜ now (place .exit) ≡ spotIn List (kindFrom kind) (listFrom (now (list .entry)) .counts) (now (items .entry)) (now (chunks .entry)) (rank table index) (spotIn Shared (kindFrom kind) (overlaysFrom (now (overlays .entry)) .counts) (now (words .entry)) (now (bytes .entry)) (rank table index) (nowhere Done)) .place ⌝ }
-    ensures length { λ r. ⌜ now (length .exit) ≡ spotIn List (kindFrom kind) (listFrom (now (list .entry)) .counts) (now (items .entry)) (now (chunks .entry)) (rank table index) (spotIn Shared (kindFrom kind) (overlaysFrom (now (overlays .entry)) .counts) (now (words .entry)) (now (bytes .entry)) (rank table index) (nowhere Done)) .length ⌝ }
+    ensures answer { λ r. ⌜ r ≡ numberOf (spottedIn List (kindFrom kind) (listFrom (now (list .entry)) .counts) (now (items .entry)) (now (chunks .entry)) (rank table index) (spottedIn Shared (kindFrom kind) (overlaysFrom (now (overlays .entry)) .counts) (now (words .entry)) (now (bytes .entry)) (rank table index) (nowhere Done)) .answer) ⌝ }
+    ensures memory { λ r. ⌜ now (memory .exit) ≡ spottedIn List (kindFrom kind) (listFrom (now (list .entry)) .counts) (now (items .entry)) (now (chunks .entry)) (rank table index) (spottedIn Shared (kindFrom kind) (overlaysFrom (now (overlays .entry)) .counts) (now (words .entry)) (now (bytes .entry)) (rank table index) (nowhere Done)) .memory ⌝ }
+    ensures place { λ r. ⌜ now (place .exit) ≡ spottedIn List (kindFrom kind) (listFrom (now (list .entry)) .counts) (now (items .entry)) (now (chunks .entry)) (rank table index) (spottedIn Shared (kindFrom kind) (overlaysFrom (now (overlays .entry)) .counts) (now (words .entry)) (now (bytes .entry)) (rank table index) (nowhere Done)) .place ⌝ }
+    ensures length { λ r. ⌜ now (length .exit) ≡ spottedIn List (kindFrom kind) (listFrom (now (list .entry)) .counts) (now (items .entry)) (now (chunks .entry)) (rank table index) (spottedIn Shared (kindFrom kind) (overlaysFrom (now (overlays .entry)) .counts) (now (words .entry)) (now (bytes .entry)) (rank table index) (nowhere Done)) .length ⌝ }
 {
     let counts = overlays_of(overlays).counts;
     let spot = listed_spot_kept(

@@ -6,7 +6,7 @@ ghost use lib.ListN.{length};
 ghost use Rattle.keys.specs.Keys.{rank};
 ghost use Rattle.overlay.specs.Rules.{storedLength, overlayOf, overlayKept};
 ghost use Rattle.memory.specs.Parts.{spanOf, wordsAll, bytesAll, partOf};
-ghost use Rattle.edge_lookups.specs.Lookups.{placeOf};
+ghost use Rattle.edge_lookups.specs.Lookups.{storedPlace};
 use directory::TableKind;
 use memory::Counts;
 use memory::Holder;
@@ -38,7 +38,7 @@ fn place_in(
     index: u64,
 ) -> Place
     requires { ⌜ overlayKept kind room (overlayOf room (now words) (now bytes) n) ≡ true ⌝ }
-    ensures { λ r. ⌜ (r ≡ placeOf kind (overlayOf room (now (words .entry)) (now (bytes .entry)) n) (rank table index)) × (r .at ≤ length (now (bytes .entry))) ⌝ }
+    ensures { λ r. ⌜ (r ≡ storedPlace kind (overlayOf room (now (words .entry)) (now (bytes .entry)) n) (rank table index)) × (r .at ≤ length (now (bytes .entry))) ⌝ }
 {
     match overlay::seat_of(room, words, n, table as u64, index) {
         Seat::Over(p) => Place {
@@ -65,7 +65,7 @@ pub(crate) fn place_of(
     index: u64,
 ) -> Place
     requires { ⌜ (length (now words) ≡ wordsAll holder) × (length (now bytes) ≡ bytesAll holder) × (overlayKept kind (spanOf holder kind .room) (partOf holder kind counts (now words) (now bytes)) ≡ true) ⌝ }
-    ensures { λ r. ⌜ (r ≡ placeOf kind (partOf holder kind counts (now (words .entry)) (now (bytes .entry))) (rank table index)) × (r .at ≤ length (now (bytes .entry))) ⌝ }
+    ensures { λ r. ⌜ (r ≡ storedPlace kind (partOf holder kind counts (now (words .entry)) (now (bytes .entry))) (rank table index)) × (r .at ≤ length (now (bytes .entry))) ⌝ }
 {
     let s = memory::span_of(holder, kind);
     let a = s.words_at;

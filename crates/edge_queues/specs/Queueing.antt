@@ -14,6 +14,7 @@ use Rattle.files.specs.declared.open.Opened.{Opened}
 use Rattle.files.specs.declared.read.ReadNext.{ReadNext}
 use Rattle.host_queues.specs.Queues.{queuesFrom}
 
+-- a refusal of `open` that leaves the queues as they are
 abbrev pub notOpened : Queues → Opened
 notOpened q = record { answer = BadState; «remove_count» = 0; queues = q }
 
@@ -29,6 +30,7 @@ readNextIn w log position validate words =
     if eqb words 5 then readNext (queuesFrom w) log position validate else
     notRead BadState (readerAt position validate) (queuesFrom w)
 
+-- the same without the queues' test
 unfoldable pub readNextKeptIn : List ℕ → List ℕ → ℕ → Bool → ℕ → ReadNext
 readNextKeptIn w log position validate words =
     if eqb words 5 then readNextKept (queuesFrom w) log position validate else

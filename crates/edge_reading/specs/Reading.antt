@@ -26,14 +26,14 @@ abbrev pub keptNumber : Bool → ℕ
 keptNumber kept = if kept then 0 else 13
 
 -- the table that an action names; 0 where it names none
-abbrev pub tableIn : LogAction → ℕ
-tableIn BeginRecord = 0
-tableIn (InsertIndex a) = a .table .0
-tableIn (InsertValue a) = a .table .0
-tableIn (InsertRefCount a) = a .table .0
-tableIn (DropTable t) = t .0
-tableIn (DropRefCountTable t) = t .0
-tableIn EndRecord = 0
+abbrev pub rowWords : LogAction → ℕ
+rowWords BeginRecord = 0
+rowWords (InsertIndex a) = a .table .0
+rowWords (InsertValue a) = a .table .0
+rowWords (InsertRefCount a) = a .table .0
+rowWords (DropTable t) = t .0
+rowWords (DropRefCountTable t) = t .0
+rowWords EndRecord = 0
 
 -- the index
 abbrev pub indexIn : LogAction → ℕ
@@ -48,7 +48,7 @@ indexIn EndRecord = 0
 -- an action in numbers: its tag, its table and index, where its payload starts and how long it is; all 0 after a refusal
 abbrev pub actionNumbers : Step → ActionNumbers
 actionNumbers (Took s) =
-    record { tag = tagOf (s .action); table = tableIn (s .action); index = indexIn (s .action); start = s .start; length = s .length }
+    record { tag = tagOf (s .action); table = rowWords (s .action); index = indexIn (s .action); start = s .start; length = s .length }
 actionNumbers (Refused x) = record { tag = 0; table = 0; index = 0; start = 0; length = 0 }
 
 -- the reader's words after a step: those of the reader behind the action, or as they were
@@ -60,6 +60,7 @@ readerLeft w (Refused x) = w
 unfoldable pub nextIn : List ℕ → List ℕ → List ℕ → Step
 nextIn tables log w = if readerFormed w then nextOf (directoryFrom tables) log (readerFrom w) else refused BadState
 
+-- the same without the directory's test
 unfoldable pub stepIn : List ℕ → List ℕ → List ℕ → Step
 stepIn tables log w = if readerFormed w then stepOf (directoryFrom tables) log (readerFrom w) else refused BadState
 

@@ -8,7 +8,7 @@ ghost use Rattle.host_words.specs.Head.{headRoom, headAfter};
 ghost use Rattle.host_words.specs.Reader.{readerSize, readerWords};
 ghost use Rattle.answer.specs.Answer.{numberOf};
 ghost use Rattle.answer.specs.declared.answer.Answer.the-variants.{BadState};
-ghost use Rattle.edge_reading.specs.Reading.{tableIn, indexIn, actionNumbers, readerLeft, nextIn, stepIn};
+ghost use Rattle.edge_reading.specs.Reading.{rowWords, indexIn, actionNumbers, readerLeft, nextIn, stepIn};
 use answer::Answer;
 use answer::Refusal;
 use host_words::directory_of;
@@ -31,7 +31,7 @@ pub struct ActionNumbers {
 }
 
 fn table_in(action: LogAction) -> u16
-    ensures { λ r. ⌜ r ≡ tableIn action ⌝ }
+    ensures { λ r. ⌜ r ≡ rowWords action ⌝ }
 {
     match action {
         LogAction::BeginRecord => 0,

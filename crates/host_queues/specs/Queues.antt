@@ -13,6 +13,7 @@ use Rattle.files.specs.Moves.{queuesOf, noFiles, withReadQueue}
 use Rattle.files.specs.declared.queues.Queues.{Queues}
 use Rattle.host_words.specs.Head.{flagFrom}
 
+-- how many words
 abbrev pub queuesSize : ℕ
 queuesSize = 331
 
@@ -26,6 +27,7 @@ queuesFormed w =
 abbrev pub numbersFrom : List ℕ → ℕ → List ℕ
 numbersFrom w at = take 64 (drop at w)
 
+-- a queue from a place on: its count, then its numbers
 abbrev pub queueFrom : List ℕ → ℕ → NumberQueue
 queueFrom w at = record { count = getD w at 0; numbers = numbersFrom w (at + 1) }
 
@@ -33,6 +35,7 @@ queueFrom w at = record { count = getD w at 0; numbers = numbersFrom w (at + 1) 
 abbrev pub brokenQueues : Queues
 brokenQueues = withReadQueue noFiles (record { count = 65; numbers = replicate 64 0 })
 
+-- the queues that well-formed words are
 abbrev pub queuesIn : List ℕ → Queues
 queuesIn w =
     queuesOf (record { some = flagFrom (getD w 0 0); id = getD w 1 0; size = getD w 2 0 }) (queueFrom w 3)
@@ -43,6 +46,7 @@ queuesIn w =
 unfoldable pub queuesFrom : List ℕ → Queues
 queuesFrom w = if queuesFormed w then queuesIn w else brokenQueues
 
+-- a queue as words
 abbrev pub queueWords : NumberQueue → List ℕ
 queueWords q = q .count ∷ q .numbers
 
@@ -52,6 +56,7 @@ frontWords q =
     (oneIf (q .appending .some) ∷ q .appending .id ∷ q .appending .size ∷ []) ++ queueWords (q .«read_queue»)
     ++ (oneIf (q .reading .some) ∷ q .reading .id ∷ [])
 
+-- cleanup, pool and replay queue as words
 abbrev pub behindWords : Queues → List ℕ
 behindWords q = queueWords (q .«cleanup_queue») ++ queueWords (q .«log_pool») ++ queueWords (q .«replay_queue»)
 

@@ -13,6 +13,7 @@ use Rattle.change.specs.Change.{Change, noDrops}
 use Rattle.change.specs.declared.drops.Drops.{Drops}
 use Rattle.change.specs.declared.change.LogChange.{LogChange}
 
+-- how many words
 abbrev pub listSize : ℕ
 listSize = 38
 
@@ -20,6 +21,7 @@ listSize = 38
 abbrev pub tablesFrom : List ℕ → ℕ → List ℕ
 tablesFrom w at = take 16 (drop at w)
 
+-- drops from a place on: their count, then the tables
 abbrev pub dropsFrom : List ℕ → ℕ → Drops
 dropsFrom w at = record { tables = tablesFrom w (at + 1); count = getD w at 0 }
 
@@ -40,6 +42,7 @@ brokenList = record {
   «dropped_ref_count_tables» = noDrops;
 }
 
+-- the list that well-formed words are
 abbrev pub listIn : List ℕ → LogChange
 listIn w = record {
   «record_id» = getD w 0 0;
@@ -52,9 +55,11 @@ listIn w = record {
 unfoldable pub listFrom : List ℕ → LogChange
 listFrom w = if listFormed w then listIn w else brokenList
 
+-- three counts as words
 abbrev pub countsWords : Counts → List ℕ
 countsWords c = c .index ∷ c .value ∷ c .«ref_count» ∷ []
 
+-- drops as words
 abbrev pub dropsWords : Drops → List ℕ
 dropsWords s = s .count ∷ s .tables
 

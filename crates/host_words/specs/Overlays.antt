@@ -10,6 +10,7 @@ use Rattle.memory.specs.declared.counts.Counts.{Counts}
 use Rattle.memory.specs.declared.overlays.LogOverlays.{LogOverlays}
 use Rattle.host_words.specs.Change.{countsFrom, countsWords, countsIn}
 
+-- how many words
 abbrev pub overlaysSize : ℕ
 overlaysSize = 11
 
@@ -17,6 +18,7 @@ overlaysSize = 11
 abbrev pub brokenOverlays : LogOverlays
 brokenOverlays = record { counts = record { index = 257; value = 257; «ref_count» = 257 }; «last_record_ids» = replicate 8 0 }
 
+-- a head from its counts and last ids
 abbrev pub overlaysHead : Counts → List ℕ → LogOverlays
 overlaysHead counts ids = record { counts = counts; «last_record_ids» = ids }
 

@@ -8,6 +8,7 @@ use Rattle.numbers.specs.Numbers.{oneIf}
 use Rattle.record.specs.declared.reader.LogReader.{LogReader}
 use Rattle.host_words.specs.Head.{flagFrom}
 
+-- how many words
 abbrev pub readerSize : ℕ
 readerSize = 5
 
@@ -15,6 +16,7 @@ readerSize = 5
 unfoldable pub readerFormed : List ℕ → Bool
 readerFormed w = eqb (length w) 5 && (ltb (getD w 2 0) 4294967296 && (ltb (getD w 3 0) 2 && ltb (getD w 4 0) 2))
 
+-- the reader that such words are
 abbrev pub readerFrom : List ℕ → LogReader
 readerFrom w = record {
   position = getD w 0 0;
@@ -24,5 +26,6 @@ readerFrom w = record {
   inside = flagFrom (getD w 4 0);
 }
 
+-- and back
 abbrev pub readerWords : LogReader → List ℕ
 readerWords r = r .position ∷ r .record_id ∷ r .crc32 ∷ oneIf (r .validate) ∷ oneIf (r .inside) ∷ []

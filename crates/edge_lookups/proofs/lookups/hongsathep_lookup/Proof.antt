@@ -9,7 +9,7 @@ use Rattle.directory.specs.declared.table.TableKind.{TableKind}
 use Rattle.memory.specs.declared.span.Holder.the-variants as holder
 use Rattle.change.specs.Change.{changeOf, changeRuled}
 use Rattle.host_words.specs.Tables.{kindFrom}
-use Rattle.edge_lookups.specs.Lookups.{nowhere, spotIn, sharedKept, sharedSpot, listedSpot}
+use Rattle.edge_lookups.specs.Lookups.{nowhere, spottedIn, sharedKept, sharedSpot, listedSpot}
 use Rattle.edge_lookups.specs.declared.lookups.Spotted.{Spotted}
 use borrow.Author.Needs.{needs}
 use Rattle.edge_lookups.proofs.lookups.hongsathep_lookup.Statement.{statement}

@@ -9,7 +9,7 @@ use Rattle.directory.specs.declared.table.TableKind.{TableKind}
 use Rattle.memory.specs.declared.span.Holder.the-variants as holder
 use Rattle.change.specs.Change.{changeOf, changeRuled}
 use Rattle.host_words.specs.Tables.{kindFrom}
-use Rattle.edge_lookups.specs.Lookups.{nowhere, spotIn, sharedKept, sharedSpot, listedSpot}
+use Rattle.edge_lookups.specs.Lookups.{nowhere, spottedIn, sharedKept, sharedSpot, listedSpot}
 use Rattle.edge_lookups.specs.declared.lookups.Spotted.{Spotted}
 use Rattle.host_words.specs.Overlays.{overlaysFrom}
 use borrow.Author.Needs.{needs}
@@ -47,8 +47,8 @@ number-requires c κs = search needs
 returns : tie.Need-returns
 returns c =
     let e = c .before .listed-spot-kept .ensures
-    ∙ ap₂ (λ (k : TableKind) (o : LogOverlays). spotIn holder.List k ((c .before .before .list-of .result) .counts) (c .before .before .before .before .before .before .before .before .before .before .before .before .args .items .now) (c .before .before .before .before .before .before .before .before .before .before .before .before .args .chunks .now) (rank (c .before .before .before .before .before .before .before .before .before .before .before .before .args .table) (c .before .before .before .before .before .before .before .before .before .before .before .before .args .index)) (spotIn holder.Shared k (o .counts) (c .before .before .before .before .before .before .before .before .before .before .before .before .args .words .now) (c .before .before .before .before .before .before .before .before .before .before .before .before .args .bytes .now) (rank (c .before .before .before .before .before .before .before .before .before .before .before .before .args .table) (c .before .before .before .before .before .before .before .before .before .before .before .before .args .index)) (nowhere Done))) (c .before .before .before .kind-of .ensures) (c .before .before .before .before .before .overlays-of .ensures)
-    ∙ ap (λ (l : LogChange). spotIn holder.List (kindFrom (c .before .before .before .before .before .before .before .before .before .before .before .before .args .kind)) (l .counts) (c .before .before .before .before .before .before .before .before .before .before .before .before .args .items .now) (c .before .before .before .before .before .before .before .before .before .before .before .before .args .chunks .now) (rank (c .before .before .before .before .before .before .before .before .before .before .before .before .args .table) (c .before .before .before .before .before .before .before .before .before .before .before .before .args .index)) (spotIn holder.Shared (kindFrom (c .before .before .before .before .before .before .before .before .before .before .before .before .args .kind)) ((overlaysFrom (c .before .before .before .before .before .before .before .before .before .before .before .before .args .overlays .now)) .counts) (c .before .before .before .before .before .before .before .before .before .before .before .before .args .words .now) (c .before .before .before .before .before .before .before .before .before .before .before .before .args .bytes .now) (rank (c .before .before .before .before .before .before .before .before .before .before .before .before .args .table) (c .before .before .before .before .before .before .before .before .before .before .before .before .args .index)) (nowhere Done))) (c .before .before .list-of .ensures) in (
+    ∙ ap₂ (λ (k : TableKind) (o : LogOverlays). spottedIn holder.List k ((c .before .before .list-of .result) .counts) (c .before .before .before .before .before .before .before .before .before .before .before .before .args .items .now) (c .before .before .before .before .before .before .before .before .before .before .before .before .args .chunks .now) (rank (c .before .before .before .before .before .before .before .before .before .before .before .before .args .table) (c .before .before .before .before .before .before .before .before .before .before .before .before .args .index)) (spottedIn holder.Shared k (o .counts) (c .before .before .before .before .before .before .before .before .before .before .before .before .args .words .now) (c .before .before .before .before .before .before .before .before .before .before .before .before .args .bytes .now) (rank (c .before .before .before .before .before .before .before .before .before .before .before .before .args .table) (c .before .before .before .before .before .before .before .before .before .before .before .before .args .index)) (nowhere Done))) (c .before .before .before .kind-of .ensures) (c .before .before .before .before .before .overlays-of .ensures)
+    ∙ ap (λ (l : LogChange). spottedIn holder.List (kindFrom (c .before .before .before .before .before .before .before .before .before .before .before .before .args .kind)) (l .counts) (c .before .before .before .before .before .before .before .before .before .before .before .before .args .items .now) (c .before .before .before .before .before .before .before .before .before .before .before .before .args .chunks .now) (rank (c .before .before .before .before .before .before .before .before .before .before .before .before .args .table) (c .before .before .before .before .before .before .before .before .before .before .before .before .args .index)) (spottedIn holder.Shared (kindFrom (c .before .before .before .before .before .before .before .before .before .before .before .before .args .kind)) ((overlaysFrom (c .before .before .before .before .before .before .before .before .before .before .before .before .args .overlays .now)) .counts) (c .before .before .before .before .before .before .before .before .before .before .before .before .args .words .now) (c .before .before .before .before .before .before .before .before .before .before .before .before .args .bytes .now) (rank (c .before .before .before .before .before .before .before .before .before .before .before .before .args .table) (c .before .before .before .before .before .before .before .before .before .before .before .before .args .index)) (nowhere Done))) (c .before .before .list-of .ensures) in (
       c .number .ensures ∙ ap (λ (x : Spotted). numberOf (x .answer)) e,
       (
         ap (λ (x : Spotted). x .memory) e,

@@ -4,7 +4,7 @@ use Rattle.keys.specs.Keys.{rank}
 use Rattle.memory.specs.declared.span.Holder.the-variants as holder
 use Rattle.change.specs.Change.{changeOf}
 use Rattle.change.proofs.Rules.{ruled-parts}
-use Rattle.edge_lookups.specs.Lookups.{spotIn}
+use Rattle.edge_lookups.specs.Lookups.{spottedIn}
 use Rattle.edge_lookups.proofs.Places.{Ready, all-ready}
 use borrow.Author.Needs.{needs}
 use Rattle.edge_lookups.proofs.lookups.listed_spot_kept.Statement.{statement}
@@ -29,7 +29,7 @@ spot-in-requires c κs =
 returns : tie.Need-returns
 returns c =
     let a = c .before .before .before .before .before .before .before .args in
-    c .spot-in .ensures ∙ ap (spotIn holder.List (a .kind) (a .list .counts) (a .items .now) (a .chunks .now) (rank (a .table) (a .index))) (c .before .before .shared-spot-kept .ensures)
+    c .spot-in .ensures ∙ ap (spottedIn holder.List (a .kind) (a .list .counts) (a .items .now) (a .chunks .now) (rank (a .table) (a .index))) (c .before .before .shared-spot-kept .ensures)
 
 pub listed-spot-kept-spec : {M : Type 1} → statement M
 listed-spot-kept-spec = tie.close (tie.spec shared-spot-kept-requires spot-in-requires returns)

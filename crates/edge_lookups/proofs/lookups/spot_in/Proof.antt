@@ -4,7 +4,7 @@ use mathlib.Core.Bool.{true, false}
 use native.Mathlib.Omega.{arith}
 use borrow.Author.Tests.{not-true, not-false}
 use Rattle.memory.specs.declared.span.Span.{Span}
-use Rattle.edge_lookups.specs.Lookups.{spotIn}
+use Rattle.edge_lookups.specs.Lookups.{spottedIn}
 use Rattle.edge_lookups.specs.declared.place.Place.{Place}
 use Rattle.edge_lookups.proofs.Places.{span-low, bytes-low, spot-none, spot-some}
 use borrow.Author.Needs.{needs}
@@ -22,7 +22,7 @@ place-of-requires c κs = search needs
 
 -- src/lookups.rt:70:9
 returns : tie.Need-returns
-unfolding spotIn
+unfolding spottedIn
 returns c = spot-none (c .before .before .before .before .before .args .holder) (c .before .before .before .before .before .args .kind) (c .before .before .place-of .result) _ (c .before .before .place-of .ensures .0) (c .before .before .before .before .before .args .otherwise) (not-true _ (c .if1 .taken))
 
 -- src/lookups.rt:72:9
@@ -39,7 +39,7 @@ add-t14 c = omega (arith, c .before .before .before .before .before .before .pla
 
 -- src/lookups.rt:55:1
 returns-2 : tie.Need-returns-2
-unfolding spotIn
+unfolding spottedIn
 returns-2 c =
     spot-some (c .before .before .before .before .before .before .before .before .before .args .holder) (c .before .before .before .before .before .before .before .before .before .args .kind) (c .before .before .before .before .before .before .place-of .result) _ (c .before .before .before .before .before .before .place-of .ensures .0) (c .before .before .before .before .before .before .before .before .before .args .otherwise) (not-false _ (c .before .before .before .before .if1 .left)) (c .before .before .memory-number .result) (c .before .before .memory-number .ensures) (c .before .before .before .span-of .result) (c .before .before .before .span-of .ensures)
 

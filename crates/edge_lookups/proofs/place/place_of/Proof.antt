@@ -7,7 +7,7 @@ use lib.ListN.{length}
 use Rattle.keys.specs.Keys.{rank}
 use Rattle.overlay.specs.Rules.{Overlay}
 use Rattle.memory.proofs.Lent.{Fits, fits, lent-is, kept-as}
-use Rattle.edge_lookups.specs.Lookups.{placeOf}
+use Rattle.edge_lookups.specs.Lookups.{storedPlace}
 use Rattle.edge_lookups.proofs.Places.{part-le}
 use borrow.Author.Needs.{needs}
 use Rattle.edge_lookups.proofs.place.place_of.Statement.{statement}
@@ -65,7 +65,7 @@ returns : tie.Need-returns
 returns c =
     let a = c .before .before .before .before .before .before .before .args in
     let s = c .before .before .before .before .span-of .result in (
-      c .place-in .ensures .0 ∙ ap (λ (o : Overlay). placeOf (a .kind) o (rank (a .table) (a .index))) (lent-is (a .holder) (a .kind) (a .counts) (now (a .words)) (now (a .bytes)) s (c .before .before .before .before .span-of .ensures) (c .before .of .result) (c .before .of .ensures)),
+      c .place-in .ensures .0 ∙ ap (λ (o : Overlay). storedPlace (a .kind) o (rank (a .table) (a .index))) (lent-is (a .holder) (a .kind) (a .counts) (now (a .words)) (now (a .bytes)) s (c .before .before .before .before .span-of .ensures) (c .before .of .result) (c .before .of .ensures)),
       omega (arith, c .place-in .ensures .1, part-le (s .«bytes_end» - s .«bytes_at») (s .«bytes_at») (now (a .bytes))),
     )
 
