@@ -1,0 +1,1 @@
+//! Nothing but tests: the crate `hongsathep` beside the Rust.

@@ -1,0 +1,10 @@
+//! The tests of the crate, in one program.
+
+mod cut;
+mod folder;
+mod hostile;
+mod kill;
+mod protocol;
+mod sample;
+mod script;
+mod text;
