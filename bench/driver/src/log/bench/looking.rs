@@ -1,0 +1,92 @@
+//! Lookups of values and chunks, in the shared overlays and in a list before them.
+use super::super::*;
+use super::figures::{best, Figures};
+use super::host::{index_table, value_table};
+use super::port::{self, Door, Listed, Look, Shared, What, DOORS};
+use super::tables::{Tables, VALUE};
+use super::{host, Setting};
+use std::hint::black_box;
+
+const TIMES: u64 = 20_000;
+
+/// ns of one lookup, the calls before the loop taken off.
+fn each(mut look: impl FnMut(u64)) -> f64 {
+    let base = best(|| look(1));
+    (best(|| look(TIMES + 1)) - base) * 1e9 / TIMES as f64
+}
+
+fn rust_each(mut look: impl FnMut(u64)) -> f64 {
+    best(|| {
+        for i in 0..TIMES {
+            look(black_box(i * 97));
+        }
+    }) * 1e9
+        / TIMES as f64
+}
+
+/// ns of one lookup where so many keys are shared.
+pub fn shared(keys: usize, what: What, door: Door) -> f64 {
+    let mut s = Shared::with(keys);
+    let found = match what {
+        What::WithIndex => 512,
+        What::Value => 1,
+        What::ValueRef => VALUE as u64,
+    };
+    each(|n| {
+        assert_eq!(
+            port::look(&mut s, door, Look { what, from: 0, span: keys as u64 }, n),
+            n * found
+        )
+    })
+}
+
+pub fn rows(setting: &Setting, f: &mut Figures) {
+    let l = Listed::new();
+    host::place(&setting.folder, &[]);
+    let log = host::open(&setting.folder);
+    host::fill_shared(&log, 255, &l.data);
+    let mut dest = [0u8; VALUE];
+    for (what, name) in
+        [(What::WithIndex, "with_index"), (What::Value, "value"), (What::ValueRef, "value_ref")]
+    {
+        let rust = rust_each(|i| {
+            assert!(match what {
+                What::WithIndex =>
+                    black_box(log.overlays().with_index(index_table(), i % 255, |c| c.0[0]))
+                        .is_some(),
+                What::Value => black_box(log.overlays().value(value_table(), i % 255, &mut dest)),
+                What::ValueRef =>
+                    black_box(log.overlays().value_ref(value_table(), i % 255)).is_some(),
+            })
+        });
+        for (door, which) in DOORS {
+            f.time(&format!("{name}, 255 keys shared{which}"), shared(255, what, door), rust);
+        }
+    }
+    listed(f, &log, l);
+}
+
+fn listed(f: &mut Figures, log: &Log, mut l: Listed) {
+    let t = Tables::three().words();
+    let mut s = Shared::with(255);
+    let mut w = LogWriter::new(&log.overlays, 9);
+    for k in 0..32 {
+        w.insert_value(value_table(), 223 + k, l.data[..VALUE].to_vec());
+    }
+    let mut dest = [0u8; VALUE];
+    for (name, from, span, found) in [
+        ("found in the shared", 0, 223, true),
+        ("found in the list", 223, 32, true),
+        ("not found", 1000, 255, false),
+    ] {
+        let rust = rust_each(|i| {
+            assert_eq!(black_box(w.value(value_table(), from + i % span, &mut dest)), found)
+        });
+        for (door, which) in DOORS {
+            let look = Look { what: What::Value, from, span };
+            let ours =
+                each(|n| assert_eq!(l.look(&t, &mut s, door, look, n), if found { n } else { 0 }));
+            f.time(&format!("value, a list of 32 first, {name}{which}"), ours, rust);
+        }
+    }
+}

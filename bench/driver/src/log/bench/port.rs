@@ -1,0 +1,425 @@
+//! The functions of ../../../../calls.rt.txt, as the compiler of `rt try` leaves them: a slice goes as the address of its address and length.
+//! Each wrapper compares what is answered.
+use super::made::RECORD;
+
+#[repr(C)]
+pub struct Slice(*const u8, usize);
+
+pub fn lent<T>(x: &[T]) -> Slice {
+    Slice(x.as_ptr() as *const u8, x.len())
+}
+
+pub fn open<T>(x: &mut [T]) -> Slice {
+    Slice(x.as_mut_ptr() as *const u8, x.len())
+}
+
+pub type S<'a> = &'a Slice;
+
+extern "C" {
+    fn bench_checksum(bytes: S) -> u32;
+    fn bench_next(tables: S, log: S, validate: u64, kept: u64, r: S);
+    fn bench_run(tables: S, log: S, expected: u64, image: S, r: S);
+    fn bench_check(tables: S, log: S, r: S);
+    fn bench_fill(tables: S, items: S, chunks: S, data: S, kept: u64, times: u64, r: S);
+    fn bench_insert(
+        tables: S,
+        items: S,
+        chunks: S,
+        data: S,
+        kept: u64,
+        kind: u64,
+        each: u64,
+        stride: u64,
+        times: u64,
+        r: S,
+    );
+    fn bench_flush(tables: S, items: S, chunks: S, data: S, kept: u64, out: S, times: u64, r: S);
+    fn bench_write(
+        tables: S,
+        items: S,
+        chunks: S,
+        data: S,
+        head: S,
+        words: S,
+        bytes: S,
+        kept: u64,
+        log: S,
+        count: u64,
+        r: S,
+    );
+    fn bench_end(
+        tables: S,
+        items: S,
+        chunks: S,
+        data: S,
+        head: S,
+        words: S,
+        bytes: S,
+        kept: u64,
+        out: S,
+        times: u64,
+        r: S,
+    );
+    fn bench_clear(
+        tables: S,
+        log: S,
+        head: S,
+        words: S,
+        bytes: S,
+        kept: u64,
+        first: u64,
+        count: u64,
+        r: S,
+    );
+    fn bench_shared(
+        head: S,
+        words: S,
+        bytes: S,
+        kept: u64,
+        what: u64,
+        last: usize,
+        from: u64,
+        span: u64,
+        times: u64,
+        dest: S,
+        r: S,
+    );
+    fn bench_listed(
+        tables: S,
+        items: S,
+        chunks: S,
+        data: S,
+        head: S,
+        words: S,
+        bytes: S,
+        kept: u64,
+        what: u64,
+        last: usize,
+        from: u64,
+        span: u64,
+        times: u64,
+        dest: S,
+        r: S,
+    );
+    fn bench_files(log: S, kept: u64, times: u64, r: S);
+}
+
+/// Through which door: the call tests the rules first, or its caller answers for them.
+#[derive(Clone, Copy, PartialEq)]
+pub enum Door {
+    Tested,
+    Kept,
+}
+
+pub const DOORS: [(Door, &str); 2] = [(Door::Tested, ""), (Door::Kept, ", second door")];
+
+/// The memories of the shared overlays: 256 keys of each kind.
+#[derive(Clone)]
+pub struct Shared {
+    pub head: Vec<u64>,
+    pub words: Vec<u64>,
+    pub bytes: Vec<u8>,
+}
+
+impl Shared {
+    pub fn new() -> Shared {
+        Shared { head: vec![0; 11], words: vec![0; 3840], bytes: vec![0; 524288] }
+    }
+
+    /// So many keys of each kind, in tables 1, 2 and 3.
+    pub fn with(keys: usize) -> Shared {
+        let mut s = Shared::new();
+        for kind in 0..3 {
+            s.head[kind] = keys as u64;
+            let part = &mut s.words[1280 * kind..1280 * (kind + 1)];
+            for p in 0..keys {
+                let mark = if kind == 1 { super::tables::VALUE as u64 } else { 1 };
+                part[4 * p..4 * p + 4].copy_from_slice(&[kind as u64 + 1, p as u64, 1, mark]);
+                part[1024 + p] = p as u64;
+            }
+        }
+        s
+    }
+
+    pub fn keys(&self) -> [u64; 3] {
+        [self.head[0], self.head[1], self.head[2]]
+    }
+
+    pub fn set(&mut self, o: &Shared) {
+        self.head.copy_from_slice(&o.head);
+        self.words.copy_from_slice(&o.words);
+        self.bytes.copy_from_slice(&o.bytes);
+    }
+}
+
+/// The memories of a list, and the bytes that are put in.
+pub struct Listed {
+    pub items: Vec<u64>,
+    pub chunks: Vec<u8>,
+    pub data: Vec<u8>,
+}
+
+impl Listed {
+    pub fn new() -> Listed {
+        Listed {
+            items: vec![0; 400],
+            chunks: vec![0; 49152],
+            data: (0..1024).map(|i| (i * 7) as u8).collect(),
+        }
+    }
+
+    /// Lists of 17 inserts.
+    pub fn fill(&mut self, tables: &[u64], door: Door, times: u64) {
+        let mut r = [0u64; 4];
+        unsafe {
+            bench_fill(
+                &lent(tables),
+                &open(&mut self.items),
+                &open(&mut self.chunks),
+                &lent(&self.data),
+                door as u64,
+                times,
+                &open(&mut r),
+            )
+        };
+        assert_eq!(r[0], 13 * times, "keys listed");
+    }
+
+    /// Lists of so many inserts of a kind.
+    pub fn insert(
+        &mut self,
+        tables: &[u64],
+        door: Door,
+        kind: u64,
+        each: u64,
+        stride: u64,
+        times: u64,
+    ) {
+        let mut r = [0u64; 4];
+        let (items, chunks, data) =
+            (&open(&mut self.items), &open(&mut self.chunks), &lent(&self.data));
+        unsafe {
+            bench_insert(
+                &lent(tables),
+                items,
+                chunks,
+                data,
+                door as u64,
+                kind,
+                each,
+                stride,
+                times,
+                &open(&mut r),
+            )
+        };
+        assert_eq!(r[0], each * times, "keys listed");
+    }
+
+    /// A list of 17 inserts written again and again.
+    pub fn flush(&mut self, tables: &[u64], door: Door, out: &mut [u8], times: u64) {
+        let mut r = [0u64; 4];
+        let (items, chunks, data) =
+            (&open(&mut self.items), &open(&mut self.chunks), &lent(&self.data));
+        unsafe {
+            bench_flush(
+                &lent(tables),
+                items,
+                chunks,
+                data,
+                door as u64,
+                &open(out),
+                times,
+                &open(&mut r),
+            )
+        };
+        assert_eq!(r[0], RECORD as u64 * times, "bytes written");
+    }
+
+    /// Whole records.
+    pub fn write(
+        &mut self,
+        tables: &[u64],
+        s: &mut Shared,
+        door: Door,
+        log: &mut [u8],
+        count: u64,
+    ) {
+        let mut r = [0u64; 4];
+        let (items, chunks, data) =
+            (&open(&mut self.items), &open(&mut self.chunks), &lent(&self.data));
+        let (head, words, bytes) = (&open(&mut s.head), &open(&mut s.words), &open(&mut s.bytes));
+        unsafe {
+            bench_write(
+                &lent(tables),
+                items,
+                chunks,
+                data,
+                head,
+                words,
+                bytes,
+                door as u64,
+                &open(log),
+                count,
+                &open(&mut r),
+            )
+        };
+        assert_eq!(r[..2], [0, RECORD as u64 * count], "answers and bytes of end_record");
+    }
+
+    /// A list of 17 inserts ended again and again.
+    pub fn end(&mut self, tables: &[u64], s: &mut Shared, door: Door, out: &mut [u8], times: u64) {
+        let mut r = [0u64; 4];
+        let (items, chunks, data) =
+            (&open(&mut self.items), &open(&mut self.chunks), &lent(&self.data));
+        let (head, words, bytes) = (&open(&mut s.head), &open(&mut s.words), &open(&mut s.bytes));
+        unsafe {
+            bench_end(
+                &lent(tables),
+                items,
+                chunks,
+                data,
+                head,
+                words,
+                bytes,
+                door as u64,
+                &open(out),
+                times,
+                &open(&mut r),
+            )
+        };
+        assert_eq!(r[..2], [0, RECORD as u64 * times], "answers and bytes of end_record");
+    }
+
+    /// Lookups through a list of 32 values, keys 223 to 254.
+    pub fn look(
+        &mut self,
+        tables: &[u64],
+        s: &mut Shared,
+        door: Door,
+        look: Look,
+        times: u64,
+    ) -> u64 {
+        let (mut r, mut dest) = ([0u64; 4], [0u8; super::tables::VALUE]);
+        let (items, chunks, data) =
+            (&open(&mut self.items), &open(&mut self.chunks), &lent(&self.data));
+        let (words, bytes) = (&open(&mut s.words[1280..2560]), &lent(&s.bytes[131072..262144]));
+        let (what, last) = (look.what as u64, 1023);
+        let dest = &open(&mut dest);
+        unsafe {
+            bench_listed(
+                &lent(tables),
+                items,
+                chunks,
+                data,
+                &lent(&s.head),
+                words,
+                bytes,
+                door as u64,
+                what,
+                last,
+                look.from,
+                look.span,
+                times,
+                dest,
+                &open(&mut r),
+            )
+        };
+        r[0]
+    }
+}
+
+#[derive(Clone, Copy)]
+pub enum What {
+    WithIndex = 0,
+    Value = 1,
+    ValueRef = 2,
+}
+
+/// Keys `from` to `from + span - 1`, in a scattered order.
+#[derive(Clone, Copy)]
+pub struct Look {
+    pub what: What,
+    pub from: u64,
+    pub span: u64,
+}
+
+/// Lookups in the shared overlays: values found, or bytes.
+pub fn look(s: &mut Shared, door: Door, look: Look, times: u64) -> u64 {
+    let (mut r, mut dest) = ([0u64; 4], [0u8; super::tables::VALUE]);
+    let kind = if let What::WithIndex = look.what { 0 } else { 1 };
+    let (words, bytes) = (
+        &open(&mut s.words[1280 * kind..1280 * (kind + 1)]),
+        &lent(&s.bytes[131072 * kind..131072 * (kind + 1)]),
+    );
+    let (what, last, dest) = (look.what as u64, 1023, &open(&mut dest));
+    unsafe {
+        bench_shared(
+            &lent(&s.head),
+            words,
+            bytes,
+            door as u64,
+            what,
+            last,
+            look.from,
+            look.span,
+            times,
+            dest,
+            &open(&mut r),
+        )
+    };
+    r[0]
+}
+
+pub fn checksum(bytes: &[u8]) -> u32 {
+    unsafe { bench_checksum(&lent(bytes)) }
+}
+
+/// Steps to the log's end: how many actions.
+pub fn next(tables: &[u64], log: &[u8], validate: bool, door: Door) -> u64 {
+    let mut r = [0u64; 4];
+    unsafe { bench_next(&lent(tables), &lent(log), validate as u64, door as u64, &open(&mut r)) };
+    assert_eq!((r[0], r[2]), (1, log.len() as u64), "answer and position of the last step");
+    r[1]
+}
+
+pub fn run(tables: &[u64], log: &[u8], records: u64, image: &mut [u8]) {
+    let mut r = [0u64; 4];
+    unsafe { bench_run(&lent(tables), &lent(log), 1, &open(image), &open(&mut r)) };
+    assert_eq!(r[..3], [1, records, log.len() as u64], "answer, records and position of a run");
+}
+
+pub fn check(tables: &[u64], log: &[u8], records: u64) {
+    let mut r = [0u64; 4];
+    unsafe { bench_check(&lent(tables), &lent(log), &open(&mut r)) };
+    assert_eq!(
+        r[..3],
+        [1, records, log.len() as u64],
+        "answer, records and position of the checks"
+    );
+}
+
+pub fn clear(tables: &[u64], log: &[u8], s: &mut Shared, door: Door, first: u64, count: u64) {
+    let mut r = [0u64; 4];
+    let (head, words, bytes) = (&open(&mut s.head), &open(&mut s.words), &open(&mut s.bytes));
+    unsafe {
+        bench_clear(
+            &lent(tables),
+            &lent(log),
+            head,
+            words,
+            bytes,
+            door as u64,
+            first,
+            count,
+            &open(&mut r),
+        )
+    };
+    assert_eq!(r[0], 0, "answers of end_read");
+}
+
+/// A file's life, so often.
+pub fn files(log: &[u8], door: Door, times: u64) {
+    let mut r = [0u64; 4];
+    unsafe { bench_files(&lent(log), door as u64, times, &open(&mut r)) };
+    assert_eq!(r[..2], [times, 1], "answers, and files in the pool");
+}
