@@ -1,0 +1,9 @@
+pub mod Accepted
+pub mod Begins
+pub mod Calls
+pub mod Copied
+pub mod Held
+pub mod Listed
+pub mod Records
+pub mod Rest
+pub mod Seeking
