@@ -11,9 +11,6 @@ use Rattle.salvaging.proofs.Copied.{lost-bytes, kept-within, kept-bytes
 use borrow.Author.Needs.{needs}
 use Rattle.salvaging.proofs.copying.put_record.Statement.{statement}
 use Rattle.salvaging.proofs.copying.put_record.Tie as tie
-use Rattle.salvaging.proofs.copying.put_record.Reads as reads
-use Rattle.salvaging.proofs.copying.put_record.Lts as lts
-use Rattle.output.proofs.copy_into.Reads as copy-into-reads
 
 mul-row : tie.Need-mul-row
 mul-row c = search needs
@@ -25,7 +22,7 @@ element-copy-out-if1 : tie.Need-element-copy-out-if1
 element-copy-out-if1 c = search needs
 
 returns : tie.Need-returns
-returns c = 
+returns c =
     let a = c .before .before .before .before .args in
     rw (lost-bytes (now (a .words)) (now (a .log)) (4 * a .i) (c .if1 .taken)) (wrote-nil (now (a .out)) (a .at))
 
@@ -75,7 +72,7 @@ part-copy-into-end : tie.Need-part-copy-into-end
 part-copy-into-end c = inside (c .before .before .before)
 
 copy-into-requires : tie.Need-copy-into-requires
-copy-into-requires c κs = 
+copy-into-requires c κs =
     let s = c .before .before .before .before .before .before .before .before in
     let e = bytes (c .before .before .before .before) in
     omega (arith, ap length e, s .pre)

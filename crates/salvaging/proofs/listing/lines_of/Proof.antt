@@ -7,12 +7,6 @@ use borrow.Author.Needs.{needs}
 use Rattle.salvaging.proofs.Rest.{Rest, rest-first, rest-over, record-inside, record-room, rest-record, never-open, rest-last}
 use Rattle.salvaging.proofs.listing.lines_of.Statement.{statement}
 use Rattle.salvaging.proofs.listing.lines_of.Tie as tie
-use Rattle.salvaging.proofs.listing.lines_of.Reads as reads
-use Rattle.salvaging.proofs.listing.lines_of.Lts as lts
-use Rattle.salvaging.proofs.lines.Lines.new.Reads as new-reads
-use Rattle.salvaging.proofs.lines.Lines.up_to.Reads as up-to-reads
-use Rattle.salvaging.proofs.lines.Lines.with_record.Reads as with-record-reads
-use Rattle.salvaging.proofs.search.search_kept.Reads as search-kept-reads
 
 abbrev Inv-loop : tie.InvT-loop
 Inv-loop d log lines₀ at₀ lines at = Rest d log lines at
@@ -33,7 +27,7 @@ enum-known-f : tie.Need-enum-known-f Inv-loop μ-loop
 enum-known-f c = search needs
 
 with-record-requires : tie.Need-with-record-requires Inv-loop μ-loop
-with-record-requires c κs = 
+with-record-requires c κs =
     let a = c .before .before .before .before .before .before .before .args in
     let l = c .before .before .before .before .loop in
     let s = c .before .before .before .search-kept in
@@ -52,7 +46,7 @@ returns : tie.Need-returns Inv-loop μ-loop
 returns c = rest-over _ _ _ _ (next (c .before)) (c .if1 .taken)
 
 loop-less : tie.Need-loop-less Inv-loop μ-loop
-loop-less c = 
+loop-less c =
     let a = c .before .before .before .before .before .before .before .before .before .before .args in
     let l = c .before .before .before .before .before .before .before .loop in
     let s = c .before .before .before .before .before .before .search-kept in
@@ -68,7 +62,7 @@ up-to-requires : tie.Need-up-to-requires Inv-loop μ-loop
 up-to-requires c κs = tt
 
 returns-2 : tie.Need-returns-2 Inv-loop μ-loop
-returns-2 c = 
+returns-2 c =
     let a = c .before .before .before .before .before .before .before .args in
     let l = c .before .before .before .before .loop in
     let s = c .before .before .before .search-kept in
@@ -81,7 +75,7 @@ up-to-requires-2 : tie.Need-up-to-requires-2 Inv-loop μ-loop
 up-to-requires-2 c κs = tt
 
 returns-3 : tie.Need-returns-3 Inv-loop μ-loop
-returns-3 c = 
+returns-3 c =
     let a = c .before .before .before .before .before .before .before .args in
     let l = c .before .before .before .before .loop in
     let s = c .before .before .before .search-kept in

@@ -8,10 +8,6 @@ use Rattle.salvaging.proofs.Copied.{words-put}
 use borrow.Author.Needs.{needs}
 use Rattle.salvaging.proofs.salvaged.put_all.Statement.{statement}
 use Rattle.salvaging.proofs.salvaged.put_all.Tie as tie
-use Rattle.salvaging.proofs.salvaged.put_all.Reads as reads
-use Rattle.salvaging.proofs.salvaged.put_all.Lts as lts
-use Rattle.numbers.proofs.copy.Reads as copy-reads
-use Rattle.salvaging.proofs.copying.put_records.Reads as put-records-reads
 
 put-records-requires : tie.Need-put-records-requires
 put-records-requires c κs = search needs
@@ -23,7 +19,7 @@ mul-copy : tie.Need-mul-copy
 mul-copy c = search needs
 
 copy-requires : tie.Need-copy-requires
-copy-requires c κs = 
+copy-requires c κs =
     let s = c .before .before .before .before .before .before .before .before .before .before .before in
     let l : length (s .args .lines .words) ≡ 256 = search needs in
     (omega (arith, s .pre), omega (arith, l, s .pre))
@@ -35,7 +31,7 @@ same-length-2 : tie.Need-same-length-2
 same-length-2 c = search needs
 
 returns : tie.Need-returns
-returns c = 
+returns c =
     let s = c .before .before .before .before .before .before .before .before .before .before .before .before .before .before in
     let l : length (s .args .lines .words) ≡ 256 = search needs in
     (c .before .before .before .before .before .before .before .put-records .ensures, c .before .before .copy .ensures ∙ words-put (now (s .args .list)) (s .args .lines .words) (4 * s .args .lines .count) (omega (arith, l, s .pre)))

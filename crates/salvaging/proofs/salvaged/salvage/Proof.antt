@@ -6,11 +6,6 @@ use Rattle.salvaging.proofs.Calls.{bad-directory, bad-memory, door}
 use borrow.Author.Needs.{needs}
 use Rattle.salvaging.proofs.salvaged.salvage.Statement.{statement}
 use Rattle.salvaging.proofs.salvaged.salvage.Tie as tie
-use Rattle.salvaging.proofs.salvaged.salvage.Reads as reads
-use Rattle.salvaging.proofs.salvaged.salvage.Lts as lts
-use Rattle.directory.proofs.directory.Directory.kept.Reads as kept-reads
-use Rattle.salvaging.proofs.salvaged.refused.Reads as refused-reads
-use Rattle.salvaging.proofs.salvaged.salvage_kept.Reads as salvage-kept-reads
 
 kept-requires : tie.Need-kept-requires
 kept-requires c κs = search needs
@@ -19,7 +14,7 @@ refused-requires : tie.Need-refused-requires
 refused-requires c κs = search needs
 
 returns : tie.Need-returns
-returns c = 
+returns c =
     let a = c .before .before .before .before .before .before .args in
     bad-directory (a .d) (now (a .log)) (now (a .out)) (now (a .list)) (c .refused .result) (sym (c .before .before .kept .ensures) ∙ not-true _ (c .before .if1 .taken)) (c .refused .ensures)
 
@@ -27,7 +22,7 @@ refused-requires-2 : tie.Need-refused-requires-2
 refused-requires-2 c κs = search needs
 
 returns-2 : tie.Need-returns-2
-returns-2 c = 
+returns-2 c =
     let a = c .before .before .before .before .before .before .before .args in
     bad-memory (a .d) (now (a .log)) (now (a .out)) (now (a .list)) (c .refused2 .result) (sym (c .before .before .before .kept .ensures) ∙ not-false _ (c .before .before .if1 .left)) (c .before .if2 .taken) (c .refused2 .ensures)
 
@@ -41,7 +36,7 @@ same-length-2 : tie.Need-same-length-2
 same-length-2 c = search needs
 
 returns-3 : tie.Need-returns-3
-returns-3 c = 
+returns-3 c =
     let a = c .before .before .before .before .before .before .before .before .before .before .before .before .before .args in
     c .before .before .before .before .salvage-kept .ensures
     ∙ door (a .d) (now (a .log)) (now (a .out)) (now (a .list)) (c .before .before .before .before .salvage-kept .result) (sym (c .before .before .before .before .before .before .before .before .before .kept .ensures) ∙ not-false _ (c .before .before .before .before .before .before .before .before .if1 .left)) (c .before .before .before .before .before .before .before .if2 .left)

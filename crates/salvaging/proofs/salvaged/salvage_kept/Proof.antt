@@ -4,11 +4,6 @@ use Rattle.salvaging.proofs.Calls.{over-64, short-output, all-within, a
 use borrow.Author.Needs.{needs}
 use Rattle.salvaging.proofs.salvaged.salvage_kept.Statement.{statement}
 use Rattle.salvaging.proofs.salvaged.salvage_kept.Tie as tie
-use Rattle.salvaging.proofs.salvaged.salvage_kept.Reads as reads
-use Rattle.salvaging.proofs.salvaged.salvage_kept.Lts as lts
-use Rattle.salvaging.proofs.listing.lines_of.Reads as lines-of-reads
-use Rattle.salvaging.proofs.salvaged.put_all.Reads as put-all-reads
-use Rattle.salvaging.proofs.salvaged.refused.Reads as refused-reads
 
 lines-of-requires : tie.Need-lines-of-requires
 lines-of-requires c κs = search needs
@@ -17,7 +12,7 @@ refused-requires : tie.Need-refused-requires
 refused-requires c κs = search needs
 
 returns : tie.Need-returns
-returns c = 
+returns c =
     let a = c .before .before .before .before .before .before .before .args in
     let l = c .before .before .before .lines-of in
     over-64 (a .d) (now (a .log)) (l .result) (l .ensures) (now (a .out)) (now (a .list)) (c .refused .result) (c .before .if1 .taken) (c .refused .ensures)
@@ -26,16 +21,15 @@ refused-requires-2 : tie.Need-refused-requires-2
 refused-requires-2 c κs = search needs
 
 returns-2 : tie.Need-returns-2
-returns-2 c = 
+returns-2 c =
     let a = c .before .before .before .before .before .before .before .before .args in
     let l = c .before .before .before .before .lines-of in
     short-output (a .d) (now (a .log)) (l .result) (l .ensures) (now (a .out)) (now (a .list)) (c .before .before .if1 .left) (c .refused2 .result) (c .before .if2 .taken) (c .refused2 .ensures)
 
 put-all-requires : tie.Need-put-all-requires
-put-all-requires c κs = 
+put-all-requires c κs =
     let s = c .before .before .before .before .before .before .before .before .before in
-    let l = c .before .before .before .before .before .lines-of in
-    (
+    let l = c .before .before .before .before .before .lines-of in (
       c .before .before .before .if1 .left,
       s .pre .1,
       all-within (s .args .d) (now (s .args .log)) (l .result) (l .ensures) (now (s .args .out)) (now (s .args .list)) (c .before .before .before .if1 .left),
@@ -49,7 +43,7 @@ same-length-2 : tie.Need-same-length-2
 same-length-2 c = search needs
 
 returns-3 : tie.Need-returns-3
-returns-3 c = 
+returns-3 c =
     let a = c .before .before .before .before .before .before .before .before .before .before .before .before .before .before .args in
     let l = c .before .before .before .before .before .before .before .before .before .before .lines-of in
     let p = c .before .before .before .before .put-all .ensures in

@@ -5,9 +5,6 @@ use Prim.Native.Nat.{ℕ}
 use borrow.Author.Needs.{needs}
 use Rattle.salvaging.proofs.search.is_open.Statement.{statement}
 use Rattle.salvaging.proofs.search.is_open.Tie as tie
-use Rattle.salvaging.proofs.search.is_open.Reads as reads
-use Rattle.salvaging.proofs.search.is_open.Lts as lts
-use Rattle.answer.proofs.answer.Answer.number.Reads as number-reads
 
 number-requires : tie.Need-number-requires
 number-requires c κs = search needs

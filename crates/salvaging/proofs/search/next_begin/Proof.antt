@@ -11,8 +11,6 @@ use borrow.Author.Needs.{needs}
 use borrow.Author.Tests.{ltb-true, ltb-false}
 use Rattle.salvaging.proofs.search.next_begin.Statement.{statement}
 use Rattle.salvaging.proofs.search.next_begin.Tie as tie
-use Rattle.salvaging.proofs.search.next_begin.Reads as reads
-use Rattle.salvaging.proofs.search.next_begin.Lts as lts
 
 -- no begin tag's byte between two places
 abbrev Passed : List ℕ → ℕ → ℕ → Type 0
@@ -47,7 +45,7 @@ loop-less : tie.Need-loop-less Inv-loop μ-loop
 loop-less c = search needs
 
 loop-again : tie.Need-loop-again Inv-loop μ-loop
-loop-again c = 
+loop-again c =
     let i = c .before .before .before .loop .inv in
     let a = c .before .before .before .before .args in
     (omega (arith, i .0), further (now (a .log)) (a .from) (c .before .before .before .loop .at) (i .1) (c .if1 .left))

@@ -8,11 +8,6 @@ use borrow.Author.Needs.{needs}
 use Rattle.salvaging.proofs.Seeking.{Seeks, seeks-first, seeks-nothing, seeks-record, seeks-open, seeks-on}
 use Rattle.salvaging.proofs.search.search_kept.Statement.{statement}
 use Rattle.salvaging.proofs.search.search_kept.Tie as tie
-use Rattle.salvaging.proofs.search.search_kept.Reads as reads
-use Rattle.salvaging.proofs.search.search_kept.Lts as lts
-use Rattle.replay.proofs.check_record_kept.Reads as check-record-kept-reads
-use Rattle.salvaging.proofs.search.is_open.Reads as is-open-reads
-use Rattle.salvaging.proofs.search.next_begin.Reads as next-begin-reads
 
 abbrev Inv-loop : tie.InvT-loop
 Inv-loop d log from more at₀ at = Seeks more d log from at
@@ -24,7 +19,7 @@ next-begin-requires : tie.Need-next-begin-requires Inv-loop μ-loop
 next-begin-requires c κs = search needs
 
 loop-holds : tie.Need-loop-holds Inv-loop μ-loop
-loop-holds c = 
+loop-holds c =
     let a = c .before .before .args in
     seeks-first (a .more) (a .d) (now (a .log)) (a .from) (c .next-begin .result) (c .next-begin .ensures)
 
@@ -35,7 +30,7 @@ enum-known-w : tie.Need-enum-known-w Inv-loop μ-loop
 enum-known-w c = search needs
 
 returns : tie.Need-returns Inv-loop μ-loop
-returns c = 
+returns c =
     let a = c .before .before .before .before .before .before .before .before .before .args in
     let l = c .before .before .before .before .before .before .loop in
     seeks-record (a .more) (a .d) (now (a .log)) (a .from) (l .at) (l .inv) (c .before .before .before .before .before .loop-test .taken) _ (sym (c .before .before .w .given .1) ∙ c .before .before .before .before .check-record-kept .ensures)
@@ -47,7 +42,7 @@ is-open-requires : tie.Need-is-open-requires Inv-loop μ-loop
 is-open-requires c κs = search needs
 
 returns-2 : tie.Need-returns-2 Inv-loop μ-loop
-returns-2 c = 
+returns-2 c =
     let a = c .before .before .before .before .before .before .before .before .before .before .args in
     let l = c .before .before .before .before .before .before .before .loop in
     seeks-open (a .more) (a .d) (now (a .log)) (a .from) (l .at) (l .inv) (c .before .before .before .before .before .before .loop-test .taken) _ (sym (c .before .before .before .x .given .1) ∙ c .before .before .before .before .before .check-record-kept .ensures) (sym (c .before .is-open .ensures) ∙ c .if1 .taken)
@@ -59,17 +54,17 @@ next-begin-requires-2 : tie.Need-next-begin-requires-2 Inv-loop μ-loop
 next-begin-requires-2 c κs = search needs
 
 loop-less : tie.Need-loop-less Inv-loop μ-loop
-loop-less c = 
+loop-less c =
     omega (arith, c .next-begin2 .ensures .behind, c .before .before .before .before .before .before .before .loop-test .taken)
 
 loop-again : tie.Need-loop-again Inv-loop μ-loop
-loop-again c = 
+loop-again c =
     let a = c .before .before .before .before .before .before .before .before .before .before .before .args in
     let l = c .before .before .before .before .before .before .before .before .loop in
     seeks-on (a .more) (a .d) (now (a .log)) (a .from) (l .at) (l .inv) (c .before .before .before .before .before .before .before .loop-test .taken) _ (sym (c .before .before .before .before .x .given .1) ∙ c .before .before .before .before .before .before .check-record-kept .ensures) (sym (c .before .before .is-open .ensures) ∙ c .before .if1 .left) (c .next-begin2 .result) (c .next-begin2 .ensures)
 
 returns-3 : tie.Need-returns-3 Inv-loop μ-loop
-returns-3 c = 
+returns-3 c =
     let a = c .before .before .before .before .args in
     seeks-nothing (a .more) (a .d) (now (a .log)) (a .from) (c .before .loop .at) (c .before .loop .inv) (c .loop-test .left)
 

@@ -6,9 +6,6 @@ use Rattle.words.proofs.Choices.{if-true, if-false}
 use borrow.Author.Needs.{needs}
 use Rattle.salvaging.proofs.lines.Lines.up_to.Statement.{statement}
 use Rattle.salvaging.proofs.lines.Lines.up_to.Tie as tie
-use Rattle.salvaging.proofs.lines.Lines.up_to.Reads as reads
-use Rattle.salvaging.proofs.lines.Lines.up_to.Lts as lts
-use Rattle.salvaging.proofs.lines.Lines.with.Reads as with-reads
 
 sub-with : tie.Need-sub-with
 sub-with c = search needs
@@ -17,12 +14,12 @@ with-requires : tie.Need-with-requires
 with-requires c κs = search needs
 
 returns : tie.Need-returns
-returns c = 
+returns c =
     let a = c .before .before .before .before .args in
     c .with .ensures ∙ sym (if-true (ltb (a .self .end) (a .position)) _ _ (lt-ltb (a .self .end) (a .position) (search needs)))
 
 returns-2 : tie.Need-returns-2
-returns-2 c = 
+returns-2 c =
     let a = c .before .before .args in
     sym (if-false (ltb (a .self .end) (a .position)) _ _ (le-ltb (a .self .end) (a .position) (search needs)))
 

@@ -6,8 +6,6 @@ use Rattle.salvaging.proofs.Held.{four-words, with-room, with-none}
 use borrow.Author.Needs.{needs}
 use Rattle.salvaging.proofs.lines.Lines.with.Statement.{statement}
 use Rattle.salvaging.proofs.lines.Lines.with.Tie as tie
-use Rattle.salvaging.proofs.lines.Lines.with.Reads as reads
-use Rattle.salvaging.proofs.lines.Lines.with.Lts as lts
 
 mul-at : tie.Need-mul-at
 mul-at c = search needs
@@ -49,7 +47,7 @@ add-after : tie.Need-add-after
 add-after c = search needs
 
 returns : tie.Need-returns
-returns c = 
+returns c =
     let a = c .before .args in
     let l : length (a .self .words) ≡ 256 = search needs in
     with-room (a .self) _ _ (search needs) (four-words _ _ _ _ _ _ (omega (arith, l)))

@@ -9,10 +9,6 @@ use Rattle.salvaging.proofs.Held.{record-bytes}
 use borrow.Author.Needs.{needs}
 use Rattle.salvaging.proofs.lines.Lines.with_record.Statement.{statement}
 use Rattle.salvaging.proofs.lines.Lines.with_record.Tie as tie
-use Rattle.salvaging.proofs.lines.Lines.with_record.Reads as reads
-use Rattle.salvaging.proofs.lines.Lines.with_record.Lts as lts
-use Rattle.salvaging.proofs.lines.Lines.up_to.Reads as up-to-reads
-use Rattle.salvaging.proofs.lines.Lines.with.Reads as with-reads
 
 sub-length : tie.Need-sub-length
 sub-length c = search needs
@@ -32,12 +28,12 @@ added c =
     (c .with .ensures ∙ ap (λ (x : Lines). withWords x (1 ∷ a .position ∷ (a .end - a .position) ∷ a .id ∷ [])) (c .before .up-to .ensures))
 
 add-after : tie.Need-add-after
-add-after c = 
+add-after c =
     let a = c .before .before .before .args in
     omega (arith, ap (λ (x : Lines). x .bytes) (added (c .before)), record-bytes (a .self) (a .position) (a .end) (a .id), c .before .before .before .pre)
 
 returns : tie.Need-returns
-returns c = 
+returns c =
     let a = c .before .before .before .args in
     let e = added (c .before) in
     (e, omega (arith, ap (λ (x : Lines). x .bytes) e, record-bytes (a .self) (a .position) (a .end) (a .id), c .before .before .before .pre))
