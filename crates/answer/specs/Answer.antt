@@ -22,9 +22,10 @@ numberOf UsedUp = 12  -- "record ids, file numbers or a file's size used up"
 numberOf BadState = 13  -- "a directory, list, overlay, queue or other state handed in breaks a rule of this paper, .."
 numberOf BadArgument = 14  -- "slot above 63, chunk or value of the wrong length, position beyond the log's end"
 
--- a refusal of reading, with its answer in it
-abbrev pub refusal : Answer → Refusal
-refusal answer = record { answer = answer }
+-- a refusal of reading, with its answer in it and "the byte position of the first byte of the action at fault" (document 02, "Five. Where is
+-- it broken?")
+abbrev pub refusal : Answer → ℕ → Refusal
+refusal answer position = record { answer = answer; position = position }
 
 -- 2^64-1, the largest id of 8 bytes
 abbrev pub lastRecordId : ℕ

@@ -44,16 +44,20 @@ impl Answer {
     }
 }
 
-// A refusal of reading.
+// A refusal of reading: its answer, and where the action at fault begins.
 pub struct Refusal {
     pub answer: Answer,
+    pub position: usize,
 }
 
 impl Refusal {
     // The one place that knows all the fields: whoever refuses calls it.
-    pub fn new(answer: Answer) -> Refusal
-        ensures { λ r. ⌜ r ≡ refusal answer ⌝ }
+    pub fn new(answer: Answer, position: usize) -> Refusal
+        ensures { λ r. ⌜ r ≡ refusal answer position ⌝ }
     {
-        Refusal { answer: answer }
+        Refusal {
+            answer: answer,
+            position: position,
+        }
     }
 }

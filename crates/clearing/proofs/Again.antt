@@ -18,6 +18,7 @@ use Rattle.record.specs.declared.reader.Stepped.{Stepped}
 use Rattle.record.specs.declared.reader.Step.{Step}
 use Rattle.record.specs.declared.reader.Step.the-variants.{Took, Refused}
 use Rattle.effect.specs.Effect.{Written}
+use Rattle.record.proofs.Begins.{begun}
 use Rattle.replay.specs.Inner.{Opened}
 use Rattle.replay.specs.Replay.{Walked, fault, walked, restIn, recordAt, wholeBy, wholeOf}
 use Rattle.replay.specs.declared.whole.WholeRecord.{WholeRecord}
@@ -25,7 +26,6 @@ use Rattle.replay.specs.declared.whole.WholeAnswer.the-variants.{Whole, NotWhol
 use Rattle.replay.proofs.Opening as opening
 use Rattle.replay.proofs.Sum.{plain-walked}
 use Rattle.clearing.specs.EndRead.{Again, withId, idThere, recordAgain, clearable}
-use Rattle.clearing.proofs.Opened.{id-there}
 
 -- ---- by the opening's step: whatever the id
 
@@ -40,7 +40,7 @@ again-by d log at = by (stepOf d log (readerAt at true)) refl
     by : (st : Step) → stepOf d log (readerAt at true) ≡ st → withId (idThere log at) (recordAt d log at (idThere log at)) ≡ byAny (restIn d log) st
     by (Refused x) q = ap (withId (idThere log at)) (opening.record-refused d log at (idThere log at) x q)
     by (Took s) q =
-        let i = id-there d log at s q in
+        let i = begun d log at true s q .there in
         ap (withId (idThere log at)) (opening.record-opened d log at (idThere log at) s q (eq-eqb (s .reader .record_id) (idThere log at) i))
         ∙ ap (λ (id : ℕ). withId id (restIn d log (s .reader))) (sym i)
 
@@ -103,7 +103,7 @@ module _ (d : Directory) (log : List ℕ) (at : ℕ) where
     k = is-whole (restIn d log) (stepOf d log (readerAt at true)) w e
 
     -- "id 2^64-1 gives 12"
-    pub used-up : w .opened .record_id ≡ lastRecordId → clearable (recordAgain d log at) ≡ fault (refusal UsedUp)
+    pub used-up : w .opened .record_id ≡ lastRecordId → clearable (recordAgain d log at) ≡ fault (refusal UsedUp (w .end))
     used-up t = ap clearable (again-by d log at ∙ k .again) ∙ if-true (eqb (w .opened .record_id) lastRecordId) _ _ (eq-eqb (w .opened .record_id) lastRecordId t)
 
     -- a record to be cleared: its actions, and where it ends, also for a reader that doesn't validate

@@ -3,5 +3,4 @@ pub mod Again
 pub mod Cleared
 pub mod Ended
 pub mod Meaning
-pub mod Opened
 pub mod Walk

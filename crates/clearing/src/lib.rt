@@ -1,7 +1,7 @@
 // Clearing: an accepted record read again, and its entries taken out of the shared overlays.
 mod clear;
-mod ending;
+mod end_of_reading;
 
-pub use ending::EndRead;
-pub use ending::end_read;
-pub use ending::end_read_kept;
+pub use end_of_reading::EndRead;
+pub use end_of_reading::end_read;
+pub use end_of_reading::end_read_kept;

@@ -6,10 +6,10 @@ use mathlib.Core.List.{List, _++_}
 use Prim.Native.Nat.{ℕ, _+_, _-_, _≤_, _<_}
 use native.Mathlib.Nat.{add-assoc}
 use native.Mathlib.Omega.{arith}
-use lib.Dec.{ltb}
-use lib.ListN.{length, take, drop, length-append, length-drop}
+use lib.Dec.{ltb, leb}
+use lib.ListN.{length, take, drop, length-append, length-drop, take-append-drop}
 use lib.Seq.{drop-drop, length-take-le, take-append-le, drop-append-le, take-take}
-use borrow.Author.Tests.{ltb-false, lt-ltb, le-ltb}
+use borrow.Author.Tests.{ltb-false, lt-ltb, le-ltb, leb-true, leb-false}
 use Rattle.words.proofs.Cut.{drop-take}
 use Rattle.record.specs.Format.{Format, need, refuse, give, Got, stopped, got, readAt, _>>=_}
 use Rattle.answer.specs.declared.answer.Answer.{Answer}
@@ -114,6 +114,21 @@ local {A} (need k short f) at log a end h e more = go (local (f (take k (drop at
         rw (n, s) (ih (omega arith) e′ more)
 local (refuse answer) at log a end h e more = let z : _≡_ {A = ℕ} 0 1 = cc in absurd (omega arith)
 local {A} (give b) at log a end h e more = e
+
+-- where a format refuses, one that is read with more bytes behind the log ends beyond the log's end
+pub unfinished : {A : Type 0} (f : Format A) (at : ℕ) (log : List ℕ) (answer : Answer) → at ≤ length log → readAt f at log ≡ stopped answer
+    → (more : List ℕ) (a : A) (end : ℕ) → readAt f at (log ++ more) ≡ got a end → length log < end
+unfinished {A} f at log answer h e more a end q = by (leb end (length log)) refl
+  where
+    again : end ≤ length log → readAt f at log ≡ got a end
+    again l =
+        let b : at ≤ length (log ++ more) = simp length-append (omega arith) in
+        let c : take end (log ++ more) ++ drop end log ≡ log = rw (take-append-le end log more l) (take-append-drop end log) in
+        ap (readAt f at) (sym c) ∙ local f at (log ++ more) a end b q (drop end log)
+
+    by : (b : Bool) → leb end (length log) ≡ b → length log < end
+    by true t = let z : _≡_ {A = ℕ} 0 1 = cc (sym (again (leb-true end (length log) t)) ∙ e) in absurd (omega arith)
+    by false t = leb-false end (length log) t
 
 -- ---- nor anything before its position
 

@@ -1,3 +1,4 @@
+pub mod Begins
 pub mod Cases
 pub mod Faults
 pub mod Formats

@@ -72,7 +72,7 @@ taken d log r s e = placed (ltb (length log) (r .position)) refl
 pub step-opens : (d : Directory) (log : List ℕ) (r : LogReader) → r .inside ≡ false → stepOf d log r ≡ openingOf log r
 unfolding stepOf openingOf
 step-opens d log r b =
-    ap (λ (x : Step). if ltb (length log) (r .position) then refused BadArgument else x) (if-false (r .inside) _ _ b)
+    ap (λ (x : Step). if ltb (length log) (r .position) then refused BadArgument (r .position) else x) (if-false (r .inside) _ _ b)
 
 -- ---- it moves forward within the log
 
@@ -162,7 +162,7 @@ step-local d log r s e more =
 
 -- a step's answer with n bytes more in front
 abbrev pub movedStep : ℕ → Step → Step
-movedStep n (Refused x) = Refused x
+movedStep n (Refused x) = refused (x .answer) (n + x .position)
 movedStep n (Took s) = Took (record {
   action = s .action;
   start = n + s .start;
@@ -173,7 +173,9 @@ movedStep n (Took s) = Took (record {
 opened-moved : (log : List ℕ) (r : LogReader) (g : Got ℕ)
     → opened log r (moved (r .position) g) ≡ movedStep (r .position) (opened (drop (r .position) log) (readerAt 0 (r .validate)) g)
 unfolding forwardTo
-opened-moved log r (stopped x) = refl
+opened-moved log r (stopped x) =
+    let e : r .position ≡ r .position + 0 = omega arith in
+    ap (refused x) e
 opened-moved log r (got id end) =
     let e : r .position + end - r .position ≡ end - 0 = omega arith in
     rw e

@@ -1,3 +1,4 @@
+pub mod Fault
 pub mod Format
 pub mod Inner
 pub mod Next

@@ -20,9 +20,9 @@ use Rattle.record.specs.declared.reader.LogReader.{LogReader}
 use Rattle.record.specs.declared.reader.Step.{Step}
 use Rattle.record.specs.declared.reader.Step.the-variants.{Took, Refused}
 
--- a step that refuses
-abbrev pub refused : Answer → Step
-refused answer = Refused (refusal answer)
+-- a step that refuses, and where
+abbrev pub refused : Answer → ℕ → Step
+refused answer position = Refused (refusal answer position)
 
 -- the number that a step answers: 0, or that of the refusal
 abbrev pub answerOf : Step → ℕ
@@ -65,9 +65,10 @@ closed r end = record { position = end; record_id = r .record_id; crc32 = allOne
 unfoldable pub readerAfter : List ℕ → LogReader → LogAction → ℕ → LogReader
 readerAfter log r action end = if isEnd action then closed r end else forwardTo log r end
 
--- a step inside a record: the payload is the last bytes it took
+-- a step inside a record: the payload is the last bytes it took. A step begins with its action, so "the first byte of the action at fault" is
+-- where the reader stands; "for 2 with no further action begun, the log's end" is that place too (document 02, "Five")
 abbrev pub stepped : List ℕ → LogReader → Got Item → Step
-stepped log r (stopped answer) = refused answer
+stepped log r (stopped answer) = refused answer (r .position)
 stepped log r (got item end) = Took (record {
   action = item .action;
   start = end - item .payload;
@@ -79,25 +80,26 @@ stepped log r (got item end) = Took (record {
 abbrev pub beginning : LogReader → ℕ → LogReader
 beginning r id = record { position = r .position; record_id = id; crc32 = allOnes; validate = r .validate; inside = true }
 
--- what the step answers at an opening: the refusal, or the begin tag, behind which the reader stands
+-- what the step answers at an opening: the refusal, told at "the record's start", or the begin tag, behind which the reader stands
 abbrev pub opened : List ℕ → LogReader → Got ℕ → Step
-opened log r (stopped answer) = refused answer
+opened log r (stopped answer) = refused answer (r .position)
 opened log r (got id end) = Took (record { action = BeginRecord; start = end; length = 0; reader = forwardTo log (beginning r id) end })
 
--- a record's opening, tried at the reader's position: "then for reading 14, then faults in byte order". No directory has a say in it
+-- a record's opening, tried at the reader's position: "then for reading 14, then faults in byte order"; "for 13 and 14 the position handed
+-- in". No directory has a say in it
 -- (log.rs 1038-1063, `read_next`)
 unfoldable pub openingOf : List ℕ → LogReader → Step
 openingOf log r =
-    if ltb (length log) (r .position) then refused BadArgument else
+    if ltb (length log) (r .position) then refused BadArgument (r .position) else
     opened log r (readAt (opening (r .validate)) (r .position) log)
 
 -- a step: inside a record what stands there, between records an opening
 unfoldable pub stepOf : Directory → List ℕ → LogReader → Step
 stepOf d log r =
-    if ltb (length log) (r .position) then refused BadArgument else
+    if ltb (length log) (r .position) then refused BadArgument (r .position) else
     if r .inside then stepped log r (readAt (inside d (r .validate) (r .crc32)) (r .position) log) else
     opened log r (readAt (opening (r .validate)) (r .position) log)
 
 -- "Order in every call: 13, then .."
 unfoldable pub nextOf : Directory → List ℕ → LogReader → Step
-nextOf d log r = if directoryKept d then stepOf d log r else refused BadState
+nextOf d log r = if directoryKept d then stepOf d log r else refused BadState (r .position)

@@ -39,10 +39,10 @@ pub enum Step {
     Refused(Refusal),
 }
 
-fn refuse(answer: Answer) -> Step
-    ensures { λ r. ⌜ r ≡ refused answer ⌝ }
+fn refuse(answer: Answer, position: usize) -> Step
+    ensures { λ r. ⌜ r ≡ refused answer position ⌝ }
 {
-    Step::Refused(Refusal::new(answer))
+    Step::Refused(Refusal::new(answer, position))
 }
 
 impl LogReader {
@@ -114,7 +114,7 @@ impl LogReader {
         ensures { λ r. ⌜ r ≡ stepped (now (log .entry)) self (readAt (inside directory (self .validate) (self .crc32)) (self .position) (now (log .entry))) ⌝ }
     {
         match item_at(directory, log, self.position, self.validate, self.crc32) {
-            ItemAnswer::NoItem(a) => refuse(a),
+            ItemAnswer::NoItem(a) => refuse(a, self.position),
             ItemAnswer::Read(i) => {
                 let action = i.action;
                 let reader = self.after(log, action, i.start + i.length);
@@ -135,7 +135,7 @@ impl LogReader {
     {
         let at = self.position;
         match opening_at(log, at, self.validate) {
-            IdAnswer::NotOpened(a) => refuse(a),
+            IdAnswer::NotOpened(a) => refuse(a, at),
             IdAnswer::Opened(id) => {
                 let begun = LogReader {
                     position: at,
@@ -160,7 +160,7 @@ impl LogReader {
         ensures { λ r. ⌜ r ≡ openingOf (now (log .entry)) self ⌝ }
     {
         if log.len() < self.position {
-            return refuse(Answer::BadArgument);
+            return refuse(Answer::BadArgument, self.position);
         }
         self.step_opening(log)
     }
@@ -171,7 +171,7 @@ impl LogReader {
         ensures { λ r. ⌜ r ≡ stepOf directory (now (log .entry)) self ⌝ }
     {
         if log.len() < self.position {
-            return refuse(Answer::BadArgument);
+            return refuse(Answer::BadArgument, self.position);
         }
         if self.inside {
             self.step_inside(directory, log)
@@ -187,7 +187,7 @@ impl LogReader {
         if directory.kept() {
             self.next_kept(directory, log)
         } else {
-            refuse(Answer::BadState)
+            refuse(Answer::BadState, self.position)
         }
     }
 }

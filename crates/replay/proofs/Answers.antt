@@ -29,19 +29,19 @@ use Rattle.replay.proofs.Records.{run-bad}
 use Rattle.replay.proofs.Stop.{stop-is}
 
 -- a fault that is made of an answer above 0
-made : (a : Answer) (x : Refusal) → 0 < numberOf a → _≡_ {A = Walked (List Written)} (fault (refusal a)) (fault x) → 0 < numberOf (x .answer)
-made a x h e = let s : refusal a ≡ x = cc in subst (λ (y : Refusal). 0 < numberOf (y .answer)) s h
+made : (a : Answer) (at : ℕ) (x : Refusal) → 0 < numberOf a → _≡_ {A = Walked (List Written)} (fault (refusal a at)) (fault x) → 0 < numberOf (x .answer)
+made a at x h e = let s : refusal a at ≡ x = cc in subst (λ (y : Refusal). 0 < numberOf (y .answer)) s h
 
 passed : (y x : Refusal) → 0 < numberOf (y .answer) → _≡_ {A = Walked (List Written)} (fault y) (fault x) → 0 < numberOf (x .answer)
 passed y x h e = let s : y ≡ x = cc in subst (λ (y : Refusal). 0 < numberOf (y .answer)) s h
 
-unfirst : (w : Written) (g : Walked (List Written)) (x : Refusal) → addFirst w g ≡ fault x → g ≡ fault x
+pub unfirst : (w : Written) (g : Walked (List Written)) (x : Refusal) → addFirst w g ≡ fault x → g ≡ fault x
 unfirst w (fault y) x e = e
 unfirst w (walked ws end) x e = let z : _≡_ {A = ℕ} 0 1 = cc in absurd (omega arith)
 
 rest-fault : (d : Directory) (log : List ℕ) (n : ℕ) (r : LogReader) (x : Refusal) → restOf n d log r ≡ fault x → 0 < numberOf (x .answer)
 unfolding restOf
-rest-fault d log zero r x e = made Cut x (omega arith) e
+rest-fault d log zero r x e = made Cut (r .position) x (omega arith) e
 rest-fault d log (suc n) r x e = go (stepOf d log r) refl e (rest-fault d log n)
   where
     Next : Type 0
@@ -60,11 +60,11 @@ module _ (d : Directory) (log : List ℕ) (at expected : ℕ) (x : Refusal) wher
   unfolding recordAt
   record-fault e = go (stepOf d log (readerAt at true)) refl e
     where
-      by : (s : Stepped) (t : Bool) → eqb (s .reader .record_id) expected ≡ t → byOpening expected (restIn d log) (Took s) ≡ fault x → 0 < numberOf (x .answer)
+      by : (s : Stepped) (t : Bool) → eqb (s .reader .record_id) expected ≡ t → byOpening at expected (restIn d log) (Took s) ≡ fault x → 0 < numberOf (x .answer)
       by s true t f = rest-fault d log (suc (length log)) (s .reader) x (sym (if-true (eqb (s .reader .record_id) expected) _ _ t) ∙ f)
-      by s false t f = made WrongId x (omega arith) (sym (if-false (eqb (s .reader .record_id) expected) _ _ t) ∙ f)
+      by s false t f = made WrongId at x (omega arith) (sym (if-false (eqb (s .reader .record_id) expected) _ _ t) ∙ f)
 
-      go : (st : Step) → stepOf d log (readerAt at true) ≡ st → byOpening expected (restIn d log) st ≡ fault x → 0 < numberOf (x .answer)
+      go : (st : Step) → stepOf d log (readerAt at true) ≡ st → byOpening at expected (restIn d log) st ≡ fault x → 0 < numberOf (x .answer)
       go (Refused y) q f = passed y x (step-fault d log (readerAt at true) y q) f
       go (Took s) q f = by s (eqb (s .reader .record_id) expected) refl f
 
@@ -74,7 +74,7 @@ module _ (d : Directory) (log : List ℕ) (at expected : ℕ) (x : Refusal) wher
     where
       go : (b : Bool) → tablesKept d image ≡ b → 0 < numberOf (x .answer)
       go true q = record-fault (sym (judged-kept d log at expected image q) ∙ e)
-      go false q = made BadState x (omega arith) (sym (judged-bad d log at expected image q) ∙ e)
+      go false q = made BadState at x (omega arith) (sym (judged-bad d log at expected image q) ∙ e)
 
 module _ (d : Directory) (log : List ℕ) (at expected : ℕ) (image : List ℕ) where
   nothing : (o : Outcome) (rs : List (List Written)) → Leaves d log at expected image rs o → o .ran .count ≡ 0 → o .image ≡ image
@@ -106,8 +106,8 @@ module _ (d : Directory) (log : List ℕ) (at expected : ℕ) (image : List ℕ)
   run-fault = go (tablesKept d image) refl
     where
       why : (o : Outcome) → Stops d log expected o → 0 < numberOf (o .ran .answer)
-      why o (refuses x e a) = rw a (record-fault d log (o .ran .position) _ x e)
-      why o (used-up e a) = rw a (omega arith)
+      why o (refuses x e a p) = rw a (record-fault d log (o .ran .position) _ x e)
+      why o (used-up e a p) = rw a (omega arith)
 
       go : (b : Bool) → tablesKept d image ≡ b → 0 < numberOf (runOf d log at expected image .ran .answer)
       go true q = why (runOf d log at expected image) (stop-is d log expected at image q)

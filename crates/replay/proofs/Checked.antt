@@ -35,10 +35,10 @@ not-ended (fault x) a e = let p : x ≡ a = cc in ap {B = Walked (List Written)}
 not-ended (walked ws x) a e = let z : _≡_ {A = ℕ} 0 1 = cc in absurd (omega arith)
 
 -- an answer by where a record ended: what `replay` says, and what becomes of the image
-pub ended-as : (at end : ℕ) (g : Walked (List Written)) → Ended end ≡ endIn g → record { answer = Done; position = end } ≡ replayedAs at g
+pub ended-as : (at end : ℕ) (g : Walked (List Written)) → Ended end ≡ endIn g → record { answer = Done; position = end; «fault_at» = end } ≡ replayedAs at g
 ended-as at end g e = sym (ap (replayedAs at) (ended-walked g end e .1))
 
-pub not-ended-as : (at : ℕ) (a : Refusal) (g : Walked (List Written)) → NotEnded a ≡ endIn g → record { answer = a .answer; position = at } ≡ replayedAs at g
+pub not-ended-as : (at : ℕ) (a : Refusal) (g : Walked (List Written)) → NotEnded a ≡ endIn g → record { answer = a .answer; position = at; «fault_at» = a .position } ≡ replayedAs at g
 not-ended-as at a g e = sym (ap (replayedAs at) (not-ended g a e))
 
 pub untouched : (d : Directory) (image : List ℕ) (a : Refusal) (g : Walked (List Written)) → NotEnded a ≡ endIn g → image ≡ imageAfter d image g
@@ -51,20 +51,20 @@ module _ (d : Directory) (log : List ℕ) (at : ℕ) (r : LogReader) (o : Opened
   pub checked-no : (a : Refusal) → NotEnded a ≡ endIn (whole d log (plain r)) → NotEnded a ≡ endIn (whole d log r)
   checked-no a e = sym (ap endIn (sum-rest d log at (suc (length log)) r o ∙ ap (sumTested at log) (not-ended (whole d log (plain r)) a e)))
 
-  by-sum : (end : ℕ) → Ended end ≡ endIn (whole d log (plain r)) → (b : Bool) → fits end ≡ b → endIn (whole d log r) ≡ endIn (sumHeld b (walked [] end))
+  by-sum : (end : ℕ) → Ended end ≡ endIn (whole d log (plain r)) → (b : Bool) → fits end ≡ b → endIn (whole d log r) ≡ endIn (sumHeld b end [])
   by-sum end e b q =
       let g = ended-walked (whole d log (plain r)) end e in
-      ap endIn (sum-rest d log at (suc (length log)) r o ∙ ap (sumTested at log) (g .1) ∙ ap (λ (t : Bool). sumHeld t (walked (g .0) end)) q)
+      ap endIn (sum-rest d log at (suc (length log)) r o ∙ ap (sumTested at log) (g .1) ∙ ap (λ (t : Bool). sumHeld t end (g .0)) q)
       ∙ either b (g .0)
     where
-      either : (b : Bool) (ws : List Written) → endIn (sumHeld b (walked ws end)) ≡ endIn (sumHeld b (walked [] end))
+      either : (b : Bool) (ws : List Written) → endIn (sumHeld b end ws) ≡ endIn (sumHeld b end [])
       either true ws = refl
       either false ws = refl
 
   pub checked-yes : (end : ℕ) → Ended end ≡ endIn (whole d log (plain r)) → fits end ≡ true → Ended end ≡ endIn (whole d log r)
   checked-yes end e q = sym (by-sum end e true q)
 
-  pub checked-wrong : (end : ℕ) → Ended end ≡ endIn (whole d log (plain r)) → fits end ≡ false → NotEnded (refusal WrongSum) ≡ endIn (whole d log r)
+  pub checked-wrong : (end : ℕ) → Ended end ≡ endIn (whole d log (plain r)) → fits end ≡ false → NotEnded (refusal WrongSum (end - 5)) ≡ endIn (whole d log r)
   checked-wrong end e q = sym (by-sum end e false q)
 
   -- the second pass reads what the first one read, and no checksum
@@ -91,7 +91,7 @@ module _ (d : Directory) (log : List ℕ) (at expected : ℕ) (image : List ℕ)
   unfolding judged
   judged-kept e = if-true (tablesKept d image) _ _ e
 
-  pub judged-bad : tablesKept d image ≡ false → judged d log at expected image ≡ fault (refusal BadState)
+  pub judged-bad : tablesKept d image ≡ false → judged d log at expected image ≡ fault (refusal BadState at)
   unfolding judged
   judged-bad e = if-false (tablesKept d image) _ _ e
 

@@ -55,7 +55,7 @@ module _ (d : Directory) (log more : List ℕ) (k : ℕ) (cut : k ≤ length log
   abbrev other : List ℕ
   other = take k log ++ more
 
-  step-cut : (r : LogReader) (s : Stepped) → stepOf d log r ≡ Took s → s .reader .position ≤ k → stepOf d other r ≡ Took s
+  pub step-cut : (r : LogReader) (s : Stepped) → stepOf d log r ≡ Took s → s .reader .position ≤ k → stepOf d other r ≡ Took s
   step-cut r s e h =
       let p : ℕ = s .reader .position in
       let z : p + (k - p) ≡ k = omega arith in

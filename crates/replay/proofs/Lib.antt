@@ -5,6 +5,7 @@ pub mod Cut
 pub mod CutLog
 pub mod Demands
 pub mod Ends
+pub mod Fault
 pub mod Opening
 pub mod Places
 pub mod Records

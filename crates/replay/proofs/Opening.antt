@@ -58,18 +58,18 @@ unfolding recordAt
 whole-record d log at expected ws end e = go (stepOf d log (readerAt at true)) refl e
   where
     by : (s : Stepped) → stepOf d log (readerAt at true) ≡ Took s → (b : Bool) → eqb (s .reader .record_id) expected ≡ b
-        → byOpening expected (restOf (suc (length log)) d log) (Took s) ≡ walked ws end → Whole d log at expected ws end
+        → byOpening at expected (restOf (suc (length log)) d log) (Took s) ≡ walked ws end → Whole d log at expected ws end
     by s q true b f = record { s = s; opens = q; id = b; rest = sym (if-true (eqb (s .reader .record_id) expected) _ _ b) ∙ f }
     by s q false b f = let z : _≡_ {A = ℕ} 0 1 = cc (sym (if-false (eqb (s .reader .record_id) expected) _ _ b) ∙ f) in absurd (omega arith)
 
-    go : (st : Step) → stepOf d log (readerAt at true) ≡ st → byOpening expected (restOf (suc (length log)) d log) st ≡ walked ws end → Whole d log at expected ws end
+    go : (st : Step) → stepOf d log (readerAt at true) ≡ st → byOpening at expected (restOf (suc (length log)) d log) st ≡ walked ws end → Whole d log at expected ws end
     go (Refused x) q f = let z : _≡_ {A = ℕ} 0 1 = cc in absurd (omega arith)
     go (Took s) q f = by s q (eqb (s .reader .record_id) expected) refl f
 
 pub record-whole : (d : Directory) (log : List ℕ) (at expected : ℕ) (ws : List Written) (end : ℕ) → Whole d log at expected ws end → recordAt d log at expected ≡ walked ws end
 unfolding recordAt
 record-whole d log at expected ws end w =
-    ap (byOpening expected (restOf (suc (length log)) d log)) (w .opens) ∙ if-true (eqb (w .s .reader .record_id) expected) _ _ (w .id) ∙ w .rest
+    ap (byOpening at expected (restOf (suc (length log)) d log)) (w .opens) ∙ if-true (eqb (w .s .reader .record_id) expected) _ _ (w .id) ∙ w .rest
 
 -- a whole record takes a byte or more of the log
 pub record RecordOn (log : List ℕ) (at end : ℕ) : Type 0 where
@@ -88,13 +88,13 @@ record-on d log at expected ws end e =
 module _ (d : Directory) (log : List ℕ) (at expected : ℕ) where
   pub record-refused : (x : Refusal) → stepOf d log (readerAt at true) ≡ Refused x → recordAt d log at expected ≡ fault x
   unfolding recordAt
-  record-refused x e = ap (byOpening expected (restOf (suc (length log)) d log)) e
+  record-refused x e = ap (byOpening at expected (restOf (suc (length log)) d log)) e
 
-  pub record-wrong : (s : Stepped) → stepOf d log (readerAt at true) ≡ Took s → eqb (s .reader .record_id) expected ≡ false → recordAt d log at expected ≡ fault (refusal WrongId)
+  pub record-wrong : (s : Stepped) → stepOf d log (readerAt at true) ≡ Took s → eqb (s .reader .record_id) expected ≡ false → recordAt d log at expected ≡ fault (refusal WrongId at)
   unfolding recordAt
-  record-wrong s e b = ap (byOpening expected (restOf (suc (length log)) d log)) e ∙ if-false (eqb (s .reader .record_id) expected) _ _ b
+  record-wrong s e b = ap (byOpening at expected (restOf (suc (length log)) d log)) e ∙ if-false (eqb (s .reader .record_id) expected) _ _ b
 
   pub record-opened : (s : Stepped) → stepOf d log (readerAt at true) ≡ Took s → eqb (s .reader .record_id) expected ≡ true
       → recordAt d log at expected ≡ restOf (suc (length log)) d log (s .reader)
   unfolding recordAt
-  record-opened s e b = ap (byOpening expected (restOf (suc (length log)) d log)) e ∙ if-true (eqb (s .reader .record_id) expected) _ _ b
+  record-opened s e b = ap (byOpening at expected (restOf (suc (length log)) d log)) e ∙ if-true (eqb (s .reader .record_id) expected) _ _ b

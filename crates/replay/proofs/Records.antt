@@ -11,7 +11,7 @@ use Rattle.words.proofs.Choices.{if-true, if-false}
 use Rattle.directory.specs.declared.directory.Directory.{Directory}
 use Rattle.answer.specs.declared.answer.Answer.the-variants.{UsedUp, BadState}
 use Rattle.effect.specs.Effect.{Written, apply}
-use Rattle.answer.specs.Answer.{lastRecordId}
+use Rattle.answer.specs.Answer.{refusal, lastRecordId}
 use Rattle.answer.specs.declared.answer.Refusal.{Refusal}
 use Rattle.replay.specs.Replay.{Walked, fault, walked, recordAt, tablesKept, imageAfter, endIn}
 use Rattle.replay.specs.declared.check.EndAnswer.the-variants.{Ended, NotEnded}
@@ -25,7 +25,7 @@ module _ (d : Directory) (log : List ℕ) where
       → byRecord d f at expected count image r ≡ byRecord d g at expected count image r
   record-same f g at expected count image (fault x) e = refl
   record-same f g at expected count image (walked ws end) e =
-      ap (λ (x : Outcome). if eqb expected lastRecordId then stops UsedUp end (count + 1) (apply d ws image) else x) (e ws end refl)
+      ap (λ (x : Outcome). if eqb expected lastRecordId then stops (refusal UsedUp end) end (count + 1) (apply d ws image) else x) (e ws end refl)
 
   -- more records than the log has bytes left change nothing
   pub run-enough : (n m at expected count : ℕ) (image : List ℕ) → length log - at < n → length log - at < m
@@ -43,12 +43,12 @@ module _ (d : Directory) (log : List ℕ) where
   running at expected count image = runFrom (suc (length log)) d log at expected count image
 
   module _ (at expected count : ℕ) (image : List ℕ) where
-    pub run-stop : (a : Refusal) → recordAt d log at expected ≡ fault a → running at expected count image ≡ stops (a .answer) at count image
+    pub run-stop : (a : Refusal) → recordAt d log at expected ≡ fault a → running at expected count image ≡ stops a at count image
     unfolding runFrom
     run-stop a e = ap (byRecord d (runFrom (length log) d log) at expected count image) e
 
     pub run-last : (ws : List Written) (end : ℕ) → recordAt d log at expected ≡ walked ws end → eqb expected lastRecordId ≡ true
-        → running at expected count image ≡ stops UsedUp end (count + 1) (apply d ws image)
+        → running at expected count image ≡ stops (refusal UsedUp end) end (count + 1) (apply d ws image)
     unfolding runFrom
     run-last ws end e t = ap (byRecord d (runFrom (length log) d log) at expected count image) e ∙ if-true (eqb expected lastRecordId) _ _ t
 
@@ -63,15 +63,15 @@ module _ (d : Directory) (log : List ℕ) where
 -- ---- one turn, from what `replay_kept` answers and leaves
 
 module _ (d : Directory) (log : List ℕ) (at expected count : ℕ) (image after : List ℕ) (left : after ≡ imageAfter d image (recordAt d log at expected)) where
-  pub turn-stop : (a : Refusal) → NotEnded a ≡ endIn (recordAt d log at expected) → running d log at expected count image ≡ stops (a .answer) at count after
+  pub turn-stop : (a : Refusal) → NotEnded a ≡ endIn (recordAt d log at expected) → running d log at expected count image ≡ stops a at count after
   turn-stop a e =
       let g : recordAt d log at expected ≡ fault a = not-ended (recordAt d log at expected) a e in
-      run-stop d log at expected count image a g ∙ ap (stops (a .answer) at count) (sym (left ∙ ap (imageAfter d image) g))
+      run-stop d log at expected count image a g ∙ ap (stops a at count) (sym (left ∙ ap (imageAfter d image) g))
 
-  pub turn-last : (end : ℕ) → Ended end ≡ endIn (recordAt d log at expected) → eqb expected lastRecordId ≡ true → running d log at expected count image ≡ stops UsedUp end (count + 1) after
+  pub turn-last : (end : ℕ) → Ended end ≡ endIn (recordAt d log at expected) → eqb expected lastRecordId ≡ true → running d log at expected count image ≡ stops (refusal UsedUp end) end (count + 1) after
   turn-last end e t =
       let g = ended-walked (recordAt d log at expected) end e in
-      run-last d log at expected count image (g .0) end (g .1) t ∙ ap (stops UsedUp end (count + 1)) (sym (left ∙ ap (imageAfter d image) (g .1)))
+      run-last d log at expected count image (g .0) end (g .1) t ∙ ap (stops (refusal UsedUp end) end (count + 1)) (sym (left ∙ ap (imageAfter d image) (g .1)))
 
   pub turn-more : (end : ℕ) → Ended end ≡ endIn (recordAt d log at expected) → eqb expected lastRecordId ≡ false
       → running d log at expected count image ≡ running d log end (expected + 1) (count + 1) after
@@ -89,6 +89,6 @@ module _ (d : Directory) (log : List ℕ) (at expected : ℕ) (image : List ℕ)
   unfolding runOf
   run-kept e = if-true (tablesKept d image) _ _ e
 
-  pub run-bad : tablesKept d image ≡ false → runOf d log at expected image ≡ stops BadState at 0 image
+  pub run-bad : tablesKept d image ≡ false → runOf d log at expected image ≡ stops (refusal BadState at) at 0 image
   unfolding runOf
   run-bad e = if-false (tablesKept d image) _ _ e

@@ -28,14 +28,14 @@ module _ (d : Directory) (log : List ℕ) (first : ℕ) where
           → Stops d log first (byRecord d (runFrom n d log) at (first + count) count image (walked ws end))
       last ws end e true b ih =
           let p : first + count ≡ lastRecordId = eqb-true (first + count) lastRecordId b in
-          rw b (used-up (omega arith) refl)
+          rw b (used-up (omega arith) refl refl)
       last ws end e false b ih =
           let o = record-on d log at (first + count) ws end e in
           let z : first + (count + 1) ≡ first + count + 1 = omega arith in
           rw (b, ← z) (ih end (count + 1) (apply d ws image) (omega (arith, o .forward, o .inside)))
 
       go : (g : Walked (List Written)) → recordAt d log at (first + count) ≡ g → Next → Stops d log first (byRecord d (runFrom n d log) at (first + count) count image g)
-      go (fault x) e ih = refuses x e refl
+      go (fault x) e ih = refuses x e refl refl
       go (walked ws end) e ih = last ws end e (eqb (first + count) lastRecordId) refl ih
 
   -- THE STOP

@@ -29,7 +29,7 @@ use Rattle.replay.specs.Replay.{Walked, fault, walked, addFirst, byStep,
 use Rattle.replay.proofs.Ends.{EndTag, end-read, summing, inside-sum}
 
 -- a step inside a record
-inside-step : (d : Directory) (log : List ℕ) (r : LogReader) → r .inside ≡ true → r .position ≤ length log
+pub inside-step : (d : Directory) (log : List ℕ) (r : LogReader) → r .inside ≡ true → r .position ≤ length log
     → stepOf d log r ≡ stepped log r (readAt (inside d (r .validate) (r .crc32)) (r .position) log)
 unfolding stepOf
 inside-step d log r b h = if-false (ltb (length log) (r .position)) _ _ (le-ltb (length log) (r .position) h) ∙ if-true (r .inside) _ _ b
@@ -57,18 +57,18 @@ sum-at log at pos register h k tag e =
     z p = omega arith
 
 -- the test at the end of the walk
-abbrev pub sumHeld : Bool → Walked (List Written) → Walked (List Written)
-sumHeld holds g = if holds then g else fault (refusal WrongSum)
+abbrev pub sumHeld : Bool → ℕ → List Written → Walked (List Written)
+sumHeld holds end ws = if holds then walked ws end else fault (refusal WrongSum (end - 5))
 
 abbrev pub sumTested : ℕ → List ℕ → Walked (List Written) → Walked (List Written)
 sumTested at log (fault x) = fault x
-sumTested at log (walked ws end) = sumHeld (eqb (littleAt 4 log (end - 4)) (checksumOf (take (end - 4 - at) (drop at log)))) (walked ws end)
+sumTested at log (walked ws end) = sumHeld (eqb (littleAt 4 log (end - 4)) (checksumOf (take (end - 4 - at) (drop at log)))) end ws
 
 sum-first : (at : ℕ) (log : List ℕ) (w : Written) (g : Walked (List Written)) → addFirst w (sumTested at log g) ≡ sumTested at log (addFirst w g)
 sum-first at log w (fault x) = refl
 sum-first at log w (walked ws end) = go (eqb (littleAt 4 log (end - 4)) (checksumOf (take (end - 4 - at) (drop at log))))
   where
-    go : (b : Bool) → addFirst w (sumHeld b (walked ws end)) ≡ sumHeld b (walked (w ∷ ws) end)
+    go : (b : Bool) → addFirst w (sumHeld b end ws) ≡ sumHeld b end (w ∷ ws)
     go true = refl
     go false = refl
 
@@ -107,9 +107,9 @@ module _ (d : Directory) (log : List ℕ) (at : ℕ) where
       w : Written
       w = record { action = i .action; payload = take (i .payload) (drop (end - i .payload) log) }
 
-      closing : isEnd (i .action) ≡ true → (b : Bool) → byStep log (restOf n d log) (stepped log r (tested b (got i end) WrongSum)) ≡ sumHeld b (walked [] end)
-      closing e true = rw e
-      closing e false = refl
+      closing : isEnd (i .action) ≡ true → r .position ≡ end - 5 → (b : Bool) → byStep log (restOf n d log) (stepped log r (tested b (got i end) WrongSum)) ≡ sumHeld b end []
+      closing e z true = rw e
+      closing e z false = ap {B = Walked (List Written)} (λ (p : ℕ). fault (refusal WrongSum p)) z
 
       going : isEnd (i .action) ≡ false → (p : LogReader) → byStep log (restOf n d log) (stepped log p (got i end)) ≡ addFirst w (restOf n d log (forwardTo log p end))
       going e p = rw e
@@ -126,7 +126,7 @@ module _ (d : Directory) (log : List ℕ) (at : ℕ) where
           let f : end ≤ length log = within (inside d false allOnes) (r .position) log i end (o .within) q .inside in
           let s : eqb (littleAt 4 log (r .position + 1)) (finished (updated (r .crc32) (4 ∷ []))) ≡ eqb (littleAt 4 log (end - 4)) (checksumOf (take (end - 4 - at) (drop at log))) =
           same-test t (omega (arith, t .closes)) in
-          rw (e, s) (closing e (eqb (littleAt 4 log (end - 4)) (checksumOf (take (end - 4 - at) (drop at log)))))
+          rw (e, s) (closing e (omega (arith, t .closes)) (eqb (littleAt 4 log (end - 4)) (checksumOf (take (end - 4 - at) (drop at log)))))
       go false e =
           let m = within (inside d false allOnes) (r .position) log i end (o .within) q in
           ap (λ (g : Got Item). byStep log (restOf n d log) (stepped log r g)) (if-false (isEnd (i .action)) _ _ e)
@@ -152,7 +152,7 @@ pub plain-walked : (d : Directory) (log : List ℕ) (at n : ℕ) (r : LogReader)
     → restOf n d log (plain r) ≡ walked ws end
 plain-walked d log at n r ws end o e = by (restOf n d log (plain r)) (sym (sum-rest d log at n r o) ∙ e)
   where
-    held : (b : Bool) (vs : List Written) (k : ℕ) → sumHeld b (walked vs k) ≡ walked ws end → walked vs k ≡ walked ws end
+    held : (b : Bool) (vs : List Written) (k : ℕ) → sumHeld b k vs ≡ walked ws end → walked vs k ≡ walked ws end
     held true vs k q = q
     held false vs k q = let z : _≡_ {A = ℕ} 0 1 = cc in absurd (omega arith)
 

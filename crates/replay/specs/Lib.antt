@@ -1,3 +1,4 @@
+pub mod Fault
 pub mod Inner
 pub mod Replay
 pub mod Run

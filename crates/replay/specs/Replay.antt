@@ -44,34 +44,35 @@ byStep log rest (Took s) = if isEnd (s .action) then walked [] (s .reader .posit
 
 -- the actions from inside a record to its end, in written order, and the place behind it; or the first fault. At most n steps
 unfoldable pub restOf : ℕ → Directory → List ℕ → LogReader → Walked (List Written)
-restOf zero d log r = fault (refusal Cut)
+restOf zero d log r = fault (refusal Cut (r .position))
 restOf (suc n) d log r = byStep log (restOf n d log) (stepOf d log r)
 
 -- each action takes a byte or more, so no more steps are due than the log has bytes: the bound is never met (`enough`, proofs/Rest)
 abbrev pub restIn : Directory → List ℕ → LogReader → Walked (List Written)
 restIn d log r = restOf (suc (length log)) d log r
 
--- "Expected id is tested, in replay only, right after the opening"
-abbrev pub byOpening : ℕ → (LogReader → Walked (List Written)) → Step → Walked (List Written)
-byOpening expected rest (Refused x) = fault x
-byOpening expected rest (Took s) = if eqb (s .reader .record_id) expected then rest (s .reader) else fault (refusal WrongId)  -- 5
+-- "Expected id is tested, in replay only, right after the opening"; "For 5 that is the begin tag", where the record starts
+abbrev pub byOpening : ℕ → ℕ → (LogReader → Walked (List Written)) → Step → Walked (List Written)
+byOpening at expected rest (Refused x) = fault x
+byOpening at expected rest (Took s) = if eqb (s .reader .record_id) expected then rest (s .reader) else fault (refusal WrongId at)  -- 5
 
 -- a whole record: "then for reading 14, then faults in byte order"; "replay always validates"
 unfoldable pub recordAt : Directory → List ℕ → ℕ → ℕ → Walked (List Written)
-recordAt d log at expected = byOpening expected (restIn d log) (stepOf d log (readerAt at true))
+recordAt d log at expected = byOpening at expected (restIn d log) (stepOf d log (readerAt at true))
 
 -- 13: the directory's rules, "or image length differs"
 unfoldable pub tablesKept : Directory → List ℕ → Bool
 tablesKept d image = directoryKept d && eqb (length image) (imageLength d)
 
--- the record that `replay` is asked for, behind 13
+-- the record that `replay` is asked for, behind 13: "for 13 and 14 the position handed in"
 unfoldable pub judged : Directory → List ℕ → ℕ → ℕ → List ℕ → Walked (List Written)
-judged d log at expected image = if tablesKept d image then recordAt d log at expected else fault (refusal BadState)
+judged d log at expected image = if tablesKept d image then recordAt d log at expected else fault (refusal BadState at)
 
--- what `replay` answers: the position behind the record, or the one handed in
+-- what `replay` answers: the position behind the record, or the one handed in; and where the fault is, the position behind the record if
+-- there is none
 abbrev pub replayedAs : ℕ → Walked (List Written) → Replayed
-replayedAs at (fault x) = record { answer = x .answer; position = at }
-replayedAs at (walked ws end) = record { answer = Done; position = end }
+replayedAs at (fault x) = record { answer = x .answer; position = at; «fault_at» = x .position }
+replayedAs at (walked ws end) = record { answer = Done; position = end; «fault_at» = end }
 
 -- and the image: the record's effect, or as it was
 abbrev pub imageAfter : Directory → List ℕ → Walked (List Written) → List ℕ

@@ -8,8 +8,7 @@ use lib.Dec.{eqb, leb}
 use lib.ListN.{length, getD}
 use Rattle.words.specs.Choice.{if_then_else_}
 use Rattle.directory.specs.declared.directory.Directory.{Directory}
-use Rattle.answer.specs.Answer.{lastRecordId}
-use Rattle.answer.specs.declared.answer.Answer.{Answer}
+use Rattle.answer.specs.Answer.{refusal, lastRecordId}
 use Rattle.answer.specs.declared.answer.Answer.the-variants.{EndOfLog, UsedUp, BadState}
 use Rattle.answer.specs.declared.answer.Refusal.{Refusal}
 use Rattle.effect.specs.Effect.{Written, apply}
@@ -22,29 +21,33 @@ pub record Outcome : Type 0 where
   pub ran : Ran
   pub image : List ℕ
 
--- a stop with that answer, at a position and after so many records
-abbrev pub stops : Answer → ℕ → ℕ → List ℕ → Outcome
-stops answer position count image = record { ran = record { answer = answer; position = position; count = count }; image = image }
+-- a stop with that refusal, at a position and after so many records
+abbrev pub stops : Refusal → ℕ → ℕ → List ℕ → Outcome
+stops x position count image = record {
+  ran = record { answer = x .answer; position = position; count = count; «fault_at» = x .position };
+  image = image;
+}
 
--- after a record: the stop, or its effect, "After id 2^64-1 it stops with 12", or on with the next id
+-- after a record: the stop, or its effect, "After id 2^64-1 it stops with 12", told at "the place behind the last record read", or on with the
+-- next id
 abbrev pub byRecord : Directory → (ℕ → ℕ → ℕ → List ℕ → Outcome) → ℕ → ℕ → ℕ → List ℕ → Walked (List Written) → Outcome
-byRecord d on at expected count image (fault x) = stops (x .answer) at count image
+byRecord d on at expected count image (fault x) = stops x at count image
 byRecord d on at expected count image (walked ws end) =
-    if eqb expected lastRecordId then stops UsedUp end (count + 1) (apply d ws image) else
+    if eqb expected lastRecordId then stops (refusal UsedUp end) end (count + 1) (apply d ws image) else
     on end (expected + 1) (count + 1) (apply d ws image)
 
 -- from a position, an expected id and a count so far; at most n records
 unfoldable pub runFrom : ℕ → Directory → List ℕ → ℕ → ℕ → ℕ → List ℕ → Outcome
-runFrom zero d log at expected count image = stops EndOfLog at count image
+runFrom zero d log at expected count image = stops (refusal EndOfLog at) at count image
 runFrom (suc n) d log at expected count image = byRecord d (runFrom n d log) at expected count image (recordAt d log at expected)
 
 -- a record takes a byte or more, so no more are due than the log has bytes: the bound is never met (`run-enough`, proofs/Records)
 abbrev pub runIn : Directory → List ℕ → ℕ → ℕ → ℕ → List ℕ → Outcome
 runIn d log at expected count image = runFrom (suc (length log)) d log at expected count image
 
--- `run`: 13, then the records
+-- `run`: 13, told at "the position handed in", then the records
 unfoldable pub runOf : Directory → List ℕ → ℕ → ℕ → List ℕ → Outcome
-runOf d log at expected image = if tablesKept d image then runIn d log at expected 0 image else stops BadState at 0 image
+runOf d log at expected image = if tablesKept d image then runIn d log at expected 0 image else stops (refusal BadState at) at 0 image
 
 -- ---- what a run is held against: the records themselves
 
@@ -88,10 +91,11 @@ pub record Leaves (d : Directory) (log : List ℕ) (at first : ℕ) (image : Lis
   pub tables : o .image ≡ applyAll d rs image
 
 -- "stops at the first answer other than 0, and reports that answer": the record at the position is refused with it under the next id;
--- "After id 2^64-1 it stops with 12."
+-- "After id 2^64-1 it stops with 12." The fault is the record's; of 12 it is "the place behind the last record read", where the run stands
 pub data Stops (d : Directory) (log : List ℕ) (first : ℕ) (o : Outcome) : Type 0 where
-  refuses : (x : Refusal) → recordAt d log (o .ran .position) (first + o .ran .count) ≡ fault x → o .ran .answer ≡ x .answer → Stops d log first o
-  used-up : first + o .ran .count ≡ lastRecordId + 1 → o .ran .answer ≡ UsedUp → Stops d log first o
+  refuses : (x : Refusal) → recordAt d log (o .ran .position) (first + o .ran .count) ≡ fault x → o .ran .answer ≡ x .answer
+      → o .ran .«fault_at» ≡ x .position → Stops d log first o
+  used-up : first + o .ran .count ≡ lastRecordId + 1 → o .ran .answer ≡ UsedUp → o .ran .«fault_at» ≡ o .ran .position → Stops d log first o
 
 -- a run from a position and a first expected id: its records, why it stopped behind them, and each byte of the image (demand 2, of each record)
 pub record Replays (d : Directory) (log : List ℕ) (at first : ℕ) (image : List ℕ) (o : Outcome) : Type 0 where

@@ -50,7 +50,7 @@ pub fn checked_rest(d: Directory, log: &[u8], at: usize, opened: LogReader) -> E
             if sum == checksum::checksum(&log[at..tail]) {
                 EndAnswer::Ended(end)
             } else {
-                EndAnswer::NotEnded(Refusal::new(Answer::WrongSum))
+                EndAnswer::NotEnded(Refusal::new(Answer::WrongSum, end - 5))
             }
         }
     }

@@ -9,10 +9,12 @@ use super::one_record::tables_kept;
 use answer::Answer;
 use directory::Directory;
 
+// `position` is where the record not replayed begins, `fault_at` where the action at fault begins.
 pub struct Ran {
     pub answer: Answer,
     pub position: usize,
     pub count: u64,
+    pub fault_at: usize,
 }
 
 // A run under a directory and an image that were tested already.
@@ -31,6 +33,7 @@ pub fn run_kept(d: Directory, log: &[u8], at: usize, expected: u64, image: &mut 
                     answer: a,
                     position: position,
                     count: count,
+                    fault_at: x.position,
                 };
             }
             EndAnswer::Ended(end) => {
@@ -41,6 +44,7 @@ pub fn run_kept(d: Directory, log: &[u8], at: usize, expected: u64, image: &mut 
                         answer: Answer::UsedUp,
                         position: position,
                         count: count,
+                        fault_at: position,
                     };
                 }
                 id += 1;
@@ -60,6 +64,7 @@ pub fn run(d: Directory, log: &[u8], at: usize, expected: u64, image: &mut [u8])
             answer: Answer::BadState,
             position: at,
             count: 0,
+            fault_at: at,
         }
     }
 }

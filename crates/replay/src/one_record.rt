@@ -12,9 +12,11 @@ use directory::Directory;
 use record::LogReader;
 use record::Step;
 
+// `position` is behind the record, or the one handed in. `fault_at` is where the action at fault begins; beside answer 0 it is `position`.
 pub struct Replayed {
     pub answer: Answer,
     pub position: usize,
+    pub fault_at: usize,
 }
 
 // The record behind its opening: checked to its end, then applied. The second pass leaves the checksum out: it was found right.
@@ -55,7 +57,7 @@ pub fn replay_kept(
             if opened.record_id == expected {
                 replay_opened(d, log, at, opened, image)
             } else {
-                EndAnswer::NotEnded(Refusal::new(Answer::WrongId))
+                EndAnswer::NotEnded(Refusal::new(Answer::WrongId, at))
             }
         }
     }
@@ -80,6 +82,7 @@ pub fn replay(d: Directory, log: &[u8], at: usize, expected: u64, image: &mut [u
         return Replayed {
             answer: Answer::BadState,
             position: at,
+            fault_at: at,
         };
     }
     match replay_kept(d, log, at, expected, image) {
@@ -88,11 +91,13 @@ pub fn replay(d: Directory, log: &[u8], at: usize, expected: u64, image: &mut [u
             Replayed {
                 answer: a,
                 position: at,
+                fault_at: x.position,
             }
         }
         EndAnswer::Ended(end) => Replayed {
             answer: Answer::Done,
             position: end,
+            fault_at: end,
         },
     }
 }

@@ -66,6 +66,9 @@ part-checksum-end c = omega (arith, place (c .before) .five, place (c .before) .
 checksum-requires : tie.Need-checksum-requires
 checksum-requires c κs = search needs
 
+sub-new : tie.Need-sub-new
+sub-new c = omega (arith, place (c .before .before .before .before) .five)
+
 new-requires : tie.Need-new-requires
 new-requires c κs = search needs
 
@@ -104,6 +107,7 @@ checked-rest-spec =
     part-checksum-start
     part-checksum-end
     checksum-requires
+    sub-new
     new-requires
     returns
     returns-2

@@ -11,8 +11,8 @@ use Rattle.memory.specs.Overlays.{Overlays, overlaysOf}
 use Rattle.clearing.specs.EndRead.{recordAgain, clearable, Ending, endReadBy, endReadOf}
 use Rattle.clearing.proofs.Ended.{refused-ends, no-directory, no-overlays, no-next, tested-ends}
 use borrow.Author.Needs.{needs}
-use Rattle.clearing.proofs.ending.end_read.Statement.{statement}
-use Rattle.clearing.proofs.ending.end_read.Tie as tie
+use Rattle.clearing.proofs.end_of_reading.end_read.Statement.{statement}
+use Rattle.clearing.proofs.end_of_reading.end_read.Tie as tie
 
 -- the overlays handed in
 abbrev shared : tie.Start → Overlays
@@ -35,7 +35,7 @@ nothing-read-requires c κs = search needs
 returns : tie.Need-returns
 returns c =
     let a = c .before .before .before .before .before .before .args in
-    refused-ends (a .position) (a .next) (a .overlays) (now (a .words)) (now (a .bytes)) (c .nothing-read .result) (refusal BadState) (c .nothing-read .ensures) _ (no-directory (a .directory) (now (a .log)) (a .position) (shared (c .before .before .before .before .before .before)) (a .next) (sym (c .before .before .kept .ensures) ∙ not-true _ (c .before .if1 .taken)))
+    refused-ends (a .position) (a .next) (a .overlays) (now (a .words)) (now (a .bytes)) (c .nothing-read .result) (refusal BadState (a .position)) (c .nothing-read .ensures) _ (no-directory (a .directory) (now (a .log)) (a .position) (shared (c .before .before .before .before .before .before)) (a .next) (sym (c .before .before .kept .ensures) ∙ not-true _ (c .before .if1 .taken)))
 
 all-kept-requires : tie.Need-all-kept-requires
 all-kept-requires c κs = search needs
@@ -52,7 +52,7 @@ same-length-2 c = search needs
 returns-2 : tie.Need-returns-2
 returns-2 c =
     let a = c .before .before .before .before .before .before .before .before .before .before .before .args in
-    refused-ends (a .position) (a .next) (a .overlays) (now (a .words)) (now (a .bytes)) (c .nothing-read2 .result) (refusal BadState) (c .nothing-read2 .ensures) _ (no-overlays (a .directory) (now (a .log)) (a .position) (shared (c .before .before .before .before .before .before .before .before .before .before .before)) (a .next) (sym (c .before .before .before .before .before .before .before .kept .ensures) ∙ not-false _ (c .before .before .before .before .before .before .if1 .left)) (sym (c .before .before .all-kept .ensures) ∙ not-true _ (c .before .if2 .taken)))
+    refused-ends (a .position) (a .next) (a .overlays) (now (a .words)) (now (a .bytes)) (c .nothing-read2 .result) (refusal BadState (a .position)) (c .nothing-read2 .ensures) _ (no-overlays (a .directory) (now (a .log)) (a .position) (shared (c .before .before .before .before .before .before .before .before .before .before .before)) (a .next) (sym (c .before .before .before .before .before .before .before .kept .ensures) ∙ not-false _ (c .before .before .before .before .before .before .if1 .left)) (sym (c .before .before .all-kept .ensures) ∙ not-true _ (c .before .if2 .taken)))
 
 nothing-read-requires-3 : tie.Need-nothing-read-requires-3
 nothing-read-requires-3 c κs = search needs
@@ -66,7 +66,7 @@ same-length-4 c = search needs
 returns-3 : tie.Need-returns-3
 returns-3 c =
     let a = c .before .before .before .before .before .before .before .before .before .before .before .before .args in
-    refused-ends (a .position) (a .next) (a .overlays) (now (a .words)) (now (a .bytes)) (c .nothing-read3 .result) (refusal BadState) (c .nothing-read3 .ensures) _ (no-next (a .directory) (now (a .log)) (a .position) (shared (c .before .before .before .before .before .before .before .before .before .before .before .before)) (a .next) (sym (c .before .before .before .before .before .before .before .before .kept .ensures) ∙ not-false _ (c .before .before .before .before .before .before .before .if1 .left)) (overlays-kept (c .before .before)) (c .before .if3 .taken))
+    refused-ends (a .position) (a .next) (a .overlays) (now (a .words)) (now (a .bytes)) (c .nothing-read3 .result) (refusal BadState (a .position)) (c .nothing-read3 .ensures) _ (no-next (a .directory) (now (a .log)) (a .position) (shared (c .before .before .before .before .before .before .before .before .before .before .before .before)) (a .next) (sym (c .before .before .before .before .before .before .before .before .kept .ensures) ∙ not-false _ (c .before .before .before .before .before .before .before .if1 .left)) (overlays-kept (c .before .before)) (c .before .if3 .taken))
 
 end-read-kept-requires : tie.Need-end-read-kept-requires
 end-read-kept-requires c κs = (sym (c .before .before .before .before .before .before .before .before .before .kept .ensures) ∙ not-false _ (c .before .before .before .before .before .before .before .before .if1 .left), overlays-kept (c .before .before .before), c .before .before .if3 .left)

@@ -11,8 +11,8 @@ use Rattle.replay.specs.declared.whole.WholeAnswer.the-variants.{Whole}
 use Rattle.clearing.proofs.Again.{Clears, not-again, used-up, clears}
 use Rattle.clearing.proofs.Ended.{refused-ends, plain-walks, cleared-ends}
 use borrow.Author.Needs.{needs}
-use Rattle.clearing.proofs.ending.end_read_kept.Statement.{statement}
-use Rattle.clearing.proofs.ending.end_read_kept.Tie as tie
+use Rattle.clearing.proofs.end_of_reading.end_read_kept.Statement.{statement}
+use Rattle.clearing.proofs.end_of_reading.end_read_kept.Tie as tie
 
 -- the record that was found whole
 module _ (u : tie.After-w) where
@@ -51,7 +51,7 @@ nothing-read-requires-2 c κs = search needs
 returns : tie.Need-returns
 returns c =
     let a = c .before .before .before .before .before .before .before .before .before .before .args in
-    refused-ends (a .position) (a .next) (a .overlays) (now (a .words)) (now (a .bytes)) (c .nothing-read2 .result) (refusal UsedUp) (c .nothing-read2 .ensures) _ (used-up (a .directory) (now (a .log)) (a .position) (w (c .before .before .before .before)) (found (c .before .before .before .before)) (c .before .if1 .taken))
+    refused-ends (a .position) (a .next) (a .overlays) (now (a .words)) (now (a .bytes)) (c .nothing-read2 .result) (refusal UsedUp (w (c .before .before .before .before) .end)) (c .nothing-read2 .ensures) _ (used-up (a .directory) (now (a .log)) (a .position) (w (c .before .before .before .before)) (found (c .before .before .before .before)) (c .before .if1 .taken))
 
 unvalidated-requires : tie.Need-unvalidated-requires
 unvalidated-requires c κs = search needs

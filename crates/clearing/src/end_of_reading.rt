@@ -15,19 +15,28 @@ use memory::Holder;
 use memory::LogOverlays;
 use replay::WholeAnswer;
 
+// `position` is behind the record, or the one handed in. `fault_at` is where the action at fault begins; beside answer 0 it is `position`.
 pub struct EndRead {
     pub answer: Answer,
+    pub fault_at: usize,
     pub position: usize,
     pub record_id: u64,
     pub next_record_id: u64,
     pub overlays: LogOverlays,
 }
 
-fn nothing_read(answer: Answer, position: usize, overlays: LogOverlays, next: u64) -> EndRead
-    ensures { λ r. ⌜ r ≡ nothingRead answer position overlays next ⌝ }
+fn nothing_read(
+    answer: Answer,
+    fault_at: usize,
+    position: usize,
+    overlays: LogOverlays,
+    next: u64,
+) -> EndRead
+    ensures { λ r. ⌜ r ≡ nothingRead answer «fault_at» position overlays next ⌝ }
 {
     EndRead {
         answer: answer,
+        fault_at: fault_at,
         position: position,
         record_id: 0,
         next_record_id: next,
@@ -60,13 +69,13 @@ pub fn end_read_kept(
     match replay::check_record_kept(directory, log, position) {
         WholeAnswer::NotWhole(x) => {
             let a = x.answer;
-            nothing_read(a, position, overlays, next)
+            nothing_read(a, x.position, position, overlays, next)
         }
         WholeAnswer::Whole(w) => {
             let opened = w.opened;
             let id = opened.record_id;
             if id == answer::LAST_RECORD_ID {
-                return nothing_read(Answer::UsedUp, position, overlays, next);
+                return nothing_read(Answer::UsedUp, w.end, position, overlays, next);
             }
             let before = overlays.counts;
             let counts = clear_rest(directory, log, opened.unvalidated(), before, words, bytes);
@@ -77,6 +86,7 @@ pub fn end_read_kept(
             };
             EndRead {
                 answer: Answer::Done,
+                fault_at: w.end,
                 position: w.end,
                 record_id: id,
                 next_record_id: raised(next, id),
@@ -100,14 +110,14 @@ pub fn end_read(
         ≡ endRead directory (now (log .entry)) position (overlaysOf overlays (now (words .entry)) (now (bytes .entry))) next ⌝ }
 {
     if !directory.kept() {
-        return nothing_read(Answer::BadState, position, overlays, next);
+        return nothing_read(Answer::BadState, position, position, overlays, next);
     }
     let counts = overlays.counts;
     if !memory::all_kept(Holder::Shared, counts, words, bytes) {
-        return nothing_read(Answer::BadState, position, overlays, next);
+        return nothing_read(Answer::BadState, position, position, overlays, next);
     }
     if next == 0 {
-        return nothing_read(Answer::BadState, position, overlays, next);
+        return nothing_read(Answer::BadState, position, position, overlays, next);
     }
     end_read_kept(directory, log, position, overlays, words, bytes, next)
 }

@@ -1,8 +1,8 @@
 -- `raised` meets its contract. Assumes nothing.
 use borrow.Author.Tests.{lt-ltb, le-ltb}
 use borrow.Author.Needs.{needs}
-use Rattle.clearing.proofs.ending.raised.Statement.{statement}
-use Rattle.clearing.proofs.ending.raised.Tie as tie
+use Rattle.clearing.proofs.end_of_reading.raised.Statement.{statement}
+use Rattle.clearing.proofs.end_of_reading.raised.Tie as tie
 
 add-result : tie.Need-add-result
 add-result c = search needs
