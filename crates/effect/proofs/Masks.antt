@@ -7,7 +7,6 @@ use native.Mathlib.Omega.{arith}
 use lib.Count.{onesIn, ones, ones-step}
 use lib.ListN.{length}
 use Rattle.words.specs.Words.{littleAt}
-use Rattle.effect.specs.Effect.{maskIn}
 use Rattle.effect.specs.Meaning.{Entries}
 
 -- the k lowest bits have no more set ones than all
@@ -16,6 +15,10 @@ unfolding onesIn
 low-ones zero m = omega arith
 low-ones (suc k) m = omega (arith, ones-step m, low-ones k (m / 2))
 
--- the payload holds an entry for each of the 64 bits that is set
-pub entries-room : (width mask : ℕ) (payload : List ℕ) → mask ≡ littleAt 8 payload 0 → Entries width payload → 8 + onesIn 64 mask * width ≤ length payload
-entries-room width mask payload m e = rw m (omega (arith, mul-le-mul-right width (low-ones 64 (maskIn payload))))
+module _ (width mask : ℕ) (payload : List ℕ) (m : mask ≡ littleAt 8 payload 0) (e : Entries width payload) where
+  -- the payload holds an entry for each set bit, and so for each of the lowest 64
+  pub entries-held : 8 + ones mask * width ≤ length payload
+  entries-held = rw m (omega arith)
+
+  pub entries-room : 8 + onesIn 64 mask * width ≤ length payload
+  entries-room = omega (arith, entries-held, mul-le-mul-right width (low-ones 64 mask))

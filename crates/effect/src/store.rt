@@ -1,7 +1,7 @@
 // Stores into the image.
 ghost use mathlib.Core.Path.{_≡_};
 ghost use Prim.Native.Nat.{_+_, _*_, _≤_};
-ghost use lib.Count.{onesIn};
+ghost use lib.Count.{ones};
 ghost use lib.ListN.{length, take, drop, replicate};
 ghost use lib.Seq.{sets};
 ghost use Rattle.effect.specs.Effect.{slotStrokes, puts};
@@ -31,22 +31,21 @@ pub fn copy(image: &mut [u8], at: usize, payload: &[u8], from: usize, n: usize)
     }
 }
 
-// the set bits of the mask, lowest first: `width` bytes of the payload for each
+// the set bits of the mask, lowest first: `width` bytes of the payload for each, a run of them at a stroke
 pub fn put_slots(image: &mut [u8], at: usize, width: usize, mask: u64, payload: &[u8], from: usize)
-    requires { ⌜ (at + 64 * width ≤ length (now image)) × (from + onesIn 64 mask * width ≤ length (now payload)) ⌝ }
+    requires { ⌜ (at + 64 * width ≤ length (now image)) × (from + ones mask * width ≤ length (now payload)) ⌝ }
     ensures { λ _. ⌜ now (image .exit) ≡ puts (slotStrokes 64 width at mask (drop from (now (payload .entry)))) (now (image .entry)) ⌝ }
 {
     let mut m = mask;
-    let mut a = at;
+    let mut slot: usize = 0;
     let mut f = from;
-    let mut left: usize = 64;
-    while 0 < left {
-        if m % 2 == 1 {
-            copy(image, a, payload, f, width);
-            f += width;
-        }
-        m = m / 2;
-        a += width;
-        left -= 1;
+    while 0 < m {
+        let r = words::next_run(m);
+        slot += r.clear;
+        let n = r.set * width;
+        copy(image, at + slot * width, payload, f, n);
+        slot += r.set;
+        f += n;
+        m = r.rest;
     }
 }

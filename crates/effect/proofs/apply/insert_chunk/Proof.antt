@@ -1,6 +1,6 @@
 -- `insert_chunk` meets its contract. Assumes nothing.
 use Rattle.effect.proofs.Spots.{spotted, puts-nowhere, puts-chunk}
-use Rattle.effect.proofs.Masks.{entries-room}
+use Rattle.effect.proofs.Masks.{entries-held}
 use mathlib.Core.Path.{sym, _∙_}
 use native.Mathlib.Omega.{arith}
 use borrow.Author.Needs.{needs}
@@ -29,7 +29,7 @@ put-slots-requires c κs =
     let s = spotted _ _ _ _ _ _ (sym (c .before .before .before .before .before .locate .ensures) ∙ c .before .before .before .at .given .1) in
     let a = c .before .before .before .before .before .before .before .before .args in (
       omega (arith, s .room, s .long, c .before .before .before .before .before .before .before .before .pre .1 .0 (s .place .table) (s .kinds)),
-      entries-room (a .width) _ (a .payload .now) (c .before .u64-at .ensures) (c .before .before .before .before .before .before .before .before .pre .1 .1),
+      entries-held (a .width) _ (a .payload .now) (c .before .u64-at .ensures) (c .before .before .before .before .before .before .before .before .pre .1 .1),
     )
 
 returns : tie.Need-returns
