@@ -1,3 +1,4 @@
 -- What the contracts cite.
 pub mod Checksum
+pub mod Inner
 pub mod Tables

@@ -1,4 +1,4 @@
--- What the tables hold. Callers need none of it. Assumes nothing.
+-- What the table holds. Callers need none of it. Assumes nothing.
 use mathlib.Core.Path.{_≡_}
 use mathlib.Core.List.{List}
 use Prim.Native.Nat.{ℕ, zero, suc, _+_, _*_, _^_, _<_}

@@ -1,18 +1,20 @@
 // CRC-32 of ITU-T V.42, in place of crc32fast::Hasher: a register by value, and no state besides.
-// A function builds each table that it names on the stack where it starts, on every path through it. So each table has a function of its
-// own (`rest`, `bulk`), which lends it to what looks in it; and a caller does well to hand over a record whole, and not field by field.
+// A function builds a table that it names on the stack where it starts. So there is a small one only, which `update` lends to what looks in
+// it; of many bytes all but the last forty or so go without a table (long.rt).
 ghost use mathlib.Core.Path.{_≡_};
-ghost use Prim.Native.Nat.{_+_, _*_, _/_, _≤_};
-ghost use lib.Bits.{bitXor};
+ghost use Prim.Native.Nat.{_+_, _-_, _*_, _%_, _≤_};
 ghost use lib.ListN.{length, drop};
 ghost use Rattle.checksum.specs.Checksum.{bitsIn, updated, finished, checksumOf};
+ghost use Rattle.checksum.specs.Inner.{ahead, numberIn};
 ghost use Rattle.checksum.specs.Tables.{shifts, Moved};
 
+mod long;
 mod tables;
 
-use tables::BYTES;
+use long::Carried;
+use long::carry_all;
 use tables::NIBBLES;
-use words::u32_at;
+use words::u64_at;
 
 // The register before the first byte.
 pub const START: u32 = 4294967295;
@@ -34,21 +36,14 @@ fn by_nibbles(t: &[u32; 256], number: u32, base: usize) -> u32
     r
 }
 
-// A number moved 32 places and 8 more for each of base, by its bytes.
-fn by_bytes(t: &[u32; 4096], number: u32, base: usize) -> u32
-    requires { ⌜ Moved 8 16 (now t) ⌝ }
-    requires { ⌜ base ≤ 12 ⌝ }
-    ensures { λ q. ⌜ q ≡ shifts (8 * (base + 4)) number ⌝ }
+// Eight bytes as a number, moved out of the register.
+fn word_in(t: &[u32; 256], word: u64) -> u32
+    requires { ⌜ Moved 4 16 (now t) ⌝ }
+    ensures { λ q. ⌜ q ≡ shifts 64 word ⌝ }
 {
-    let mut r: u32 = 0;
-    let mut x = number;
-    let mut left: usize = 4;
-    while 0 < left {
-        left -= 1;
-        r ^= t[(base + left) * 256 + (x % 256) as usize];
-        x /= 256;
-    }
-    r
+    let high = (word / 4294967296) as u32;
+    let low = (word % 4294967296) as u32;
+    by_nibbles(t, high, 0) ^ by_nibbles(t, low, 8)
 }
 
 // One byte into the register.
@@ -60,35 +55,29 @@ fn byte_in(t: &[u32; 256], r: u32, b: u8) -> u32
     (r / 256) ^ (t[(x / 16) as usize] ^ t[16 + (x % 16) as usize])
 }
 
-// Eight bytes into the register, as two numbers. The register's own part is looked up last, here and below: it waits for the turn before,
-// and the other parts need not.
-fn eight_in(t: &[u32; 256], r: u32, a: u32, b: u32) -> u32
+// The register after the bytes of a part, eight at a time: the rest then brings it where all of them bring it.
+fn words_in(t: &[u32; 256], register: u32, bytes: &[u8], from: usize, to: usize) -> u32
     requires { ⌜ Moved 4 16 (now t) ⌝ }
-    ensures { λ q. ⌜ q ≡ bitXor (shifts 32 b) (shifts 64 (bitXor r a)) ⌝ }
+    requires { ⌜ (from ≤ to) × (to ≤ length (now bytes)) × ((to - from) % 8 ≡ 0) ⌝ }
+    ensures { λ q. ⌜ updated q (drop to (now (bytes .entry))) ≡ updated register (drop from (now (bytes .entry))) ⌝ }
 {
-    by_nibbles(t, b, 0) ^ by_nibbles(t, r ^ a, 8)
+    let mut r = register;
+    let mut i = from;
+    while i < to {
+        r = word_in(t, r as u64 ^ u64_at(bytes, i));
+        i += 8;
+    }
+    r
 }
 
-// Sixteen bytes into the register, as four numbers.
-fn sixteen_in(t: &[u32; 4096], r: u32, a: u32, b: u32, c: u32, d: u32) -> u32
-    requires { ⌜ Moved 8 16 (now t) ⌝ }
-    ensures { λ q. ⌜ q ≡ bitXor (bitXor (shifts 32 d) (bitXor (shifts 64 c) (shifts 96 b))) (shifts 128 (bitXor r a)) ⌝ }
-{
-    by_bytes(t, d, 0) ^ (by_bytes(t, c, 4) ^ by_bytes(t, b, 8)) ^ by_bytes(t, r ^ a, 12)
-}
-
-// The register after the bytes from a place on, eight at a time and then one at a time.
-fn few(t: &[u32; 256], register: u32, bytes: &[u8], from: usize) -> u32
+// The register after the bytes from a place on, one at a time.
+fn bytes_in(t: &[u32; 256], register: u32, bytes: &[u8], from: usize) -> u32
     requires { ⌜ Moved 4 16 (now t) ⌝ }
     requires { ⌜ from ≤ length (now bytes) ⌝ }
     ensures { λ q. ⌜ q ≡ updated register (drop from (now (bytes .entry))) ⌝ }
 {
     let mut r = register;
     let mut i = from;
-    while 8 <= bytes.len() - i {
-        r = eight_in(t, r, u32_at(bytes, i), u32_at(bytes, i + 4));
-        i += 8;
-    }
     while i < bytes.len() {
         r = byte_in(t, r, bytes[i]);
         i += 1;
@@ -96,49 +85,46 @@ fn few(t: &[u32; 256], register: u32, bytes: &[u8], from: usize) -> u32
     r
 }
 
-// The register after as many of the bytes as sixteen at a time take: the rest then brings it where all of them bring it.
-fn many(t: &[u32; 4096], register: u32, bytes: &[u8]) -> u32
-    requires { ⌜ Moved 8 16 (now t) ⌝ }
-    ensures { λ q. ⌜ updated q (drop (length (now (bytes .entry)) / 16 * 16) (now (bytes .entry))) ≡ updated register (now (bytes .entry)) ⌝ }
-{
-    let mut r = register;
-    let mut i = 0;
-    while 16 <= bytes.len() - i {
-        r = sixteen_in(
-            t,
-            r,
-            u32_at(bytes, i),
-            u32_at(bytes, i + 4),
-            u32_at(bytes, i + 8),
-            u32_at(bytes, i + 12),
-        );
-        i += 16;
-    }
-    r
-}
-
-fn rest(register: u32, bytes: &[u8], from: usize) -> u32
+// The register after the bytes from a place on.
+fn rest_in(t: &[u32; 256], register: u32, bytes: &[u8], from: usize) -> u32
+    requires { ⌜ Moved 4 16 (now t) ⌝ }
     requires { ⌜ from ≤ length (now bytes) ⌝ }
     ensures { λ q. ⌜ q ≡ updated register (drop from (now (bytes .entry))) ⌝ }
 {
-    few(&NIBBLES, register, bytes, from)
+    let to = bytes.len() - (bytes.len() - from) % 8;
+    bytes_in(t, words_in(t, register, bytes, from, to), bytes, to)
 }
 
-fn bulk(register: u32, bytes: &[u8]) -> u32
-    ensures { λ q. ⌜ updated q (drop (length (now (bytes .entry)) / 16 * 16) (now (bytes .entry))) ≡ updated register (now (bytes .entry)) ⌝ }
+// The next forty bytes, with what was carried to them, into the register.
+fn forty_in(t: &[u32; 256], s: Carried, bytes: &[u8], at: usize) -> u32
+    requires { ⌜ Moved 4 16 (now t) ⌝ }
+    requires { ⌜ at + 40 ≤ length (now bytes) ⌝ }
+    ensures { λ q. ⌜ updated q (drop (at + 40) (now (bytes .entry))) ≡ ahead (numberIn s) (drop at (now (bytes .entry))) ⌝ }
 {
-    many(&BYTES, register, bytes)
+    let a = word_in(t, s.0 ^ u64_at(bytes, at));
+    let b = word_in(t, (s.1 ^ a as u64) ^ u64_at(bytes, at + 8));
+    let c = word_in(t, (s.2 ^ b as u64) ^ u64_at(bytes, at + 16));
+    let d = word_in(t, (s.3 ^ c as u64) ^ u64_at(bytes, at + 24));
+    word_in(t, (s.4 ^ d as u64) ^ u64_at(bytes, at + 32))
 }
 
-// Below 1,024 bytes the large table costs more to build than it saves.
+// Of forty-eight bytes and more all but the last forty to forty-seven are carried on.
+fn all_in(t: &[u32; 256], register: u32, bytes: &[u8]) -> u32
+    requires { ⌜ Moved 4 16 (now t) ⌝ }
+    ensures { λ q. ⌜ q ≡ updated register (now (bytes .entry)) ⌝ }
+{
+    if bytes.len() < 48 {
+        return rest_in(t, register, bytes, 0);
+    }
+    let at = (bytes.len() - 40) / 8 * 8;
+    let r = forty_in(t, carry_all(register, bytes, at), bytes, at);
+    rest_in(t, r, bytes, at + 40)
+}
+
 pub fn update(register: u32, bytes: &[u8]) -> u32
     ensures { λ r. ⌜ r ≡ updated register (now (bytes .entry)) ⌝ }
 {
-    if bytes.len() < 1024 {
-        rest(register, bytes, 0)
-    } else {
-        rest(bulk(register, bytes), bytes, bytes.len() / 16 * 16)
-    }
+    all_in(&NIBBLES, register, bytes)
 }
 
 pub fn finish(register: u32) -> u32
