@@ -1,3 +1,4 @@
 -- The laws, for other crates to cite.
 pub mod Places
 pub mod Copies
+pub mod Loaded

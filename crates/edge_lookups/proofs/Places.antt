@@ -27,6 +27,7 @@ use Rattle.query.proofs.Found.{FoundAt, found, not-found}
 use Rattle.edge_lookups.specs.Lookups.{noPlace, placeBy, storedPlace, memoryNumber, spotBy, sharedKept}
 use Rattle.edge_lookups.specs.declared.place.Place.{Place}
 use Rattle.edge_lookups.specs.declared.lookups.Spotted.{Spotted}
+use Rattle.answer.specs.Answer.{numberOf}
 use Rattle.answer.specs.declared.answer.Answer.the-variants.{Done}
 use Rattle.memory.specs.declared.span.Span.{Span}
 
@@ -120,3 +121,11 @@ module _ (h : Holder) (kind : TableKind) (p q : Place) (e : p ≡ q) (otherwise 
   spot-some f m a s b =
       let g : q .found ≡ true = ap (λ (x : Place). x .found) (sym e) ∙ f in
       rw (g, a, b, e)
+
+-- as words: the answer's number, the memory, the place and the length
+pub told : (s t : Spotted) → s ≡ t → {n : ℕ} → n ≡ numberOf (s .answer)
+    → (n ≡ numberOf (t .answer)) × ((s .memory ≡ t .memory) × ((s .place ≡ t .place) × (s .length ≡ t .length)))
+told s t e a = (
+  a ∙ ap (λ (x : Spotted). numberOf (x .answer)) e,
+  (ap (λ (x : Spotted). x .memory) e, (ap (λ (x : Spotted). x .place) e, ap (λ (x : Spotted). x .length) e)),
+)

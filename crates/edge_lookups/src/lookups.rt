@@ -78,7 +78,7 @@ fn spot_in(
     }
 }
 
-fn shared_kept(kind: TableKind, counts: Counts, words: &[u64], bytes: &[u8]) -> bool
+pub(crate) fn shared_kept(kind: TableKind, counts: Counts, words: &[u64], bytes: &[u8]) -> bool
     ensures { λ r. ⌜ r ≡ sharedKept kind counts (now (words .entry)) (now (bytes .entry)) ⌝ }
 {
     if words.len() != 3840 {

@@ -2,26 +2,25 @@
 ghost use mathlib.Core.Path.{_≡_};
 ghost use mathlib.Core.Bool.{true, false};
 ghost use mathlib.Core.Option.{none};
-ghost use lib.ListN.{length};
 ghost use Rattle.answer.specs.Answer.{numberOf};
 ghost use Rattle.directory.specs.declared.table.TableKind.the-variants.{Value};
 ghost use Rattle.numbers.specs.Numbers.{oneIf};
 ghost use Rattle.keys.specs.Keys.{rank};
-ghost use Rattle.overlay.specs.Rules.{overlayKept};
-ghost use Rattle.memory.specs.Parts.{partOf};
-ghost use Rattle.memory.specs.declared.span.Holder.the-variants.{Shared};
 ghost use Rattle.change.specs.Change.{changeOf, changeRuled};
 ghost use Rattle.query.specs.Query.{bytesOf, isThere, lookedIf, copiedOver, copiedBy, CopiesOut};
 ghost use Rattle.host_words.specs.Change.{listFrom};
 ghost use Rattle.host_words.specs.Overlays.{overlaysFrom};
-ghost use Rattle.edge_lookups.specs.Lookups.{valueLook, valueListedLook};
+ghost use Rattle.edge_lookups.specs.Lookups.{sharedKept, valueLook, valueListedLook};
+use super::lookups::shared_kept;
 use answer::Answer;
 use change::LogChange;
+use directory::TableKind;
 use directory::ValueTableId;
 use host_words::flag;
 use host_words::list_of;
 use host_words::number;
 use host_words::overlays_of;
+use memory::Holder;
 use memory::LogOverlays;
 use query::Copied;
 
@@ -34,6 +33,33 @@ fn not_copied() -> Copied
     }
 }
 
+// Behind 13: the values' parts are lent.
+fn copied_kept<'a>(
+    overlays: LogOverlays,
+    words: &'a [u64],
+    bytes: &'a [u8],
+    table: u16,
+    index: u64,
+    dest: &mut [u8],
+) -> Copied
+    requires { ⌜ sharedKept Value (overlays .counts) (now words) (now bytes) ≡ true ⌝ }
+    ensures { λ r. ⌜ CopiesOut (valueLook overlays (now (words .entry)) (now (bytes .entry)) (rank table index)) r (now (dest .entry)) (now (dest .exit)) ⌝ }
+{
+    let s = memory::span_of(Holder::Shared, TableKind::Value);
+    let a = s.words_at;
+    let e = s.words_end;
+    let b = s.bytes_at;
+    let f = s.bytes_end;
+    query::shared::value_kept(
+        overlays,
+        &words[a..e],
+        &bytes[b..f],
+        ValueTableId(table),
+        index,
+        dest,
+    )
+}
+
 fn copied<'a>(
     overlays: LogOverlays,
     words: &'a [u64],
@@ -44,17 +70,73 @@ fn copied<'a>(
 ) -> Copied
     ensures { λ r. ⌜ CopiesOut (valueLook overlays (now (words .entry)) (now (bytes .entry)) (rank table index)) r (now (dest .entry)) (now (dest .exit)) ⌝ }
 {
-    if words.len() != 3840 {
+    let counts = overlays.counts;
+    if !shared_kept(TableKind::Value, counts, words, bytes) {
         return not_copied();
     }
-    if bytes.len() != 524288 {
-        return not_copied();
-    }
-    query::shared::value(
+    copied_kept(overlays, words, bytes, table, index, dest)
+}
+
+fn copied_listed_kept<'a>(
+    list: LogChange,
+    items: &'a [u64],
+    chunks: &'a [u8],
+    overlays: LogOverlays,
+    words: &'a [u64],
+    bytes: &'a [u8],
+    table: u16,
+    index: u64,
+    dest: &mut [u8],
+) -> Copied
+    requires { ⌜ (changeRuled (changeOf list (now items) (now chunks)) ≡ true) × (sharedKept Value (overlays .counts) (now words) (now bytes) ≡ true) ⌝ }
+    ensures { λ r. ⌜ CopiesOut (valueListedLook list (now (items .entry)) (now (chunks .entry)) overlays (now (words .entry)) (now (bytes .entry)) (rank table index)) r (now (dest .entry)) (now (dest .exit)) ⌝ }
+{
+    let s = memory::span_of(Holder::Shared, TableKind::Value);
+    let a = s.words_at;
+    let e = s.words_end;
+    let b = s.bytes_at;
+    let f = s.bytes_end;
+    query::listed::value_kept(
+        list,
+        items,
+        chunks,
         overlays,
-        &words[1280..2560],
-        &bytes[131072..262144],
+        &words[a..e],
+        &bytes[b..f],
         ValueTableId(table),
+        index,
+        dest,
+    )
+}
+
+fn copied_listed<'a>(
+    list: LogChange,
+    items: &'a [u64],
+    chunks: &'a [u8],
+    overlays: LogOverlays,
+    words: &'a [u64],
+    bytes: &'a [u8],
+    table: u16,
+    index: u64,
+    dest: &mut [u8],
+) -> Copied
+    ensures { λ r. ⌜ CopiesOut (valueListedLook list (now (items .entry)) (now (chunks .entry)) overlays (now (words .entry)) (now (bytes .entry)) (rank table index)) r (now (dest .entry)) (now (dest .exit)) ⌝ }
+{
+    if !list.ruled(items, chunks) {
+        return not_copied();
+    }
+    let counts = overlays.counts;
+    if !shared_kept(TableKind::Value, counts, words, bytes) {
+        return not_copied();
+    }
+    copied_listed_kept(
+        list,
+        items,
+        chunks,
+        overlays,
+        words,
+        bytes,
+        table,
         index,
         dest,
     )
@@ -80,27 +162,6 @@ pub extern "C" fn hongsathep_value<'a>(
     number(answer)
 }
 
-fn copied_kept<'a>(
-    overlays: LogOverlays,
-    words: &'a [u64],
-    bytes: &'a [u8],
-    table: u16,
-    index: u64,
-    dest: &mut [u8],
-) -> Copied
-    requires { ⌜ (length (now words) ≡ 3840) × (length (now bytes) ≡ 524288) × (overlayKept Value 256 (partOf Shared Value (overlays .counts) (now words) (now bytes)) ≡ true) ⌝ }
-    ensures { λ r. ⌜ CopiesOut (valueLook overlays (now (words .entry)) (now (bytes .entry)) (rank table index)) r (now (dest .entry)) (now (dest .exit)) ⌝ }
-{
-    query::shared::value_kept(
-        overlays,
-        &words[1280..2560],
-        &bytes[131072..262144],
-        ValueTableId(table),
-        index,
-        dest,
-    )
-}
-
 #[no_mangle]
 pub extern "C" fn hongsathep_value_kept<'a>(
     overlays: &[u64],
@@ -111,7 +172,7 @@ pub extern "C" fn hongsathep_value_kept<'a>(
     dest: &mut [u8],
     found: &mut u64,
 ) -> u64
-    requires { ⌜ (length (now words) ≡ 3840) × (length (now bytes) ≡ 524288) × (overlayKept Value 256 (partOf Shared Value (overlaysFrom (now overlays) .counts) (now words) (now bytes)) ≡ true) ⌝ }
+    requires { ⌜ sharedKept Value (overlaysFrom (now overlays) .counts) (now words) (now bytes) ≡ true ⌝ }
     ensures answer { λ r. ⌜ r ≡ numberOf (valueLook (overlaysFrom (now (overlays .entry))) (now (words .entry)) (now (bytes .entry)) (rank table index) .answer) ⌝ }
     ensures dest { λ r. ⌜ now (dest .exit) ≡ copiedOver (bytesOf (valueLook (overlaysFrom (now (overlays .entry))) (now (words .entry)) (now (bytes .entry)) (rank table index) .entry)) (now (dest .entry)) ⌝ }
     ensures found { λ r. ⌜ now (found .exit) ≡ oneIf (isThere (valueLook (overlaysFrom (now (overlays .entry))) (now (words .entry)) (now (bytes .entry)) (rank table index) .entry)) ⌝ }
@@ -120,38 +181,6 @@ pub extern "C" fn hongsathep_value_kept<'a>(
     *found = flag(done.found);
     let answer = done.answer;
     number(answer)
-}
-
-fn copied_listed<'a>(
-    list: LogChange,
-    items: &'a [u64],
-    chunks: &'a [u8],
-    overlays: LogOverlays,
-    words: &'a [u64],
-    bytes: &'a [u8],
-    table: u16,
-    index: u64,
-    dest: &mut [u8],
-) -> Copied
-    ensures { λ r. ⌜ CopiesOut (valueListedLook list (now (items .entry)) (now (chunks .entry)) overlays (now (words .entry)) (now (bytes .entry)) (rank table index)) r (now (dest .entry)) (now (dest .exit)) ⌝ }
-{
-    if words.len() != 3840 {
-        return not_copied();
-    }
-    if bytes.len() != 524288 {
-        return not_copied();
-    }
-    query::listed::value(
-        list,
-        items,
-        chunks,
-        overlays,
-        &words[1280..2560],
-        &bytes[131072..262144],
-        ValueTableId(table),
-        index,
-        dest,
-    )
 }
 
 #[no_mangle]
@@ -187,33 +216,6 @@ pub extern "C" fn hongsathep_value_listed<'a>(
     number(answer)
 }
 
-fn copied_listed_kept<'a>(
-    list: LogChange,
-    items: &'a [u64],
-    chunks: &'a [u8],
-    overlays: LogOverlays,
-    words: &'a [u64],
-    bytes: &'a [u8],
-    table: u16,
-    index: u64,
-    dest: &mut [u8],
-) -> Copied
-    requires { ⌜ (length (now words) ≡ 3840) × (length (now bytes) ≡ 524288) × (overlayKept Value 256 (partOf Shared Value (overlays .counts) (now words) (now bytes)) ≡ true) × (changeRuled (changeOf list (now items) (now chunks)) ≡ true) ⌝ }
-    ensures { λ r. ⌜ CopiesOut (valueListedLook list (now (items .entry)) (now (chunks .entry)) overlays (now (words .entry)) (now (bytes .entry)) (rank table index)) r (now (dest .entry)) (now (dest .exit)) ⌝ }
-{
-    query::listed::value_kept(
-        list,
-        items,
-        chunks,
-        overlays,
-        &words[1280..2560],
-        &bytes[131072..262144],
-        ValueTableId(table),
-        index,
-        dest,
-    )
-}
-
 #[no_mangle]
 pub extern "C" fn hongsathep_value_listed_kept<'a>(
     list: &[u64],
@@ -227,7 +229,7 @@ pub extern "C" fn hongsathep_value_listed_kept<'a>(
     dest: &mut [u8],
     found: &mut u64,
 ) -> u64
-    requires { ⌜ (length (now words) ≡ 3840) × (length (now bytes) ≡ 524288) × (overlayKept Value 256 (partOf Shared Value (overlaysFrom (now overlays) .counts) (now words) (now bytes)) ≡ true) × (changeRuled (changeOf (listFrom (now list)) (now items) (now chunks)) ≡ true) ⌝ }
+    requires { ⌜ (changeRuled (changeOf (listFrom (now list)) (now items) (now chunks)) ≡ true) × (sharedKept Value (overlaysFrom (now overlays) .counts) (now words) (now bytes) ≡ true) ⌝ }
     ensures answer { λ r. ⌜ r ≡ numberOf (valueListedLook (listFrom (now (list .entry))) (now (items .entry)) (now (chunks .entry)) (overlaysFrom (now (overlays .entry))) (now (words .entry)) (now (bytes .entry)) (rank table index) .answer) ⌝ }
     ensures dest { λ r. ⌜ now (dest .exit) ≡ copiedOver (bytesOf (valueListedLook (listFrom (now (list .entry))) (now (items .entry)) (now (chunks .entry)) (overlaysFrom (now (overlays .entry))) (now (words .entry)) (now (bytes .entry)) (rank table index) .entry)) (now (dest .entry)) ⌝ }
     ensures found { λ r. ⌜ now (found .exit) ≡ oneIf (isThere (valueListedLook (listFrom (now (list .entry))) (now (items .entry)) (now (chunks .entry)) (overlaysFrom (now (overlays .entry))) (now (words .entry)) (now (bytes .entry)) (rank table index) .entry)) ⌝ }

@@ -1,57 +1,54 @@
 -- `copied_listed_kept` meets its contract. Assumes nothing.
-use mathlib.Core.Path.{_≡_, sym, ap, ap₂, _∙_}
-use Rattle.answer.specs.Answer.{numberOf}
-use Rattle.keys.specs.Keys.{rank}
-use Rattle.memory.specs.declared.overlays.LogOverlays.{LogOverlays}
-use Rattle.change.specs.declared.change.LogChange.{LogChange}
-use Rattle.edge_lookups.proofs.Copies.{copies-as, listed-both}
+use mathlib.Core.Path.{refl}
+use native.Mathlib.Omega.{arith}
+use Rattle.directory.specs.declared.table.TableKind.the-variants.{Value}
+use Rattle.memory.specs.declared.span.Holder.the-variants as holder
+use Rattle.memory.proofs.Lent.{Fits, fits}
+use Rattle.edge_lookups.proofs.Places.{Ready, shared-ready}
+use Rattle.edge_lookups.proofs.Copies.{copies-as, listed-kept, lent-kept}
 use borrow.Author.Needs.{needs}
 use Rattle.edge_lookups.proofs.values.copied_listed_kept.Statement.{statement}
 use Rattle.edge_lookups.proofs.values.copied_listed_kept.Tie as tie
-use Rattle.edge_lookups.proofs.values.copied_listed_kept.Reads as reads
-use Rattle.edge_lookups.proofs.values.copied_listed_kept.Lts as lts
-use Rattle.query.proofs.listed.value_kept.Reads as value-kept-reads
 
--- src/values.rt:209:9
+span-of-requires : tie.Need-span-of-requires
+span-of-requires c κs = search needs
+
+mul-value-kept : tie.Need-mul-value-kept
+mul-value-kept c = let l = fits holder.Shared Value (c .span-of .result) (c .span-of .ensures) in omega (arith, l .words-rise, l .words-in, l .words-most)
+
 sub-value-kept : tie.Need-sub-value-kept
-sub-value-kept c = search needs
+sub-value-kept c = fits holder.Shared Value (c .span-of .result) (c .span-of .ensures) .words-rise
 
--- src/values.rt:209:9
 part-value-kept-start : tie.Need-part-value-kept-start
-part-value-kept-start c = search needs
+part-value-kept-start c = fits holder.Shared Value (c .span-of .result) (c .span-of .ensures) .words-rise
 
--- src/values.rt:209:9
 part-value-kept-end : tie.Need-part-value-kept-end
-part-value-kept-end c = search needs
+part-value-kept-end c = omega (arith, fits holder.Shared Value (c .span-of .result) (c .span-of .ensures) .words-in, shared-ready Value (c .before .before .before .before .before .before .args .overlays .counts) (c .before .before .before .before .before .before .args .words .now) (c .before .before .before .before .before .before .args .bytes .now) (c .before .before .before .before .before .before .pre .1) .words-long)
 
--- src/values.rt:210:9
 sub-value-kept-2 : tie.Need-sub-value-kept-2
-sub-value-kept-2 c = search needs
+sub-value-kept-2 c = fits holder.Shared Value (c .before .span-of .result) (c .before .span-of .ensures) .bytes-rise
 
--- src/values.rt:210:9
 part-value-kept-start-2 : tie.Need-part-value-kept-start-2
-part-value-kept-start-2 c = search needs
+part-value-kept-start-2 c = fits holder.Shared Value (c .before .span-of .result) (c .before .span-of .ensures) .bytes-rise
 
--- src/values.rt:210:9
 part-value-kept-end-2 : tie.Need-part-value-kept-end-2
-part-value-kept-end-2 c = search needs
+part-value-kept-end-2 c = omega (arith, fits holder.Shared Value (c .before .span-of .result) (c .before .span-of .ensures) .bytes-in, shared-ready Value (c .before .before .before .before .before .before .before .args .overlays .counts) (c .before .before .before .before .before .before .before .args .words .now) (c .before .before .before .before .before .before .before .args .bytes .now) (c .before .before .before .before .before .before .before .pre .1) .bytes-long)
 
--- src/values.rt:204:5
 value-kept-requires : tie.Need-value-kept-requires
-value-kept-requires c κs = (c .before .before .before .before .before .before .before .before .pre .3, c .before .before .before .before .before .before .before .before .pre .2)
+value-kept-requires c κs = let a = c .before .before .before .before .before .before .before .before .before .args in (c .before .before .before .before .before .before .before .before .before .pre .0, lent-kept (a .overlays) (a .words .now) (a .bytes .now) 0 (c .before .before .before .before .before .before .before .before .before .pre .1) (c .before .before .before .span-of .result) (c .before .before .before .span-of .ensures))
 
--- src/values.rt:190:1
 same-length : tie.Need-same-length
 same-length c = search needs
 
--- src/values.rt:190:1
 returns : tie.Need-returns
-returns c = copies-as _ _ (listed-both (c .before .before .before .before .before .before .before .before .before .before .before .args .overlays) (c .before .before .before .before .before .before .before .before .before .before .before .args .words .now) (c .before .before .before .before .before .before .before .before .before .before .before .args .bytes .now) (rank (c .before .before .before .before .before .before .before .before .before .before .before .args .table) (c .before .before .before .before .before .before .before .before .before .before .before .args .index)) (c .before .before .before .before .before .before .before .before .before .before .before .args .list) (c .before .before .before .before .before .before .before .before .before .before .before .args .items .now) (c .before .before .before .before .before .before .before .before .before .before .before .args .chunks .now) (c .before .before .before .before .before .before .before .before .before .before .before .pre .0) (c .before .before .before .before .before .before .before .before .before .before .before .pre .1)) (c .before .before .before .before .before .before .before .before .before .before .before .args .dest .now) (c .before .before .value-kept .ensures)
+returns c = let a = c .before .before .before .before .before .before .before .before .before .before .before .before .args in copies-as _ _ (listed-kept (a .overlays) (a .words .now) (a .bytes .now) _ (a .list) (a .items .now) (a .chunks .now) (c .before .before .before .before .before .before .before .before .before .before .before .before .pre .1) (c .before .before .before .before .before .before .span-of .result) (c .before .before .before .before .before .before .span-of .ensures)) (a .dest .now) (c .before .before .value-kept .ensures)
 
 pub copied-listed-kept-spec : {M : Type 1} → statement M
 copied-listed-kept-spec =
     tie.close
     (tie.spec
+    span-of-requires
+    mul-value-kept
     sub-value-kept
     part-value-kept-start
     part-value-kept-end

@@ -1,58 +1,27 @@
 -- `hongsathep_value` meets its contract. Assumes nothing.
-use mathlib.Core.Path.{_≡_, sym, ap, ap₂, _∙_}
-use Rattle.answer.specs.Answer.{numberOf}
-use Rattle.keys.specs.Keys.{rank}
-use Rattle.memory.specs.declared.overlays.LogOverlays.{LogOverlays}
-use Rattle.change.specs.declared.change.LogChange.{LogChange}
-use Rattle.numbers.specs.Numbers.{oneIf}
-use Rattle.directory.specs.declared.table.TableKind.the-variants.{Value}
-use Rattle.overlay.specs.Rules.{overlayKept}
-use Rattle.memory.specs.Parts.{partOf}
-use Rattle.memory.specs.declared.span.Holder.the-variants as holder
-use Rattle.change.specs.Change.{changeOf, changeRuled}
-use Rattle.query.specs.Query.{bytesOf, isThere, copiedOver}
-use Rattle.query.specs.declared.copy.Copied.{Copied}
-use Rattle.edge_lookups.specs.Lookups.{valueLook}
+use Rattle.edge_lookups.proofs.Copies.{told}
+use Rattle.edge_lookups.proofs.Loaded.{value-from}
 use borrow.Author.Needs.{needs}
 use Rattle.edge_lookups.proofs.values.hongsathep_value.Statement.{statement}
 use Rattle.edge_lookups.proofs.values.hongsathep_value.Tie as tie
-use Rattle.edge_lookups.proofs.values.hongsathep_value.Reads as reads
-use Rattle.edge_lookups.proofs.values.hongsathep_value.Lts as lts
-use Rattle.edge_lookups.proofs.values.copied.Reads as copied-reads
-use Rattle.host_words.proofs.overlays_of.Reads as overlays-of-reads
-use Rattle.host_words.proofs.flag.Reads as flag-reads
-use Rattle.host_words.proofs.number.Reads as number-reads
 
--- src/values.rt:77:23
 overlays-of-requires : tie.Need-overlays-of-requires
 overlays-of-requires c κs = search needs
 
--- src/values.rt:77:9
 copied-requires : tie.Need-copied-requires
 copied-requires c κs = search needs
 
--- src/values.rt:78:14
 flag-requires : tie.Need-flag-requires
 flag-requires c κs = search needs
 
--- src/values.rt:80:5
 number-requires : tie.Need-number-requires
 number-requires c κs = search needs
 
--- src/values.rt:63:1
 same-length : tie.Need-same-length
 same-length c = search needs
 
--- src/values.rt:63:1
 returns : tie.Need-returns
-returns c =
-    let d = c .before .before .before .before .copied .ensures in (
-      c .number .ensures ∙ ap (λ (x : Copied). numberOf (x .answer)) (d .0) ∙ ap (λ (o : LogOverlays). numberOf (valueLook o (c .before .before .before .before .before .before .before .before .before .before .before .args .words .now) (c .before .before .before .before .before .before .before .before .before .before .before .args .bytes .now) (rank (c .before .before .before .before .before .before .before .before .before .before .before .args .table) (c .before .before .before .before .before .before .before .before .before .before .before .args .index)) .answer)) (c .before .before .before .before .before .before .overlays-of .ensures),
-      (
-        d .1 ∙ ap (λ (o : LogOverlays). copiedOver (bytesOf (valueLook o (c .before .before .before .before .before .before .before .before .before .before .before .args .words .now) (c .before .before .before .before .before .before .before .before .before .before .before .args .bytes .now) (rank (c .before .before .before .before .before .before .before .before .before .before .before .args .table) (c .before .before .before .before .before .before .before .before .before .before .before .args .index)) .entry)) (c .before .before .before .before .before .before .before .before .before .before .before .args .dest .now)) (c .before .before .before .before .before .before .overlays-of .ensures),
-        c .before .flag .ensures ∙ ap (λ (x : Copied). oneIf (x .found)) (d .0) ∙ ap (λ (o : LogOverlays). oneIf (isThere (valueLook o (c .before .before .before .before .before .before .before .before .before .before .before .args .words .now) (c .before .before .before .before .before .before .before .before .before .before .before .args .bytes .now) (rank (c .before .before .before .before .before .before .before .before .before .before .before .args .table) (c .before .before .before .before .before .before .before .before .before .before .before .args .index)) .entry))) (c .before .before .before .before .before .before .overlays-of .ensures),
-      ),
-    )
+returns c = told _ _ (value-from (c .before .before .before .before .before .before .overlays-of .ensures) _ _ _) _ (c .before .before .before .before .before .before .before .before .before .before .before .args .dest .now) _ (c .before .before .before .before .copied .ensures) (c .number .ensures) (c .before .flag .ensures)
 
 pub hongsathep-value-spec : {M : Type 1} → statement M
 hongsathep-value-spec =
