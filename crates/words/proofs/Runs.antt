@@ -2,10 +2,11 @@
 use mathlib.Core.Path.{_≡_, refl, sym, ap, _∙_}
 use Prim.Native.Nat.{ℕ, zero, suc, _+_, _-_, _*_, _/_, _%_, _^_, _≤_, _<_}
 use native.Mathlib.Nat.{add-zero, add-mul, mul-le-mul-right, zero-sub, sub-zero, suc-sub-suc, mul-assoc, pow-suc, pow-succ', div-div-eq-div-mul}
+use native.Mathlib.Numerals.{add-one}
 use native.Mathlib.Omega.{arith}
 use lib.Bits.{block-half, block-odd, shifted-half}
 use lib.Count.{ones, under, trailingZeros, ones-cat, ones-ones}
-use lib.Pow.{pow-pos, pow-lt, ones-lt}
+use lib.Pow.{pow-pos, pow-lt, ones-lt, high}
 
 -- a bit more that is shifted out
 halves : (n t : ℕ) → n / 2 ^ suc t ≡ n / 2 / 2 ^ t
@@ -80,20 +81,20 @@ turn slot m z o x s h e p =
 -- ---- the count of trailing zeros finds them
 
 -- t clear bits lie below the lowest set bit of n, which has k bits
-pub record ClearBelow (k n t : ℕ) : Type 0 where
+pub record Lowest (k n t : ℕ) : Type 0 where
   pub within : t < k
   pub clear : n / 2 ^ t * 2 ^ t ≡ n
   pub odd : n / 2 ^ t % 2 ≡ 1
 
-pub clear-below : (k n : ℕ) → 0 < n → n < 2 ^ k → ClearBelow k n (trailingZeros k n)
+pub lowest : (k n : ℕ) → 0 < n → n < 2 ^ k → Lowest k n (trailingZeros k n)
 unfolding trailingZeros
-clear-below zero n p h = absurd (omega arith)
-clear-below (suc k) n p h = go (n % 2) refl (λ q. clear-below k (n / 2) q (omega (arith, pow-suc 2 k)))
+lowest zero n p h = absurd (omega arith)
+lowest (suc k) n p h = go (n % 2) refl (λ q. lowest k (n / 2) q (omega (arith, pow-suc 2 k)))
   where
     t : ℕ
     t = trailingZeros k (n / 2)
 
-    go : (d : ℕ) → n % 2 ≡ d → (0 < n / 2 → ClearBelow k (n / 2) t) → ClearBelow (suc k) n (under d t)
+    go : (d : ℕ) → n % 2 ≡ d → (0 < n / 2 → Lowest k (n / 2) t) → Lowest (suc k) n (under d t)
     go zero e rest =
         let r = rest (omega arith) in
         record {
@@ -103,33 +104,20 @@ clear-below (suc k) n p h = go (n % 2) refl (λ q. clear-below k (n / 2) q (omeg
         }
     go (suc d) e rest = record { within = omega arith; clear = omega arith; odd = omega arith }
 
--- t set bits lie below the lowest clear bit of n: the zeros of the other bits
-pub record SetBelow (n t : ℕ) : Type 0 where
-  pub set : n / 2 ^ t * 2 ^ t + (2 ^ t - 1) ≡ n
-  pub some : n % 2 ≡ 1 → 0 < t
-
-pub set-below : (k n : ℕ) → n < 2 ^ k → SetBelow n (trailingZeros k (2 ^ k - 1 - n))
-unfolding trailingZeros
-set-below zero n h = record { set = omega arith; some = λ e. absurd (omega arith) }
-set-below (suc k) n h = rw half (go ((2 ^ suc k - 1 - n) % 2) refl (set-below k (n / 2) (omega (arith, pow-suc 2 k))))
+-- t set bits lie below the lowest clear bit of n, which is the lowest set one of n + 1
+above : (n t : ℕ) → (n + 1) / 2 ^ t * 2 ^ t ≡ n + 1 → n / 2 ^ t * 2 ^ t + (2 ^ t - 1) ≡ n
+above n t e = go ((n + 1) / 2 ^ t) e
   where
-    half : (2 ^ suc k - 1 - n) / 2 ≡ 2 ^ k - 1 - n / 2
-    half = omega (arith, pow-suc 2 k, pow-pos k)
+    go : (q : ℕ) → q * 2 ^ t ≡ n + 1 → n / 2 ^ t * 2 ^ t + (2 ^ t - 1) ≡ n
+    go zero f = absurd (omega arith)
+    go (suc r) f =
+        let w : n ≡ r * 2 ^ t + (2 ^ t - 1) = omega (arith, pow-pos t) in
+        rw (w, high r t (ones-lt t))
 
-    t : ℕ
-    t = trailingZeros k (2 ^ k - 1 - n / 2)
-
-    go : (d : ℕ) → (2 ^ suc k - 1 - n) % 2 ≡ d → SetBelow (n / 2) t → SetBelow n (under d t)
-    go zero e r =
-        record {
-          set = rw (halves n t, pow-suc 2 t, ← mul-assoc) (omega (arith, r .set, pow-suc 2 k, pow-pos k, pow-pos t));
-          some = λ q. omega arith;
-        }
-    go (suc d) e r = record { set = omega arith; some = λ q. absurd (omega (arith, pow-suc 2 k, pow-pos k)) }
-
--- the rest, with the last bit of the run halved away
-pub run-whole : (m z y o : ℕ) → y ≡ m / 2 ^ z → m / 2 ^ z * 2 ^ z ≡ m → SetBelow y o → 0 < o → m ≡ (y / 2 ^ (o - 1) / 2 * 2 ^ o + (2 ^ o - 1)) * 2 ^ z
-run-whole m z y o e c s p =
-    let k : o ≡ suc (o - 1) = omega arith in
-    let q : y / 2 ^ (o - 1) / 2 ≡ y / 2 ^ o = div-div-eq-div-mul y (2 ^ (o - 1)) 2 ∙ ap (λ (n : ℕ). y / n) (sym (pow-suc 2 (o - 1)) ∙ ap (λ (n : ℕ). 2 ^ n) (sym k)) in
-    rw (q, s .set, e) (sym c)
+-- a mask by its two counts
+pub run-whole : (m z o : ℕ) → Lowest 64 m z → (m / 2 ^ z / 2 + 1) / 2 ^ o * 2 ^ o ≡ m / 2 ^ z / 2 + 1
+    → m ≡ (m / 2 ^ z / 2 / 2 ^ o * 2 ^ (o + 1) + (2 ^ (o + 1) - 1)) * 2 ^ z
+run-whole m z o l e =
+    let x : ℕ = m / 2 ^ z / 2 / 2 ^ o in
+    let y : x * 2 ^ o * 2 + (2 ^ o * 2 - 1) ≡ m / 2 ^ z = omega (arith, above (m / 2 ^ z / 2) o e, l .odd, pow-pos o) in
+    rw (add-one o, pow-suc 2 o, ← mul-assoc x, y) (sym (l .clear))
