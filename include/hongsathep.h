@@ -14,7 +14,9 @@
      7 index not below the table's count
 
    A refusal, any answer but 0, leaves every lent state and memory as it was; what a call hands out through a pointer to one number is then 0, or
-   the position or id that was handed in. Two exceptions: hongsathep_run says where and with which answer it stopped, and the image has the records
+   the position or id that was handed in. Where a call has `fault`, a refusal stores there the position of the first byte of the action at fault:
+   for 5 the begin tag, for 8 the end tag, for a fault where a record opens (1 among them) the record's start, for 2 the action that isn't whole, or
+   the log's end if none is begun, for 12 the place behind the last record read, for 13 and 14 the position handed in. Two exceptions: hongsathep_run says where and with which answer it stopped, and the image has the records
    before; hongsathep_read_next moves a file on when it answers 1.
 
    What the caller sees to, in every call: each pointer is valid, aligned and not null, also where a length is 0; a length is the number of
@@ -82,33 +84,35 @@ uint64_t hongsathep_reader_new(
 
 /* One step of the reader: the action's tag (1 begin, 2 index, 3 value, 4 end, 5 drop index table, 6 reference count, 7 drop reference count
    table), its table and index, and where its payload starts in the log and how long it is. Answers 0 to 4, 6 to 8, 13, 14; the reader moves on
-   after 0. It hands out actions before the checksum at the record's end is seen: whoever applies them must have seen the end first, as
+   after 0. `fault`: after 0 the position behind the action; where the reader's words break a rule, 0. It hands out actions before the checksum at the record's end is seen: whoever applies them must have seen the end first, as
    hongsathep_replay does. Kept: the directory keeps its rules. */
 uint64_t hongsathep_next(
     const uint64_t *tables, size_t tables_length, const uint8_t *log, size_t log_length, uint64_t *reader,
-    size_t reader_length, uint64_t *tag, uint64_t *table, uint64_t *index, uint64_t *start, uint64_t *length);
+    size_t reader_length, uint64_t *tag, uint64_t *table, uint64_t *index, uint64_t *start, uint64_t *length,
+    uint64_t *fault);
 uint64_t hongsathep_next_kept(
     const uint64_t *tables, size_t tables_length, const uint8_t *log, size_t log_length, uint64_t *reader,
-    size_t reader_length, uint64_t *tag, uint64_t *table, uint64_t *index, uint64_t *start, uint64_t *length);
+    size_t reader_length, uint64_t *tag, uint64_t *table, uint64_t *index, uint64_t *start, uint64_t *length,
+    uint64_t *fault);
 
 /* Replays the record at a position: checked to its end, then applied to the image, which is hongsathep_image_length bytes. `end`: the position
-   behind it, or the one handed in. Answers 0 to 8, 13, 14; the image changes after 0 alone. Kept: the directory keeps its rules and the image
+   behind it, or the one handed in; `fault`: after 0 as `end`. Answers 0 to 8, 13, 14; the image changes after 0 alone. Kept: the directory keeps its rules and the image
    has its length. */
 uint64_t hongsathep_replay(
     const uint64_t *tables, size_t tables_length, const uint8_t *log, size_t log_length, size_t position,
-    uint64_t expected, uint8_t *image, size_t image_length, uint64_t *end);
+    uint64_t expected, uint8_t *image, size_t image_length, uint64_t *end, uint64_t *fault);
 uint64_t hongsathep_replay_kept(
     const uint64_t *tables, size_t tables_length, const uint8_t *log, size_t log_length, size_t position,
-    uint64_t expected, uint8_t *image, size_t image_length, uint64_t *end);
+    uint64_t expected, uint8_t *image, size_t image_length, uint64_t *end, uint64_t *fault);
 
 /* Replays from a position on, the expected id rising by 1, up to the first answer other than 0, which it gives: 1 where the log ends. `end`:
    where the record not replayed begins; `count`: how many were replayed; the image has those. Kept: as above. */
 uint64_t hongsathep_run(
     const uint64_t *tables, size_t tables_length, const uint8_t *log, size_t log_length, size_t position,
-    uint64_t expected, uint8_t *image, size_t image_length, uint64_t *end, uint64_t *count);
+    uint64_t expected, uint8_t *image, size_t image_length, uint64_t *end, uint64_t *count, uint64_t *fault);
 uint64_t hongsathep_run_kept(
     const uint64_t *tables, size_t tables_length, const uint8_t *log, size_t log_length, size_t position,
-    uint64_t expected, uint8_t *image, size_t image_length, uint64_t *end, uint64_t *count);
+    uint64_t expected, uint8_t *image, size_t image_length, uint64_t *end, uint64_t *count, uint64_t *fault);
 
 /* ---- a change list */
 
@@ -265,16 +269,16 @@ uint64_t hongsathep_end_record_kept(
     size_t out_length, uint64_t *size, uint64_t *source, uint64_t *file);
 
 /* Clears an accepted record's entries from the overlays and raises `next` if the record's id isn't below it; `end`: the position behind the
-   record, `id`: its id. After a recovery clear at least the last record, else used ids are handed out again. Answers 0 to 4, 6 to 8, 12 to 14.
+   record, `id`: its id, `fault`: after 0 as `end`. After a recovery clear at least the last record, else used ids are handed out again. Answers 0 to 4, 6 to 8, 12 to 14.
    Kept: directory and overlays keep their rules, and next isn't 0. */
 uint64_t hongsathep_end_read(
     const uint64_t *tables, size_t tables_length, const uint8_t *log, size_t log_length, size_t position,
     uint64_t *overlays, size_t overlays_length, uint64_t *words, size_t words_length, uint8_t *bytes,
-    size_t bytes_length, uint64_t *next, uint64_t *end, uint64_t *id);
+    size_t bytes_length, uint64_t *next, uint64_t *end, uint64_t *id, uint64_t *fault);
 uint64_t hongsathep_end_read_kept(
     const uint64_t *tables, size_t tables_length, const uint8_t *log, size_t log_length, size_t position,
     uint64_t *overlays, size_t overlays_length, uint64_t *words, size_t words_length, uint8_t *bytes,
-    size_t bytes_length, uint64_t *next, uint64_t *end, uint64_t *id);
+    size_t bytes_length, uint64_t *next, uint64_t *end, uint64_t *id, uint64_t *fault);
 
 /* Sends the file being read and those to replay to cleanup, empties the overlays, clears dirty. Answers 0, 13. Kept: the queues keep their
    rules. */

@@ -55,17 +55,18 @@ static void append(uint64_t index, const char *text) {
     log_length += size;
 }
 
-static void recover(const uint8_t *log, size_t length, uint64_t answer, uint64_t count) {
+static void recover(const uint8_t *log, size_t length, uint64_t answer, uint64_t count, uint64_t place) {
     size_t n = hongsathep_image_length(TABLES), start = hongsathep_table_start(TABLES, 1);
     uint8_t *image = calloc(n, 1);
-    uint64_t end, ran;
+    uint64_t end, ran, fault;
     expect("image_length", n, 4 * 512 + 8 * 20);
-    expect("run", hongsathep_run(TABLES, log, length, 0, 1, image, n, &end, &ran), answer);
+    expect("run", hongsathep_run(TABLES, log, length, 0, 1, image, n, &end, &ran, &fault), answer);
     expect("run, records", ran, count);
     expect("run, position", end, 45 * count);
+    expect("run, fault", fault, place);
     expect("value 2 recovered", memcmp(image + start + 2 * 20, "42 metres", 9) == 0, count > 0);
     expect("value 5 recovered", memcmp(image + start + 5 * 20, "not feet", 8) == 0, count > 1);
-    expect("run, image of another length", hongsathep_run(TABLES, log, length, 0, 1, image, n - 1, &end, &ran), 13);
+    expect("run, image of another length", hongsathep_run(TABLES, log, length, 0, 1, image, n - 1, &end, &ran, &fault), 13);
     free(image);
 }
 
@@ -82,18 +83,21 @@ static void look(uint64_t index, const char *text, uint64_t memory) {
 }
 
 static void step(void) {
-    uint64_t reader[HONGSATHEP_READER_WORDS], tag, table, index, start, length;
+    uint64_t reader[HONGSATHEP_READER_WORDS], tag, table, index, start, length, fault;
     expect("reader_new", hongsathep_reader_new(reader, 5, 0, true), 0);
-    expect("next", hongsathep_next(TABLES, log_bytes, log_length, reader, 5, &tag, &table, &index, &start, &length), 0);
+    expect("next", hongsathep_next(TABLES, log_bytes, log_length, reader, 5, &tag, &table, &index, &start, &length, &fault), 0);
     expect("next, begin", tag, 1);
-    expect("next", hongsathep_next(TABLES, log_bytes, log_length, reader, 5, &tag, &table, &index, &start, &length), 0);
+    expect("next", hongsathep_next(TABLES, log_bytes, log_length, reader, 5, &tag, &table, &index, &start, &length, &fault), 0);
     expect("next, a value", tag, 3);
     expect("next, table", table, 7);
     expect("next, index", index, 2);
     expect("next, payload", memcmp(log_bytes + start, "42 metres", 9), 0);
-    expect("next", hongsathep_next(TABLES, log_bytes, log_length, reader, 5, &tag, &table, &index, &start, &length), 0);
+    expect("next", hongsathep_next(TABLES, log_bytes, log_length, reader, 5, &tag, &table, &index, &start, &length, &fault), 0);
     expect("next, end", tag, 4);
     expect("reader, position", reader[0], 45);
+    expect("next, fault", fault, 45);
+    expect("next, cut", hongsathep_next(TABLES, log_bytes, 50, reader, 5, &tag, &table, &index, &start, &length, &fault), 1);
+    expect("next, cut, fault", fault, 45);
 }
 
 static void files(void) {
@@ -122,7 +126,7 @@ static void refusals(void) {
 }
 
 int main(void) {
-    uint64_t end, id;
+    uint64_t end, id, fault;
     expect("checksum", hongsathep_checksum((const uint8_t *)"123456789", 9), 0xCBF43926);
     expect("directory_kept", hongsathep_directory_kept(TABLES), 0);
     expect("directory_kept, a word short", hongsathep_directory_kept(tables, 11), 13);
@@ -135,17 +139,25 @@ int main(void) {
     look(6, "", 0);
     expect("last_record_id", hongsathep_last_record_id(OVERLAYS, 2), 2);
     step();
-    recover(log_bytes, log_length, 1, 2);
-    recover(log_bytes, log_length - 1, 2, 1);
-    recover(log_bytes, 40, 2, 0);
+    recover(log_bytes, log_length, 1, 2, 90);
+    recover(log_bytes, log_length - 1, 2, 1, 85);
+    recover(log_bytes, 40, 2, 0, 40);
+    recover(log_bytes, 39, 2, 0, 9);
+    log_bytes[60] ^= 1;
+    recover(log_bytes, log_length, 7, 1, 54);
+    log_bytes[60] ^= 1;
+    log_bytes[80] ^= 1;
+    recover(log_bytes, log_length, 8, 1, 85);
+    log_bytes[80] ^= 1;
     files();
     next = 1;
-    expect("end_read", hongsathep_end_read(TABLES, log_bytes, log_length, 0, OVERLAYS, WORDS, BYTES, &next, &end, &id), 0);
+    expect("end_read", hongsathep_end_read(TABLES, log_bytes, log_length, 0, OVERLAYS, WORDS, BYTES, &next, &end, &id, &fault), 0);
     expect("end_read, position", end, 45);
+    expect("end_read, fault", fault, 45);
     expect("end_read, id", id, 1);
     look(2, "", 0);
     look(5, "not feet", 2);
-    expect("end_read", hongsathep_end_read(TABLES, log_bytes, log_length, end, OVERLAYS, WORDS, BYTES, &next, &end, &id), 0);
+    expect("end_read", hongsathep_end_read(TABLES, log_bytes, log_length, end, OVERLAYS, WORDS, BYTES, &next, &end, &id, &fault), 0);
     expect("next id", next, 3);
     look(5, "", 0);
     refusals();

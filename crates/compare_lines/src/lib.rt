@@ -4,6 +4,7 @@ mod command;
 mod fault;
 mod hex;
 mod kind;
+mod place;
 mod reply;
 mod room;
 
@@ -21,6 +22,7 @@ pub use hex::decode;
 pub use hex::encode;
 pub use hex::value_of;
 pub use kind::kind_of;
+pub use place::Place;
 pub use reply::Reply;
 pub use reply::wrong_length;
 pub use room::fill;

@@ -1,5 +1,6 @@
-// What these commands keep, besides the memories of the overlays.
+// What these commands keep, besides the memories of the overlays; and where the last call that reads was refused, which others keep too.
 use change::LogChange;
+use compare_lines::Place;
 use compare_lines::Reply;
 use files::Queues;
 use memory::LogOverlays;
@@ -7,6 +8,7 @@ use memory::LogOverlays;
 pub struct Living {
     pub overlays: LogOverlays,
     pub next_record_id: u64,
+    pub place: Place,
 }
 
 pub struct Lived {
@@ -22,6 +24,7 @@ impl Living {
         Living {
             overlays: LogOverlays::new(),
             next_record_id: log::first_record_id(),
+            place: Place::none(),
         }
     }
 }

@@ -3,6 +3,7 @@ use super::lived::Lived;
 use super::lived::Living;
 use super::lived::replied;
 use change::LogChange;
+use compare_lines::Place;
 use compare_lines::Reply;
 use compare_lines::put;
 use compare_lines::wrong_length;
@@ -57,13 +58,15 @@ pub fn clear(
         bytes,
         living.next_record_id,
     );
-    let number = done.answer;
+    let refused = done.answer;
+    let number = refused.number();
     let overlays = done.overlays;
-    put(answer, 0, number.number() as u64, 1);
+    put(answer, 0, number as u64, 1);
     put(answer, 1, done.position as u64, 8);
     put(answer, 9, done.record_id, 8);
     let mut after = living;
     after.overlays = overlays;
+    after.place = Place::after(number, done.fault_at);
     after.next_record_id = done.next_record_id;
     replied(list, queues, after, Reply::Line(17))
 }

@@ -32,7 +32,10 @@ pub fn open(
     let after = done.queues;
     let reply = done.reply;
     if is_opened(reply) {
-        return replied(list, after, Living::new(), reply);
+        let place = living.place;
+        let mut opened = Living::new();
+        opened.place = place;
+        return replied(list, after, opened, reply);
     }
     replied(list, after, living, reply)
 }

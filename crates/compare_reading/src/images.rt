@@ -1,4 +1,4 @@
-// IMAGE, REPLAY, RUN and IMAGE_SUM: the tables' image, and records replayed onto it.
+// IMAGE, REPLAY, RUN, WHERE and IMAGE_SUM: the tables' image, and records replayed onto it.
 ghost use Prim.Native.Nat.{_≤_};
 ghost use lib.ListN.{length};
 ghost use Rattle.compare_reading.specs.Bounds.{Kept};
@@ -6,6 +6,7 @@ use super::state::Read;
 use super::state::Reading;
 use compare_lines::Fault;
 use compare_lines::Reply;
+use compare_lines::flag;
 use compare_lines::put;
 use compare_lines::wrong_length;
 use directory::Directory;
@@ -34,7 +35,7 @@ pub fn keep_image(
     kept.replied(Reply::Line(1))
 }
 
-// One record, or all that follow. The image is the front of its room. The count of one isn't told.
+// One record, or all that follow. The image is the front of its room.
 fn replay_onto(
     directory: Directory,
     one: bool,
@@ -55,7 +56,20 @@ fn replay_onto(
         answer: answer,
         position: done.position,
         count: 1,
+        fault_at: done.fault_at,
     }
+}
+
+// The count is told of a run alone.
+fn put_ran(one: bool, ran: Ran, answer: &mut [u8; 65536]) -> Reply {
+    let number = ran.answer;
+    put(answer, 0, number.number() as u64, 1);
+    put(answer, 1, ran.position as u64, 8);
+    if one {
+        return Reply::Line(9);
+    }
+    put(answer, 9, ran.count, 8);
+    Reply::Line(17)
 }
 
 pub fn replay(
@@ -81,13 +95,22 @@ pub fn replay(
     let log = &bytes[0..logged];
     let done = replay_onto(directory, one, log, position, expected, image, imaged);
     let number = done.answer;
-    put(answer, 0, number.number() as u64, 1);
-    put(answer, 1, done.position as u64, 8);
-    if one {
-        return reading.replied(Reply::Line(9));
+    let after = reading.answered(number.number(), done.fault_at);
+    after.replied(put_ran(one, done, answer))
+}
+
+// Where the last of those that read was refused.
+pub fn place(reading: Reading, command: &[u8], answer: &mut [u8; 65536]) -> Read
+    requires { ⌜ Kept reading ⌝ }
+    ensures { λ r. ⌜ Kept (r .reading) ⌝ }
+{
+    if command.len() != 1 {
+        return reading.replied(wrong_length(command.len(), 1));
     }
-    put(answer, 9, done.count, 8);
-    reading.replied(Reply::Line(17))
+    let place = reading.place;
+    put(answer, 0, flag(place.told), 1);
+    put(answer, 1, place.position as u64, 8);
+    reading.replied(Reply::Line(9))
 }
 
 pub fn image_sum(

@@ -6,6 +6,7 @@ use super::bytes::keep_log;
 use super::bytes::sum;
 use super::images::image_sum;
 use super::images::keep_image;
+use super::images::place;
 use super::images::replay;
 use super::state::Read;
 use super::state::Reading;
@@ -35,6 +36,7 @@ pub fn serve(
         0x0d => replay(reading, true, command, log, image, answer),
         0x0e => replay(reading, false, command, log, image, answer),
         0x0f => image_sum(reading, command, image, answer),
+        0x30 => place(reading, command, answer),
         _ => reading.replied(Reply::Unknown),
     }
 }

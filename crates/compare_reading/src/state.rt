@@ -1,5 +1,6 @@
 // What these commands keep, besides the bytes of the log and of the image.
 ghost use Rattle.compare_reading.specs.Bounds.{Kept};
+use compare_lines::Place;
 use compare_lines::Reply;
 use directory::Directory;
 use record::LogReader;
@@ -9,6 +10,7 @@ pub struct Reading {
     pub reader: LogReader,
     pub logged: usize,
     pub imaged: usize,
+    pub place: Place,
 }
 
 pub struct Read {
@@ -25,7 +27,18 @@ impl Reading {
             reader: LogReader::new(0, false),
             logged: 0,
             imaged: 0,
+            place: Place::none(),
         }
+    }
+
+    // A call that reads has answered with that number, and told a place.
+    pub fn answered(self, number: u8, position: usize) -> Reading
+        requires { ⌜ Kept self ⌝ }
+        ensures { λ r. ⌜ Kept r ⌝ }
+    {
+        let mut r = self;
+        r.place = Place::after(number, position);
+        r
     }
 
     pub fn replied(self, reply: Reply) -> Read

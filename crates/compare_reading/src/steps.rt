@@ -76,16 +76,18 @@ fn step_from(
     let directory = reading.directory;
     let length = reading.logged;
     let room: &[u8] = log;
-    let mut kept = reading;
     match reader.next(directory, &room[0..length]) {
         Step::Refused(refusal) => {
-            kept.reader = reader;
             let refused = refusal.answer;
-            put(answer, 0, refused.number() as u64, 1);
+            let number = refused.number();
+            let mut kept = reading.answered(number, refusal.position);
+            kept.reader = reader;
+            put(answer, 0, number as u64, 1);
             kept.replied(Reply::Line(1))
         }
         Step::Took(s) => {
             let behind = s.reader;
+            let mut kept = reading.answered(0, 0);
             kept.reader = behind;
             put_stepped(answer, s);
             kept.replied(Reply::Line(44))

@@ -126,7 +126,9 @@ fn live<'a>(
     let room: &[u8] = log;
     let before = session.list;
     let queues = session.queues;
-    let living = session.living;
+    let mut living = session.living;
+    let place = reading.place;
+    living.place = place;
     let done = compare_log::serve(
         before,
         queues,
@@ -144,7 +146,11 @@ fn live<'a>(
     let after = done.list;
     let moved = done.queues;
     let lived = done.living;
+    let told = lived.place;
+    let mut read = reading;
+    read.place = told;
     let mut kept = session;
+    kept.reading = read;
     kept.list = after;
     kept.queues = moved;
     kept.living = lived;
@@ -169,7 +175,7 @@ pub fn serve(
 {
     let opcode = command[0];
     match opcode {
-        0x01..=0x04 | 0x0b..=0x0f => read(session, command, log, image, answer),
+        0x01..=0x04 | 0x0b..=0x0f | 0x30 => read(session, command, log, image, answer),
         0x05..=0x0a | 0x21 | 0x23 | 0x24 | 0xf0 => list(
             session,
             command,

@@ -193,6 +193,7 @@ pub extern "C" fn hongsathep_end_read(
     next: &mut u64,
     end: &mut u64,
     id: &mut u64,
+    fault: &mut u64,
 ) -> u64
     ensures answer { λ r. ⌜ r ≡ numberOf (endRead (directoryFrom (now (tables .entry))) (now (log .entry)) position (overlaysOf (overlaysFrom (now (overlays .entry))) (now (words .entry)) (now (bytes .entry))) (now (next .entry)) .answer) ⌝ }
     ensures overlays { λ r. ⌜ now (overlays .exit) ≡ headAfter overlaysSize (numberOf (endRead (directoryFrom (now (tables .entry))) (now (log .entry)) position (overlaysOf (overlaysFrom (now (overlays .entry))) (now (words .entry)) (now (bytes .entry))) (now (next .entry)) .answer)) (now (overlays .entry)) (overlaysWords (overlaysLeft (endRead (directoryFrom (now (tables .entry))) (now (log .entry)) position (overlaysOf (overlaysFrom (now (overlays .entry))) (now (words .entry)) (now (bytes .entry))) (now (next .entry)) .overlays))) ⌝ }
@@ -200,6 +201,7 @@ pub extern "C" fn hongsathep_end_read(
     ensures next { λ r. ⌜ now (next .exit) ≡ endRead (directoryFrom (now (tables .entry))) (now (log .entry)) position (overlaysOf (overlaysFrom (now (overlays .entry))) (now (words .entry)) (now (bytes .entry))) (now (next .entry)) .nextRecordId ⌝ }
     ensures end { λ r. ⌜ now (end .exit) ≡ endRead (directoryFrom (now (tables .entry))) (now (log .entry)) position (overlaysOf (overlaysFrom (now (overlays .entry))) (now (words .entry)) (now (bytes .entry))) (now (next .entry)) .position ⌝ }
     ensures id { λ r. ⌜ now (id .exit) ≡ endRead (directoryFrom (now (tables .entry))) (now (log .entry)) position (overlaysOf (overlaysFrom (now (overlays .entry))) (now (words .entry)) (now (bytes .entry))) (now (next .entry)) .recordId ⌝ }
+    ensures fault { λ r. ⌜ now (fault .exit) ≡ endRead (directoryFrom (now (tables .entry))) (now (log .entry)) position (overlaysOf (overlaysFrom (now (overlays .entry))) (now (words .entry)) (now (bytes .entry))) (now (next .entry)) .faultAt ⌝ }
 {
     let done = clearing::end_read(
         directory_of(tables),
@@ -213,6 +215,7 @@ pub extern "C" fn hongsathep_end_read(
     *next = done.next_record_id;
     *end = done.position as u64;
     *id = done.record_id;
+    *fault = done.fault_at as u64;
     let answer = done.answer;
     let o = done.overlays;
     keep_overlays(overlays, answer, o)
@@ -229,6 +232,7 @@ pub extern "C" fn hongsathep_end_read_kept(
     next: &mut u64,
     end: &mut u64,
     id: &mut u64,
+    fault: &mut u64,
 ) -> u64
     requires { ⌜ (directoryKept (directoryFrom (now tables)) ≡ true) × (partsKept Shared (partsOf Shared (overlaysFrom (now overlays) .counts) (now words) (now bytes)) ≡ true) × (now next ≡ 0 → ⊥) ⌝ }
     ensures answer { λ r. ⌜ r ≡ numberOf (endReadBy position (overlaysOf (overlaysFrom (now (overlays .entry))) (now (words .entry)) (now (bytes .entry))) (now (next .entry)) (clearable (recordAgain (directoryFrom (now (tables .entry))) (now (log .entry)) position)) .answer) ⌝ }
@@ -237,6 +241,7 @@ pub extern "C" fn hongsathep_end_read_kept(
     ensures next { λ r. ⌜ now (next .exit) ≡ endReadBy position (overlaysOf (overlaysFrom (now (overlays .entry))) (now (words .entry)) (now (bytes .entry))) (now (next .entry)) (clearable (recordAgain (directoryFrom (now (tables .entry))) (now (log .entry)) position)) .nextRecordId ⌝ }
     ensures end { λ r. ⌜ now (end .exit) ≡ endReadBy position (overlaysOf (overlaysFrom (now (overlays .entry))) (now (words .entry)) (now (bytes .entry))) (now (next .entry)) (clearable (recordAgain (directoryFrom (now (tables .entry))) (now (log .entry)) position)) .position ⌝ }
     ensures id { λ r. ⌜ now (id .exit) ≡ endReadBy position (overlaysOf (overlaysFrom (now (overlays .entry))) (now (words .entry)) (now (bytes .entry))) (now (next .entry)) (clearable (recordAgain (directoryFrom (now (tables .entry))) (now (log .entry)) position)) .recordId ⌝ }
+    ensures fault { λ r. ⌜ now (fault .exit) ≡ endReadBy position (overlaysOf (overlaysFrom (now (overlays .entry))) (now (words .entry)) (now (bytes .entry))) (now (next .entry)) (clearable (recordAgain (directoryFrom (now (tables .entry))) (now (log .entry)) position)) .faultAt ⌝ }
 {
     let done = clearing::end_read_kept(
         directory_of(tables),
@@ -250,6 +255,7 @@ pub extern "C" fn hongsathep_end_read_kept(
     *next = done.next_record_id;
     *end = done.position as u64;
     *id = done.record_id;
+    *fault = done.fault_at as u64;
     let answer = done.answer;
     let o = done.overlays;
     keep_overlays(overlays, answer, o)

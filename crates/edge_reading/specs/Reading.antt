@@ -45,26 +45,27 @@ indexIn (DropTable t) = 0
 indexIn (DropRefCountTable t) = 0
 indexIn EndRecord = 0
 
--- an action in numbers: its tag, its table and index, where its payload starts and how long it is; all 0 after a refusal
+-- an action in numbers: its tag, its table and index, where its payload starts and how long it is, all 0 after a refusal; and where the fault
+-- is, the position behind the action if there is none
 abbrev pub actionNumbers : Step → ActionNumbers
 actionNumbers (Took s) =
-    record { tag = tagOf (s .action); table = rowWords (s .action); index = indexIn (s .action); start = s .start; length = s .length }
-actionNumbers (Refused x) = record { tag = 0; table = 0; index = 0; start = 0; length = 0 }
+    record { tag = tagOf (s .action); table = rowWords (s .action); index = indexIn (s .action); start = s .start; length = s .length; fault = s .reader .position }
+actionNumbers (Refused x) = record { tag = 0; table = 0; index = 0; start = 0; length = 0; fault = x .position }
 
 -- the reader's words after a step: those of the reader behind the action, or as they were
 abbrev pub readerLeft : List ℕ → Step → List ℕ
 readerLeft w (Took s) = headAfter readerSize 0 w (readerWords (s .reader))
 readerLeft w (Refused x) = w
 
--- a step over words, at both doors: 13 where the reader's words are no reader
+-- a step over words, at both doors: 13 where the reader's words are no reader, told at 0 since they hold no position
 unfoldable pub nextIn : List ℕ → List ℕ → List ℕ → Step
-nextIn tables log w = if readerFormed w then nextOf (directoryFrom tables) log (readerFrom w) else refused BadState
+nextIn tables log w = if readerFormed w then nextOf (directoryFrom tables) log (readerFrom w) else refused BadState 0
 
 -- the same without the directory's test
 unfoldable pub stepIn : List ℕ → List ℕ → List ℕ → Step
-stepIn tables log w = if readerFormed w then stepOf (directoryFrom tables) log (readerFrom w) else refused BadState
+stepIn tables log w = if readerFormed w then stepOf (directoryFrom tables) log (readerFrom w) else refused BadState 0
 
--- what `replay_kept` answers: the position behind the record, or the one handed in
+-- what `replay_kept` answers: the position behind the record, or the one handed in; and where the fault is
 abbrev pub replayedBy : ℕ → EndAnswer → Replayed
-replayedBy at (NotEnded x) = record { answer = x .answer; position = at }
-replayedBy at (Ended end) = record { answer = Done; position = end }
+replayedBy at (NotEnded x) = record { answer = x .answer; position = at; «fault_at» = x .position }
+replayedBy at (Ended end) = record { answer = Done; position = end; «fault_at» = end }

@@ -21,13 +21,14 @@ use record::LogAction;
 use record::LogReader;
 use record::Step;
 
-// An action that was read, in numbers.
+// An action that was read, in numbers; `fault` is where a refused one begins, and behind one that was read the position.
 pub struct ActionNumbers {
     pub tag: u64,
     pub table: u64,
     pub index: u64,
     pub start: u64,
     pub length: u64,
+    pub fault: u64,
 }
 
 fn table_in(action: LogAction) -> u16
@@ -71,14 +72,16 @@ fn action_in(step: Step) -> ActionNumbers
                 index: index_in(action),
                 start: s.start as u64,
                 length: s.length as u64,
+                fault: s.reader.position as u64,
             }
         }
-        Step::Refused(_) => ActionNumbers {
+        Step::Refused(x) => ActionNumbers {
             tag: 0,
             table: 0,
             index: 0,
             start: 0,
             length: 0,
+            fault: x.position as u64,
         },
     }
 }
@@ -107,9 +110,9 @@ fn keep_step(reader: &mut [u64], step: Step)
 }
 
 fn no_reader() -> Step
-    ensures { λ r. ⌜ r ≡ refused BadState ⌝ }
+    ensures { λ r. ⌜ r ≡ refused BadState 0 ⌝ }
 {
-    Step::Refused(Refusal::new(Answer::BadState))
+    Step::Refused(Refusal::new(Answer::BadState, 0))
 }
 
 fn next_in(tables: &[u64], log: &[u8], reader: &[u64]) -> Step
@@ -150,6 +153,7 @@ pub extern "C" fn hongsathep_next(
     index: &mut u64,
     start: &mut u64,
     length: &mut u64,
+    fault: &mut u64,
 ) -> u64
     ensures answer { λ r. ⌜ r ≡ answerOf (nextIn (now (tables .entry)) (now (log .entry)) (now (reader .entry))) ⌝ }
     ensures after { λ r. ⌜ now (reader .exit) ≡ readerLeft (now (reader .entry)) (nextIn (now (tables .entry)) (now (log .entry)) (now (reader .entry))) ⌝ }
@@ -158,6 +162,7 @@ pub extern "C" fn hongsathep_next(
     ensures index { λ r. ⌜ now (index .exit) ≡ actionNumbers (nextIn (now (tables .entry)) (now (log .entry)) (now (reader .entry))) .index ⌝ }
     ensures start { λ r. ⌜ now (start .exit) ≡ actionNumbers (nextIn (now (tables .entry)) (now (log .entry)) (now (reader .entry))) .start ⌝ }
     ensures length { λ r. ⌜ now (length .exit) ≡ actionNumbers (nextIn (now (tables .entry)) (now (log .entry)) (now (reader .entry))) .length ⌝ }
+    ensures fault { λ r. ⌜ now (fault .exit) ≡ actionNumbers (nextIn (now (tables .entry)) (now (log .entry)) (now (reader .entry))) .fault ⌝ }
 {
     let step = next_in(tables, log, reader);
     let a = action_in(step);
@@ -166,6 +171,7 @@ pub extern "C" fn hongsathep_next(
     *index = a.index;
     *start = a.start;
     *length = a.length;
+    *fault = a.fault;
     keep_step(reader, step);
     answer_in(step)
 }
@@ -180,6 +186,7 @@ pub extern "C" fn hongsathep_next_kept(
     index: &mut u64,
     start: &mut u64,
     length: &mut u64,
+    fault: &mut u64,
 ) -> u64
     requires { ⌜ directoryKept (directoryFrom (now tables)) ≡ true ⌝ }
     ensures answer { λ r. ⌜ r ≡ answerOf (stepIn (now (tables .entry)) (now (log .entry)) (now (reader .entry))) ⌝ }
@@ -189,6 +196,7 @@ pub extern "C" fn hongsathep_next_kept(
     ensures index { λ r. ⌜ now (index .exit) ≡ actionNumbers (stepIn (now (tables .entry)) (now (log .entry)) (now (reader .entry))) .index ⌝ }
     ensures start { λ r. ⌜ now (start .exit) ≡ actionNumbers (stepIn (now (tables .entry)) (now (log .entry)) (now (reader .entry))) .start ⌝ }
     ensures length { λ r. ⌜ now (length .exit) ≡ actionNumbers (stepIn (now (tables .entry)) (now (log .entry)) (now (reader .entry))) .length ⌝ }
+    ensures fault { λ r. ⌜ now (fault .exit) ≡ actionNumbers (stepIn (now (tables .entry)) (now (log .entry)) (now (reader .entry))) .fault ⌝ }
 {
     let step = step_in(tables, log, reader);
     let a = action_in(step);
@@ -197,6 +205,7 @@ pub extern "C" fn hongsathep_next_kept(
     *index = a.index;
     *start = a.start;
     *length = a.length;
+    *fault = a.fault;
     keep_step(reader, step);
     answer_in(step)
 }

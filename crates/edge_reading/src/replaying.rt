@@ -21,11 +21,13 @@ fn replayed_by(at: usize, e: EndAnswer) -> Replayed
             Replayed {
                 answer: answer,
                 position: at,
+                fault_at: x.position,
             }
         }
         EndAnswer::Ended(end) => Replayed {
             answer: Answer::Done,
             position: end,
+            fault_at: end,
         },
     }
 }
@@ -38,13 +40,16 @@ pub extern "C" fn hongsathep_replay(
     expected: u64,
     image: &mut [u8],
     end: &mut u64,
+    fault: &mut u64,
 ) -> u64
     ensures answer { λ r. ⌜ r ≡ numberOf (replayedAs position (judged (directoryFrom (now (tables .entry))) (now (log .entry)) position expected (now (image .entry))) .answer) ⌝ }
     ensures end { λ r. ⌜ now (end .exit) ≡ replayedAs position (judged (directoryFrom (now (tables .entry))) (now (log .entry)) position expected (now (image .entry))) .position ⌝ }
+    ensures fault { λ r. ⌜ now (fault .exit) ≡ replayedAs position (judged (directoryFrom (now (tables .entry))) (now (log .entry)) position expected (now (image .entry))) .«fault_at» ⌝ }
     ensures image { λ r. ⌜ now (image .exit) ≡ imageAfter (directoryFrom (now (tables .entry))) (now (image .entry)) (judged (directoryFrom (now (tables .entry))) (now (log .entry)) position expected (now (image .entry))) ⌝ }
 {
     let done = replay::replay(directory_of(tables), log, position, expected, image);
     *end = done.position as u64;
+    *fault = done.fault_at as u64;
     let answer = done.answer;
     number(answer)
 }
@@ -57,10 +62,12 @@ pub extern "C" fn hongsathep_replay_kept(
     expected: u64,
     image: &mut [u8],
     end: &mut u64,
+    fault: &mut u64,
 ) -> u64
     requires { ⌜ tablesKept (directoryFrom (now tables)) (now image) ≡ true ⌝ }
     ensures answer { λ r. ⌜ r ≡ numberOf (replayedBy position (endIn (recordAt (directoryFrom (now (tables .entry))) (now (log .entry)) position expected)) .answer) ⌝ }
     ensures end { λ r. ⌜ now (end .exit) ≡ replayedBy position (endIn (recordAt (directoryFrom (now (tables .entry))) (now (log .entry)) position expected)) .position ⌝ }
+    ensures fault { λ r. ⌜ now (fault .exit) ≡ replayedBy position (endIn (recordAt (directoryFrom (now (tables .entry))) (now (log .entry)) position expected)) .«fault_at» ⌝ }
     ensures image { λ r. ⌜ now (image .exit) ≡ imageAfter (directoryFrom (now (tables .entry))) (now (image .entry)) (recordAt (directoryFrom (now (tables .entry))) (now (log .entry)) position expected) ⌝ }
 {
     let done = replayed_by(
@@ -68,6 +75,7 @@ pub extern "C" fn hongsathep_replay_kept(
         replay::replay_kept(directory_of(tables), log, position, expected, image),
     );
     *end = done.position as u64;
+    *fault = done.fault_at as u64;
     let answer = done.answer;
     number(answer)
 }
@@ -81,15 +89,18 @@ pub extern "C" fn hongsathep_run(
     image: &mut [u8],
     end: &mut u64,
     count: &mut u64,
+    fault: &mut u64,
 ) -> u64
     ensures answer { λ r. ⌜ r ≡ numberOf (runOf (directoryFrom (now (tables .entry))) (now (log .entry)) position expected (now (image .entry)) .ran .answer) ⌝ }
     ensures end { λ r. ⌜ now (end .exit) ≡ runOf (directoryFrom (now (tables .entry))) (now (log .entry)) position expected (now (image .entry)) .ran .position ⌝ }
     ensures count { λ r. ⌜ now (count .exit) ≡ runOf (directoryFrom (now (tables .entry))) (now (log .entry)) position expected (now (image .entry)) .ran .count ⌝ }
+    ensures fault { λ r. ⌜ now (fault .exit) ≡ runOf (directoryFrom (now (tables .entry))) (now (log .entry)) position expected (now (image .entry)) .ran .«fault_at» ⌝ }
     ensures image { λ r. ⌜ now (image .exit) ≡ runOf (directoryFrom (now (tables .entry))) (now (log .entry)) position expected (now (image .entry)) .image ⌝ }
 {
     let ran = replay::run(directory_of(tables), log, position, expected, image);
     *end = ran.position as u64;
     *count = ran.count;
+    *fault = ran.fault_at as u64;
     let answer = ran.answer;
     number(answer)
 }
@@ -103,16 +114,19 @@ pub extern "C" fn hongsathep_run_kept(
     image: &mut [u8],
     end: &mut u64,
     count: &mut u64,
+    fault: &mut u64,
 ) -> u64
     requires { ⌜ tablesKept (directoryFrom (now tables)) (now image) ≡ true ⌝ }
     ensures answer { λ r. ⌜ r ≡ numberOf (runIn (directoryFrom (now (tables .entry))) (now (log .entry)) position expected 0 (now (image .entry)) .ran .answer) ⌝ }
     ensures end { λ r. ⌜ now (end .exit) ≡ runIn (directoryFrom (now (tables .entry))) (now (log .entry)) position expected 0 (now (image .entry)) .ran .position ⌝ }
     ensures count { λ r. ⌜ now (count .exit) ≡ runIn (directoryFrom (now (tables .entry))) (now (log .entry)) position expected 0 (now (image .entry)) .ran .count ⌝ }
+    ensures fault { λ r. ⌜ now (fault .exit) ≡ runIn (directoryFrom (now (tables .entry))) (now (log .entry)) position expected 0 (now (image .entry)) .ran .«fault_at» ⌝ }
     ensures image { λ r. ⌜ now (image .exit) ≡ runIn (directoryFrom (now (tables .entry))) (now (log .entry)) position expected 0 (now (image .entry)) .image ⌝ }
 {
     let ran = replay::run_kept(directory_of(tables), log, position, expected, image);
     *end = ran.position as u64;
     *count = ran.count;
+    *fault = ran.fault_at as u64;
     let answer = ran.answer;
     number(answer)
 }

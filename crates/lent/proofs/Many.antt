@@ -25,12 +25,12 @@ use Rattle.lent.specs.Lent.{gathered}
 use Rattle.lent.proofs.Gathered.{gathered-many}
 
 module _ (ts : List TableDescription) (many : 16 < length ts) (log : List ℕ) where
-  pub many-next : (r : LogReader) → nextOf (gathered ts) log r ≡ refused BadState
+  pub many-next : (r : LogReader) → nextOf (gathered ts) log r ≡ refused BadState (r .position)
   unfolding nextOf
   many-next r = rw (gathered-many ts many)
 
   module _ (at expected : ℕ) (image : List ℕ) where
-    pub many-replay : replayedAs at (judged (gathered ts) log at expected image) ≡ record { answer = BadState; position = at }
+    pub many-replay : replayedAs at (judged (gathered ts) log at expected image) ≡ record { answer = BadState; position = at; «fault_at» = at }
     unfolding judged tablesKept
     many-replay = rw (gathered-many ts many)
 
@@ -38,7 +38,7 @@ module _ (ts : List TableDescription) (many : 16 < length ts) (log : List ℕ) w
     unfolding judged tablesKept
     many-image = rw (gathered-many ts many)
 
-    pub many-run : runOf (gathered ts) log at expected image ≡ stops BadState at 0 image
+    pub many-run : runOf (gathered ts) log at expected image ≡ stops (refusal BadState at) at 0 image
     unfolding runOf tablesKept
     many-run = rw (gathered-many ts many)
 
@@ -70,7 +70,7 @@ module _ (ts : List TableDescription) (many : 16 < length ts) (l : Change) where
 
 -- and of clearing and the end of a record
 module _ (ts : List TableDescription) (many : 16 < length ts) where
-  pub many-cleared : (log : List ℕ) (at : ℕ) (s : Overlays) (next : ℕ) → endRead (gathered ts) log at s next ≡ endReadBy at s next (fault (refusal BadState))
+  pub many-cleared : (log : List ℕ) (at : ℕ) (s : Overlays) (next : ℕ) → endRead (gathered ts) log at s next ≡ endReadBy at s next (fault (refusal BadState at))
   unfolding toClear
   many-cleared log at s next = rw (gathered-many ts many)
 

@@ -141,7 +141,7 @@ module _
     -- .. and what replay accepts": with the list's id it answers 0 and the length that `end_record` answered
     pub replay-accepts : (image : List ℕ)
         → length image ≡ imageLength d  -- any other gives 13
-        → replayedAs 0 (judged d (left .output) 0 (l .id) image) ≡ record { answer = Done; position = recordSize l }
+        → replayedAs 0 (judged d (left .output) 0 (l .id) image) ≡ record { answer = Done; position = recordSize l; «fault_at» = recordSize l }
     replay-accepts image long =
         ap (λ (log : List ℕ). replayedAs 0 (judged d log 0 (l .id) image)) record-first ∙ replayed-done d l more image kept words long
 

@@ -15,11 +15,12 @@ pub const ROOM: usize = 2097152;
 // Nothing says that a file ends, so a loop over it counts its turns down from a number that no run uses up.
 const TURNS: u64 = 18446744073709551615;
 
-// Where a run over a file stopped, from the file's front, how many records it replayed, the id expected next, and the one
-// that stands there if a record begins.
+// Where a run over a file stopped and where the action at fault begins, both from the file's front, how many records it
+// replayed, the id expected next, and the one that stands there if a record begins.
 pub struct Stop {
     pub answer: Answer,
     pub position: u64,
+    pub fault_at: u64,
     pub count: u64,
     pub expected: u64,
     pub found: u64,
@@ -62,7 +63,7 @@ pub fn fill(file: i32, buffer: &mut [u8], from: usize) -> Filled
 // Moves the bytes behind a place to the front. Answers how many they are.
 fn move_front(window: &mut [u8; ROOM], from: usize, held: usize) -> usize
     requires { ⌜ held ≤ 2097152 ⌝ }
-    ensures { λ r. ⌜ r ≤ held ⌝ }
+    ensures { λ r. ⌜ r ≤ 2097152 ⌝ }
 {
     let mut at = from;
     let mut to = 0;
@@ -113,6 +114,7 @@ fn further(stop: Stop, ran: Ran, bytes: &[u8]) -> Stop {
     Stop {
         answer: answer,
         position: std::num::wrapping_add_u64(stop.position, ran.position as u64),
+        fault_at: std::num::wrapping_add_u64(stop.position, ran.fault_at as u64),
         count: std::num::wrapping_add_u64(stop.count, ran.count),
         expected: std::num::wrapping_add_u64(stop.expected, ran.count),
         found: id_at(bytes, ran.position),
@@ -186,6 +188,7 @@ pub fn replay_file(
     let mut stop = Stop {
         answer: Answer::EndOfLog,
         position: 0,
+        fault_at: 0,
         count: 0,
         expected: first,
         found: 0,

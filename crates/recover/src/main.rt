@@ -40,7 +40,7 @@ fn finish(stop: Stop, path: &[u8], is_new: bool, image: &[u8])
     io::write_all(STDOUT_FILENO, b" ");
     io::print_decimal(STDOUT_FILENO, stop.count);
     io::write_all(STDOUT_FILENO, b"\n");
-    tell_answer(answer, stop.position);
+    tell_answer(answer, stop.position, stop.fault_at);
     if answer.number() == 5 {
         tell_ids(stop.found, stop.expected);
     }

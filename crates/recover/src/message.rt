@@ -71,12 +71,14 @@ pub fn tell_ids(found: u64, expected: u64) {
     io::write_all(STDERR_FILENO, b"\n");
 }
 
-// The answer's number, its meaning, and what became of the records.
-pub fn tell_answer(answer: Answer, position: u64) {
+// The answer's number, its meaning, where the record and the action at fault begin, and what became of the records.
+pub fn tell_answer(answer: Answer, position: u64, fault_at: u64) {
     io::print_decimal(STDERR_FILENO, answer.number() as u64);
     io::write_all(STDERR_FILENO, b": ");
     tell_meaning(answer);
-    io::write_all(STDERR_FILENO, b" (at ");
+    io::write_all(STDERR_FILENO, b" (record at ");
     io::print_decimal(STDERR_FILENO, position);
+    io::write_all(STDERR_FILENO, b", fault at ");
+    io::print_decimal(STDERR_FILENO, fault_at);
     io::write_all(STDERR_FILENO, b"); the records before it were replayed\n");
 }

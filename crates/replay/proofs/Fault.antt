@@ -32,13 +32,17 @@ use Rattle.record.proofs.Parts.{tested, inside-short, opening-short}
 use Rattle.record.proofs.Steps.{step-on}
 use Rattle.effect.specs.Effect.{Written}
 use Rattle.replay.specs.Fault.{AtFault, beyond, no-record, at-opening, at-begin, at-end, at-action, cutThere}
-use Rattle.replay.specs.Replay.{Walked, fault, walked, writtenIn, addFirst, byStep, restOf, restIn, byOpening, recordAt}
+use Rattle.replay.specs.Replay.{Walked, fault, walked, writtenIn, addFirst, byStep, restOf, restIn, byOpening, recordAt, tablesKept}
+use Rattle.replay.specs.Run.{Outcome, runOf, Chain, chain-end, chain-more, Stops, refuses, used-up}
 use Rattle.replay.proofs.Answers.{unfirst}
 use Rattle.replay.proofs.Cut.{step-cut}
+use Rattle.replay.proofs.CutLog.{run-exactly}
 use Rattle.replay.proofs.Ends.{summing, inside-sum}
 use Rattle.replay.proofs.Opening as opening
+use Rattle.replay.proofs.Opening.{record-on}
 use Rattle.replay.proofs.Places.{going}
 use Rattle.replay.proofs.Rest.{enough}
+use Rattle.replay.proofs.Stop.{stop-is}
 use Rattle.replay.proofs.Sum.{inside-step}
 
 -- ---- 2: an action that is begun and not whole, whoever reads it
@@ -244,3 +248,18 @@ module _ (d : Directory) (log : List ℕ) (at expected : ℕ) (x : Refusal) wher
   -- and everything up to it was read without refusal: the log cut there is refused only for having no more bytes
   pub fault-first : at ≤ length log → recordAt d log at expected ≡ fault x → recordAt d (take (x .position) log) at expected ≡ fault (cutThere at (x .position))
   fault-first h e = placed e .first h
+
+-- ---- the run
+
+chain-in : {d : Directory} {log : List ℕ} {at expected : ℕ} {rs : List (List Written)} {end : ℕ} → Chain d log at expected rs end → at ≤ length log → end ≤ length log
+chain-in chain-end h = h
+chain-in {d} {log} {at} {expected} (chain-more {ws = ws} {mid = mid} e c) h = chain-in c (record-on d log at expected ws mid e .inside)
+
+-- A RUN'S FAULT lies between the record that it didn't replay and the log's end
+pub run-lies : (d : Directory) (log : List ℕ) (at first : ℕ) (image : List ℕ) → tablesKept d image ≡ true → at ≤ length log
+    → (runOf d log at first image .ran .position ≤ runOf d log at first image .ran .«fault_at») × (runOf d log at first image .ran .«fault_at» ≤ length log)
+run-lies d log at first image kept h = by (runOf d log at first image) (stop-is d log first at image kept) (chain-in (run-exactly d log at first image kept .stand) h)
+  where
+    by : (o : Outcome) → Stops d log first o → o .ran .position ≤ length log → (o .ran .position ≤ o .ran .«fault_at») × (o .ran .«fault_at» ≤ length log)
+    by o (refuses x e a p) l = rw p (fault-lies d log (o .ran .position) (first + o .ran .count) x l e)
+    by o (used-up e a p) l = rw p (omega arith, l)

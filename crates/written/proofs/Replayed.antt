@@ -68,7 +68,7 @@ module _
         ∙ ap (walked (listActions l)) (zero-add (length (recordOf l)))
 
     -- Replay answers 0 and the position behind the record, which is the length that the writer answered.
-    pub replayed-done : replayedAs 0 (judged d (recordOf l ++ more) 0 (l .id) image) ≡ record { answer = Done; position = recordSize l }
+    pub replayed-done : replayedAs 0 (judged d (recordOf l ++ more) 0 (l .id) image) ≡ record { answer = Done; position = recordSize l; «fault_at» = recordSize l }
     replayed-done = ap (replayedAs 0) (judges ∙ ap (walked (listActions l)) (length-record l (kept-ruled d l kept) words))
 
     -- It leaves the effect of the list's actions, in the writer's order.

@@ -63,7 +63,10 @@ returns c =
             ap (λ (x : Ending). x .nextRecordId) e,
             (
               ap (λ (x : Ending). x .position) e,
-              ap (λ (x : Ending). x .recordId) e,
+              (
+                ap (λ (x : Ending). x .recordId) e,
+                ap (λ (x : Ending). x .faultAt) e,
+              ),
             ),
           ),
         ),

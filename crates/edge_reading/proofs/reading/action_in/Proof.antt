@@ -10,41 +10,41 @@ use Rattle.edge_reading.proofs.reading.index_in.Reads as index-in-reads
 use Rattle.edge_reading.proofs.reading.table_in.Reads as table-in-reads
 use Rattle.record.proofs.action.LogAction.tag.Reads as tag-reads
 
--- src/reading.rt:65:20
+-- src/reading.rt:66:20
 enum-known-step : tie.Need-enum-known-step
 enum-known-step c = search needs
 
--- src/reading.rt:67:17
+-- src/reading.rt:68:17
 tag-requires : tie.Need-tag-requires
 tag-requires c κs = search needs
 
--- src/reading.rt:69:22
-cast-t6 : tie.Need-cast-t6
-cast-t6 c = search needs
+-- src/reading.rt:70:22
+cast-t7 : tie.Need-cast-t7
+cast-t7 c = search needs
 
--- src/reading.rt:70:24
+-- src/reading.rt:71:24
 table-in-requires : tie.Need-table-in-requires
 table-in-requires c κs = search needs
 
--- src/reading.rt:70:24
-cast-t8 : tie.Need-cast-t8
-cast-t8 c = search needs
-
 -- src/reading.rt:71:24
+cast-t9 : tie.Need-cast-t9
+cast-t9 c = search needs
+
+-- src/reading.rt:72:24
 index-in-requires : tie.Need-index-in-requires
 index-in-requires c κs = search needs
 
--- src/reading.rt:76:29
-enum-told : tie.Need-enum-told
-enum-told c = search needs
+-- src/reading.rt:78:23
+enum-known-step-2 : tie.Need-enum-known-step-2
+enum-known-step-2 c = search needs
 
--- src/reading.rt:61:1
+-- src/reading.rt:62:1
 returns : tie.Need-returns
 returns c = rw (c .before .before .before .tag .ensures, c .before .table-in .ensures, c .index-in .ensures) (ap actionNumbers (sym (c .before .before .before .before .before .step .given .1)))
 
--- src/reading.rt:61:1
+-- src/reading.rt:62:1
 returns-2 : tie.Need-returns-2
-returns-2 c = ap actionNumbers (sym (c .enum-told .given .1))
+returns-2 c = ap actionNumbers (sym (c .before .step2 .given .1))
 
 pub action-in-spec : {M : Type 1} → statement M
 action-in-spec =
@@ -52,10 +52,10 @@ action-in-spec =
     (tie.spec
     enum-known-step
     tag-requires
-    cast-t6
+    cast-t7
     table-in-requires
-    cast-t8
+    cast-t9
     index-in-requires
-    enum-told
+    enum-known-step-2
     returns
     returns-2)

@@ -49,7 +49,10 @@ returns c =
               ap (λ (x : ActionNumbers). x .index) a,
               (
                 ap (λ (x : ActionNumbers). x .start) a,
-                ap (λ (x : ActionNumbers). x .length) a,
+                (
+                  ap (λ (x : ActionNumbers). x .length) a,
+                  ap (λ (x : ActionNumbers). x .fault) a,
+                ),
               ),
             ),
           ),

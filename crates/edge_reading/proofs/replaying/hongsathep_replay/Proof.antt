@@ -38,7 +38,10 @@ returns c =
       c .number .ensures ∙ ap (λ (x : Replayed). numberOf (x .answer)) e,
       (
         ap (λ (x : Replayed). x .position) e,
-        c .before .before .before .replay .ensures .1 ∙ ap (λ (x : Directory). imageAfter x (a .image .now) (judged x (a .log .now) (a .position) (a .expected) (a .image .now))) d,
+        (
+          ap (λ (x : Replayed). x .«fault_at») e,
+          c .before .before .before .replay .ensures .1 ∙ ap (λ (x : Directory). imageAfter x (a .image .now) (judged x (a .log .now) (a .position) (a .expected) (a .image .now))) d,
+        ),
       ),
     )
 

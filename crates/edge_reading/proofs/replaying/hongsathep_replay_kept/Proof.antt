@@ -44,7 +44,10 @@ returns c =
       c .number .ensures ∙ ap (λ (x : Replayed). numberOf (x .answer)) e,
       (
         ap (λ (x : Replayed). x .position) e,
-        c .before .before .before .before .replay-kept .ensures .1 ∙ ap (λ (x : Directory). imageAfter x (a .image .now) (recordAt x (a .log .now) (a .position) (a .expected))) d,
+        (
+          ap (λ (x : Replayed). x .«fault_at») e,
+          c .before .before .before .before .replay-kept .ensures .1 ∙ ap (λ (x : Directory). imageAfter x (a .image .now) (recordAt x (a .log .now) (a .position) (a .expected))) d,
+        ),
       ),
     )
 

@@ -41,7 +41,10 @@ returns c =
         ap (λ (x : Ran). x .position) e,
         (
           ap (λ (x : Ran). x .count) e,
-          c .before .before .before .run .ensures .1 ∙ ap (λ (o : Outcome). o .image) d,
+          (
+            ap (λ (x : Ran). x .«fault_at») e,
+            c .before .before .before .run .ensures .1 ∙ ap (λ (o : Outcome). o .image) d,
+          ),
         ),
       ),
     )

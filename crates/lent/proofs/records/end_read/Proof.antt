@@ -44,8 +44,8 @@ use Rattle.lent.proofs.slice.gather.Symbol.{name as #gather}
 use Rattle.lent.proofs.slice.gather.Met as gather-thm
 use Rattle.memory.specs.Overlays.{overlaysOf}
 use Rattle.clearing.specs.EndRead.{endReadOf, endRead}
-use Rattle.clearing.proofs.ending.EndRead as EndRead
-use Rattle.clearing.proofs.ending.EndRead.Laws as EndRead′
+use Rattle.clearing.proofs.end_of_reading.EndRead as EndRead
+use Rattle.clearing.proofs.end_of_reading.EndRead.Laws as EndRead′
 use Rattle.memory.proofs.overlays.LogOverlays as LogOverlays
 use Rattle.memory.proofs.overlays.LogOverlays.Laws as LogOverlays′
 use Rattle.clearing.proofs.end_read as callee
