@@ -53,3 +53,8 @@ pub use self::{
 pub fn checksum(bytes: &[u8]) -> u32 {
     raw::hongsathep_checksum(bytes)
 }
+
+/// The ten lines of README.md are run as a test.
+#[cfg(doctest)]
+#[doc = include_str!("../../README.md")]
+pub struct Readme;

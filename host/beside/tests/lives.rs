@@ -29,7 +29,11 @@ fn try_part(part: Part, seed: u64, count: u64) {
             }
         }
     }
-    println!("seed {seed}, {by_types} answers by the crate's types as well\n{tally}");
+    let calls = tally.calls(&parts);
+    println!(
+        "{}, seed {seed}: {calls} calls agree with log.rs; {by_types} lines by the crate's types as well",
+        part.name()
+    );
 }
 
 #[test]
