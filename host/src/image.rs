@@ -5,7 +5,7 @@ use crate::{
     directory::{Directory, IndexTableId, Kind, RefCountTableId, ValueTableId},
     error::Error,
     files,
-    reader::{fault_in, Record},
+    reader::Record,
     sys,
 };
 use std::{
@@ -126,7 +126,7 @@ impl Image {
     pub fn replay(&mut self, log: &[u8], position: usize, expected: u64) -> Result<usize, Error> {
         self.bytes
             .replay(log, position, expected)
-            .map_err(|answer| Error::refused_at(answer, fault_in(&self.directory, log, position, answer)))
+            .map_err(|(answer, fault)| Error::refused_at(answer, fault))
     }
 
     /// Replays a record that was handed out, whatever its id.
@@ -136,8 +136,7 @@ impl Image {
 
     /// Replays from a position on, the expected id rising by 1, up to the first refusal, which is 1 where the log ends.
     pub fn run(&mut self, log: &[u8], position: usize, expected: u64) -> Ran {
-        let (answer, end, count) = self.bytes.run(log, position, expected);
-        let fault = fault_in(&self.directory, log, end, answer);
+        let ((answer, fault), end, count) = self.bytes.run(log, position, expected);
         Ran { answer, position: end as u64, count, fault: fault as u64 }
     }
 

@@ -5,7 +5,6 @@ use crate::{
     error::Error,
     list::ChangeList,
     queues::Queues,
-    reader::fault_in,
     sys,
 };
 use std::num::NonZeroU64;
@@ -109,7 +108,7 @@ impl Overlays {
         next: &mut NonZeroU64,
     ) -> Result<(usize, u64), Error> {
         sys::end_read(directory.kept(), log, position, &mut self.0, next)
-            .map_err(|answer| Error::refused_at(answer, fault_in(directory, log, position, answer)))
+            .map_err(|(answer, fault)| Error::refused_at(answer, fault))
     }
 
     /// Gives replay up, or ends it: the file being read and those to replay go to cleanup, and the overlays are emptied.

@@ -143,9 +143,9 @@ impl<'a> LogReader<'a> {
     /// One action, or the refusal; a refusal leaves the reader where it stands, and may be asked for again.
     pub fn step(&mut self) -> Result<Action<'a>, Error> {
         let position = self.offset();
-        let refused = |answer| Error::refused_at(answer, position);
+        let refused = |(answer, fault)| Error::refused_at(answer, fault);
         let stepped = self.reader.next(self.directory.kept(), self.log).map_err(refused)?;
-        self.action(&stepped).ok_or_else(|| refused(Answer::Other(0)))
+        self.action(&stepped).ok_or_else(|| refused((Answer::Other(0), position)))
     }
 
     fn action(&self, stepped: &sys::Stepped) -> Option<Action<'a>> {
@@ -322,17 +322,5 @@ impl<'a> Record<'a> {
     pub fn actions(&self) -> impl Iterator<Item = Action<'a>> {
         let all = LogReader::at(&self.directory, self.bytes, 0, false).map_while(Result::ok);
         all.filter(|action| !matches!(action, Action::BeginRecord { .. } | Action::EndRecord))
-    }
-}
-
-/// The first byte of the action at fault, where the record at a position was refused.
-pub(crate) fn fault_in(directory: &Directory, log: &[u8], position: usize, answer: Answer) -> usize {
-    match answer {
-        Answer::WrongId | Answer::UsedUp | Answer::BadState | Answer::BadArgument => position,
-        _ => {
-            let mut reader = LogReader::at(directory, log, position, true);
-            while reader.step().is_ok() {}
-            reader.offset()
-        }
     }
 }

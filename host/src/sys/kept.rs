@@ -7,12 +7,13 @@ use std::{num::NonZeroU64, sync::Arc};
 calls! { kept
     fn hongsathep_next_kept(
         tables: &[u64], log: &[u8], reader: &mut [u64], tag: &mut u64, table: &mut u64, index: &mut u64,
-        start: &mut u64, length: &mut u64) -> u64;
+        start: &mut u64, length: &mut u64, fault: &mut u64) -> u64;
     fn hongsathep_replay_kept(
-        tables: &[u64], log: &[u8], position: usize, expected: u64, image: &mut [u8], end: &mut u64) -> u64;
+        tables: &[u64], log: &[u8], position: usize, expected: u64, image: &mut [u8], end: &mut u64,
+        fault: &mut u64) -> u64;
     fn hongsathep_run_kept(
         tables: &[u64], log: &[u8], position: usize, expected: u64, image: &mut [u8], end: &mut u64,
-        count: &mut u64) -> u64;
+        count: &mut u64, fault: &mut u64) -> u64;
     fn hongsathep_insert_index_kept(
         tables: &[u64], list: &mut [u64], items: &mut [u64], chunks: &mut [u8], table: u16, index: u64, sub: u8,
         data: &[u8]) -> u64;
@@ -49,7 +50,7 @@ calls! { kept
         file: &mut u64) -> u64;
     fn hongsathep_end_read_kept(
         tables: &[u64], log: &[u8], position: usize, overlays: &mut [u64], words: &mut [u64], bytes: &mut [u8],
-        next: &mut u64, end: &mut u64, id: &mut u64) -> u64;
+        next: &mut u64, end: &mut u64, id: &mut u64, fault: &mut u64) -> u64;
     fn hongsathep_clear_replay_logs_kept(overlays: &mut [u64], queues: &mut [u64]) -> u64;
     fn hongsathep_flush_one_kept(queues: &mut [u64], min: u64, moved: &mut u64, number: &mut u64) -> u64;
     fn hongsathep_read_next_kept(
@@ -68,6 +69,9 @@ fn done(number: u64) -> Result<(), Answer> {
         Some(answer) => Err(answer),
     }
 }
+
+/// A refusal of reading: its answer, and the first byte of the action at fault.
+pub(crate) type Refused = (Answer, usize);
 
 /// A directory that keeps its rules.
 #[derive(Clone, PartialEq, Eq)]
@@ -124,17 +128,21 @@ impl Bytes {
     }
 
     /// The position behind the record.
-    pub fn replay(&mut self, log: &[u8], position: usize, expected: u64) -> Result<usize, Answer> {
-        let (tables, image, mut end) = (&self.tables.0, &mut self.bytes, 0);
-        done(unsafe { hongsathep_replay_kept(tables, log, position, expected, image, &mut end) })?;
-        Ok(end as usize)
+    pub fn replay(&mut self, log: &[u8], position: usize, expected: u64) -> Result<usize, Refused> {
+        let (tables, image, mut end, mut fault) = (&self.tables.0, &mut self.bytes, 0, 0);
+        let (e, f) = (&mut end, &mut fault);
+        done(unsafe { hongsathep_replay_kept(tables, log, position, expected, image, e, f) })
+            .map(|()| end as usize)
+            .map_err(|answer| (answer, fault as usize))
     }
 
-    /// The answer that stopped the run, the position where the record not replayed begins, and how many were.
-    pub fn run(&mut self, log: &[u8], position: usize, expected: u64) -> (Answer, usize, u64) {
-        let (tables, image, mut end, mut count) = (&self.tables.0, &mut self.bytes, 0, 0);
-        let number = unsafe { hongsathep_run_kept(tables, log, position, expected, image, &mut end, &mut count) };
-        (Answer::of(number).unwrap_or(Answer::Other(number)), end as usize, count)
+    /// What stopped the run, the position where the record not replayed begins, and how many were.
+    pub fn run(&mut self, log: &[u8], position: usize, expected: u64) -> (Refused, usize, u64) {
+        let (tables, image) = (&self.tables.0, &mut self.bytes);
+        let (mut end, mut count, mut fault) = (0, 0, 0);
+        let (e, c, f) = (&mut end, &mut count, &mut fault);
+        let number = unsafe { hongsathep_run_kept(tables, log, position, expected, image, e, c, f) };
+        ((Answer::of(number).unwrap_or(Answer::Other(number)), fault as usize), end as usize, count)
     }
 }
 
@@ -159,12 +167,13 @@ impl Reader {
         Reader(words)
     }
 
-    pub fn next(&mut self, tables: &Tables, log: &[u8]) -> Result<Stepped, Answer> {
-        let mut s = Stepped::default();
+    pub fn next(&mut self, tables: &Tables, log: &[u8]) -> Result<Stepped, Refused> {
+        let (mut s, mut fault) = (Stepped::default(), 0);
         let (tag, table, index) = (&mut s.tag, &mut s.table, &mut s.index);
-        let (start, length) = (&mut s.start, &mut s.length);
-        done(unsafe { hongsathep_next_kept(&tables.0, log, &mut self.0, tag, table, index, start, length) })?;
-        Ok(s)
+        let (start, length, f) = (&mut s.start, &mut s.length, &mut fault);
+        done(unsafe { hongsathep_next_kept(&tables.0, log, &mut self.0, tag, table, index, start, length, f) })
+            .map(|()| s)
+            .map_err(|answer| (answer, fault as usize))
     }
 
     pub fn position(&self) -> usize {
@@ -468,11 +477,12 @@ pub(crate) fn end_read(
     position: usize,
     overlays: &mut Overlays,
     next: &mut NonZeroU64,
-) -> Result<(usize, u64), Answer> {
-    let (mut raised, mut end, mut id) = (next.get(), 0, 0);
+) -> Result<(usize, u64), Refused> {
+    let (mut raised, mut end, mut id, mut fault) = (next.get(), 0, 0, 0);
     let (head, words, bytes) = (&mut overlays.head, &mut overlays.words, &mut overlays.bytes);
-    let (n, e, i) = (&mut raised, &mut end, &mut id);
-    done(unsafe { hongsathep_end_read_kept(&tables.0, log, position, head, words, bytes, n, e, i) })?;
+    let (n, e, i, f) = (&mut raised, &mut end, &mut id, &mut fault);
+    done(unsafe { hongsathep_end_read_kept(&tables.0, log, position, head, words, bytes, n, e, i, f) })
+        .map_err(|answer| (answer, fault as usize))?;
     *next = NonZeroU64::new(raised).unwrap_or(*next);
     Ok((end as usize, id))
 }

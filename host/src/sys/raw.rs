@@ -53,16 +53,17 @@ calls! { tested
     /// One step of the reader. Answers 0 to 4, 6 to 8, 13, 14; the reader moves on after 0.
     fn hongsathep_next(
         tables: &[u64], log: &[u8], reader: &mut [u64], tag: &mut u64, table: &mut u64, index: &mut u64,
-        start: &mut u64, length: &mut u64) -> u64;
+        start: &mut u64, length: &mut u64, fault: &mut u64) -> u64;
 
     /// Replays the record at a position. Answers 0 to 8, 13, 14; the image changes after 0 alone.
     fn hongsathep_replay(
-        tables: &[u64], log: &[u8], position: usize, expected: u64, image: &mut [u8], end: &mut u64) -> u64;
+        tables: &[u64], log: &[u8], position: usize, expected: u64, image: &mut [u8], end: &mut u64,
+        fault: &mut u64) -> u64;
 
     /// Replays from a position on, up to the first answer other than 0, which it gives.
     fn hongsathep_run(
         tables: &[u64], log: &[u8], position: usize, expected: u64, image: &mut [u8], end: &mut u64,
-        count: &mut u64) -> u64;
+        count: &mut u64, fault: &mut u64) -> u64;
 
     /// Makes an empty list of an id. 13 if `list` isn't 38 words.
     fn hongsathep_list_new(list: &mut [u64], id: u64) -> u64;
@@ -140,7 +141,7 @@ calls! { tested
     /// Clears an accepted record's entries from the overlays and raises `next`. Answers 0 to 4, 6 to 8, 12 to 14.
     fn hongsathep_end_read(
         tables: &[u64], log: &[u8], position: usize, overlays: &mut [u64], words: &mut [u64], bytes: &mut [u8],
-        next: &mut u64, end: &mut u64, id: &mut u64) -> u64;
+        next: &mut u64, end: &mut u64, id: &mut u64, fault: &mut u64) -> u64;
 
     /// Sends the file being read and those to replay to cleanup, empties the overlays, clears dirty. Answers 0, 13.
     fn hongsathep_clear_replay_logs(

@@ -148,7 +148,7 @@ impl World {
         let (log, image, data) = (log.lend(), image.lend(), data.lend());
         let (table, index) = (random.below(9) as u16, hostile_number(random));
         let (position, expected) = (hostile_number(random) as usize, hostile_number(random));
-        let [mut x, mut y, mut z, mut u, mut v] = [77; 5];
+        let [mut x, mut y, mut z, mut u, mut v, mut fault] = [77; 6];
         let (mut empty, mut gone) = ([77; 64], [77; 64]);
         let answer = match which {
             0 => told(hongsathep_checksum(log)),
@@ -156,10 +156,10 @@ impl World {
             2 => told(hongsathep_image_length(t)),
             3 => told(hongsathep_table_start(t, position)),
             4 => hongsathep_reader_new(r, position, true),
-            5 | 6 => hongsathep_next(t, log, r, &mut x, &mut y, &mut z, &mut u, &mut v),
-            7 => hongsathep_replay(t, log, position, expected, image, &mut x),
-            8 => return (hongsathep_run(t, log, position, expected, image, &mut x, &mut y), false),
-            9 => return (hongsathep_run(t, log, 0, 1, image, &mut x, &mut y), false),
+            5 | 6 => hongsathep_next(t, log, r, &mut x, &mut y, &mut z, &mut u, &mut v, &mut fault),
+            7 => hongsathep_replay(t, log, position, expected, image, &mut x, &mut fault),
+            8 => return (hongsathep_run(t, log, position, expected, image, &mut x, &mut y, &mut fault), false),
+            9 => return (hongsathep_run(t, log, 0, 1, image, &mut x, &mut y, &mut fault), false),
             10 => hongsathep_list_new(l, expected),
             11 => hongsathep_insert_index(t, l, i, c, table, index, expected as u8, data),
             12 => hongsathep_insert_value(t, l, i, c, table, index, &data[..20.min(data.len())]),
@@ -177,7 +177,10 @@ impl World {
             24 => hongsathep_value_listed(l, i, c, o, w, b, table, index, data, &mut x),
             25 => hongsathep_begin_record(next, l),
             26 => hongsathep_end_record(t, l, i, c, o, w, b, q, *next, image, &mut x, &mut y, &mut z),
-            27 | 28 => hongsathep_end_read(t, log, (which == 28) as usize * position, o, w, b, next, &mut x, &mut y),
+            27 | 28 => {
+                let position = (which == 28) as usize * position;
+                hongsathep_end_read(t, log, position, o, w, b, next, &mut x, &mut y, &mut fault)
+            }
             29 => hongsathep_clear_replay_logs(o, w, b, q),
             30 => hongsathep_queues_new(q),
             31 => {

@@ -112,7 +112,7 @@ impl ByWords {
 
     fn answer_of_reading(&mut self, opcode: u8, f: &mut Fields) -> Vec<u8> {
         let (tables, log, image) = (&self.tables, &self.log, &mut self.image);
-        let (mut end, mut count) = (0, 0);
+        let (mut end, mut count, mut fault) = (0, 0, 0);
         match opcode {
             0x0b => {
                 let position = f.number(8) as usize;
@@ -125,12 +125,12 @@ impl ByWords {
             }
             0x0d => {
                 let (position, expected) = (f.number(8) as usize, f.number(8));
-                let answer = hongsathep_replay(tables, log, position, expected, image, &mut end);
+                let answer = hongsathep_replay(tables, log, position, expected, image, &mut end, &mut fault);
                 Row::of(answer).number(end, 8).0
             }
             0x0e => {
                 let (position, expected) = (f.number(8) as usize, f.number(8));
-                let answer = hongsathep_run(tables, log, position, expected, image, &mut end, &mut count);
+                let answer = hongsathep_run(tables, log, position, expected, image, &mut end, &mut count, &mut fault);
                 Row::of(answer).number(end, 8).number(count, 8).0
             }
             _ => Row::default().number(image.len() as u64, 4).number(hongsathep_checksum(image).into(), 4).0,
@@ -138,9 +138,9 @@ impl ByWords {
     }
 
     fn step(&mut self) -> Vec<u8> {
-        let [mut tag, mut table, mut index, mut start, mut length] = [0; 5];
+        let [mut tag, mut table, mut index, mut start, mut length, mut fault] = [0; 6];
         let (a, b, c, d, e) = (&mut tag, &mut table, &mut index, &mut start, &mut length);
-        let answer = hongsathep_next(&self.tables, &self.log, &mut self.reader, a, b, c, d, e);
+        let answer = hongsathep_next(&self.tables, &self.log, &mut self.reader, a, b, c, d, e, &mut fault);
         if answer != 0 {
             return vec![answer as u8];
         }
@@ -243,10 +243,11 @@ impl ByWords {
                 written(row, &out, size as usize)
             }
             0x13 => {
-                let (position, [mut end, mut id]) = (f.number(8) as usize, [0; 2]);
+                let (position, [mut end, mut id, mut fault]) = (f.number(8) as usize, [0; 3]);
                 let (o, next) = (&mut self.overlays, &mut self.next);
                 let (h, w, b) = (&mut o.head, &mut o.words, &mut o.bytes);
-                let answer = hongsathep_end_read(&self.tables, &self.log, position, h, w, b, next, &mut end, &mut id);
+                let (e, i, at) = (&mut end, &mut id, &mut fault);
+                let answer = hongsathep_end_read(&self.tables, &self.log, position, h, w, b, next, e, i, at);
                 Row::of(answer).number(end, 8).number(id, 8).0
             }
             0x18 => {
