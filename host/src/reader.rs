@@ -220,6 +220,7 @@ pub struct Records<'a> {
     log: &'a [u8],
     position: usize,
     expected: Option<u64>,
+    is_used_up: bool,
     is_over: bool,
 }
 
@@ -231,11 +232,11 @@ impl<'a> Records<'a> {
 
     /// The records from a position on.
     pub fn at(directory: &Directory, log: &'a [u8], position: usize) -> Records<'a> {
-        Records { directory: directory.clone(), log, position, expected: None, is_over: false }
+        Records { directory: directory.clone(), log, position, expected: None, is_used_up: false, is_over: false }
     }
 
-    /// Demands that the next record has this id and each further one the id behind it: another one is refused with 5.
-    /// Without it ids may be any.
+    /// Demands that the next record has this id and each further one the id behind it: another one is refused with 5,
+    /// and whatever stands behind the last id of all with 12. Without it ids may be any.
     pub fn expecting(mut self, id: u64) -> Records<'a> {
         self.expected = Some(id);
         self
@@ -247,13 +248,13 @@ impl<'a> Records<'a> {
     }
 
     fn read(&mut self) -> Result<Record<'a>, Error> {
+        if self.is_used_up {
+            return Err(Error::refused_at(Answer::UsedUp, self.position));
+        }
         let record = Record::read(&self.directory, self.log, self.position, self.expected)?;
         self.position = record.position + record.bytes.len();
-        if let Some(expected) = self.expected {
-            self.expected = expected.checked_add(1);
-            // Behind the last id of all nothing can be expected.
-            self.is_over = self.expected.is_none();
-        }
+        self.is_used_up = self.expected == Some(u64::MAX);
+        self.expected = self.expected.map(|expected| expected.wrapping_add(1));
         Ok(record)
     }
 }

@@ -73,8 +73,11 @@ impl Opened {
 
     /// Lets damage pass, as parity-db does: what stands behind the first record that is refused is lost, in later files
     /// too. Without it such a folder isn't opened, and its files stay as they are. (A record that was never finished, at
-    /// the end of the last file, is no damage.) Tables that have some of the lost records already come out mixed: there
-    /// the records before are replayed over them.
+    /// the end of the last file, is no damage.)
+    ///
+    /// Where the power fails, a file system may leave any bytes in place of those that were never synced: then this is
+    /// right, and nothing synced is lost. Tables that have some of the lost records already come out mixed: the records
+    /// before are replayed over them.
     pub fn discard_damage(mut self) -> Opened {
         self.discards = true;
         self
@@ -86,55 +89,41 @@ impl Opened {
     ///
     /// A record that was never finished, cut off by the end of the last file, is cut off the file. Any other refusal is
     /// an error, with the file, the answer and the place, and leaves the files; the image then has the records before.
-    pub fn recover(mut self, image: &mut Image) -> Result<Log, Error> {
+    pub fn recover(self, image: &mut Image) -> Result<Log, Error> {
         if image.directory() != &self.log.directory {
             return Err(Answer::BadState.into());
         }
+        self.each_file(|log, path, expected| {
+            let file = File::open(path).map_err(Error::file("open", path))?;
+            let clear = |window: &[u8], count| log.clear(window, count);
+            image.run_windows(file, expected, WINDOW, clear).map_err(Error::file("read", path))
+        })
+    }
+
+    /// The same with each record handed out, whole and checked, for a host that has its tables elsewhere.
+    pub fn recover_with<E: From<Error>>(self, mut apply: impl FnMut(&Record<'_>) -> Result<(), E>) -> Result<Log, E> {
+        self.each_file(|log, path, expected| {
+            let bytes = fs::read(path).map_err(Error::file("read", path))?;
+            log.replay_with(&bytes, expected, &mut apply)
+        })
+    }
+
+    fn each_file<E: From<Error>>(
+        mut self,
+        mut replay: impl FnMut(&mut Log, &Path, u64) -> Result<Ran, E>,
+    ) -> Result<Log, E> {
         let mut expected = self.log.queues.replay_record_id().unwrap_or_default();
         while let Some(number) = self.log.queues.replay_next() {
             let path = self.log.path_of(number);
-            let file = File::open(&path).map_err(Error::file("open", &path))?;
-            let clear = |window: &[u8], count| self.log.clear(window, count);
-            let ran = image.run_windows(file, expected, WINDOW, clear).map_err(Error::file("read", &path))?;
+            let ran = replay(&mut self.log, &path, expected)?;
             expected = expected.wrapping_add(ran.count);
             if !self.settle(number, ran)? {
                 break;
             }
         }
-        Ok(self.finish())
-    }
-
-    /// The same with each record handed out, whole and checked, for a host that has its tables elsewhere.
-    pub fn recover_with<E: From<Error>>(
-        mut self,
-        mut apply: impl FnMut(&Record<'_>) -> Result<(), E>,
-    ) -> Result<Log, E> {
-        let mut expected = self.log.queues.replay_record_id();
-        while let Some(number) = self.log.queues.replay_next() {
-            let path = self.log.path_of(number);
-            let bytes = fs::read(&path).map_err(Error::file("read", &path))?;
-            let mut ran = Ran { answer: Answer::EndOfLog, position: 0, count: 0, fault: 0 };
-            let mut records = Records::new(&self.log.directory, &bytes).expecting(expected.unwrap_or_default());
-            for record in &mut records {
-                match record {
-                    Ok(record) => {
-                        apply(&record)?;
-                        self.log.clear(record.bytes(), 1);
-                        ran.count += 1;
-                    }
-                    Err(error) => {
-                        ran.answer = error.answer().unwrap_or(Answer::BadState);
-                        ran.fault = error.position().unwrap_or_default();
-                    }
-                }
-            }
-            ran.position = records.offset() as u64;
-            expected = expected.and_then(|expected| expected.checked_add(ran.count));
-            if !self.settle(number, ran)? {
-                break;
-            }
-        }
-        Ok(self.finish())
+        // All files that are left go to cleanup.
+        self.log.overlays.clear_replay_logs(&mut self.log.queues);
+        Ok(self.log)
     }
 
     /// The queues of the files found.
@@ -161,17 +150,37 @@ impl Opened {
         }
         shorten(&path, kept)?;
         let Ran { answer, position, count, .. } = ran;
-        self.log.recovered.push(Recovered { file: number, answer, position, count, cut: length - kept });
+        self.log.recovered.push(Recovered { file: number, answer, position, count, cut: length.saturating_sub(kept) });
         Ok(!is_damaged)
-    }
-
-    fn finish(mut self) -> Log {
-        self.log.overlays.clear_replay_logs(&mut self.log.queues);
-        self.log
     }
 }
 
 impl Log {
+    fn replay_with<E: From<Error>>(
+        &mut self,
+        bytes: &[u8],
+        expected: u64,
+        apply: &mut impl FnMut(&Record<'_>) -> Result<(), E>,
+    ) -> Result<Ran, E> {
+        let mut ran = Ran { answer: Answer::EndOfLog, position: 0, count: 0, fault: 0 };
+        let mut records = Records::new(&self.directory, bytes).expecting(expected);
+        for record in &mut records {
+            match record {
+                Err(error) => {
+                    ran.answer = error.answer().unwrap_or(ran.answer);
+                    ran.fault = error.position().unwrap_or_default();
+                }
+                Ok(record) => {
+                    apply(&record)?;
+                    self.clear(record.bytes(), 1);
+                    ran.count += 1;
+                }
+            }
+        }
+        ran.position = records.offset() as u64;
+        Ok(ran)
+    }
+
     /// Clears so many records from the front of some bytes on: the next id is then above theirs.
     fn clear(&mut self, bytes: &[u8], count: u64) {
         let mut position = 0;

@@ -12,7 +12,6 @@
 //!   made it or found it kept, and no function writes it but by such a call. Every call keeps the rules, refusals too:
 //!   proved (docs/THEOREMS.md). So the rules hold at every call, whatever the rest of this crate and its users do. What
 //!   comes from outside, such as a list made for another directory, goes to the tested call.
-#![allow(unsafe_code)]
 
 /// Declares calls and makes each a function of slices; a slice is handed over as its pointer and its length.
 macro_rules! calls {

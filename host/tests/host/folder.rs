@@ -282,6 +282,9 @@ fn ids_are_used_up() {
     let opened = Log::open(scratch.path(), &directory()).unwrap();
     let refused = opened.recover(&mut Image::new(&directory())).err().unwrap();
     assert_eq!(refused.answer(), Some(Answer::UsedUp));
+    let opened = Log::open(scratch.path(), &directory()).unwrap();
+    let refused: Error = opened.recover_with(|_| Ok(())).err().unwrap();
+    assert_eq!(refused.answer(), Some(Answer::UsedUp));
     let opened = Log::open(scratch.path(), &directory()).unwrap().discard_damage();
     let log = opened.recover(&mut Image::new(&directory())).unwrap();
     assert_eq!(log.begin().err().unwrap().answer(), Some(Answer::UsedUp));

@@ -63,7 +63,7 @@ pub fn tables_in(command: &[u8]) -> Vec<[u64; 5]> {
 }
 
 /// The files that an OPEN tells of: name and bytes.
-pub fn files_in<'a>(command: &'a [u8]) -> Vec<(&'a [u8], &'a [u8])> {
+pub fn files_in(command: &[u8]) -> Vec<(&[u8], &[u8])> {
     let mut fields = Fields(&command[1..]);
     let count = fields.number(2);
     let mut file = |_| {
