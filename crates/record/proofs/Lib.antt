@@ -1,5 +1,4 @@
 pub mod Begins
-pub mod Cases
 pub mod Faults
 pub mod Formats
 pub mod Parts

@@ -81,7 +81,17 @@ fn unsigned(answer: i64) -> u64 {
     answer as u64
 }
 
+// A folder opens for reading and has a length of its own: only a read tells it from a file.
+fn is_readable(file: i32) -> bool {
+    let mut one = [0u8; 1];
+    0 <= libc::read(file, &mut one)
+}
+
 fn read_opened(file: i32, path: &[u8], image: &mut [u8]) -> Image {
+    if !is_readable(file) {
+        os::fail(path);
+        return Image::Bad;
+    }
     let length = libc::lseek(file, 0, SEEK_END);
     if length < 0 {
         os::fail(path);
@@ -162,10 +172,21 @@ fn write_file(file: i32, name: &[u8], image: &[u8]) -> bool {
 }
 
 // A file of that name that is there already may be another run's.
+fn tell_not_made(name: &[u8]) {
+    if os::errno() == libc::EEXIST {
+        tell(
+            name,
+            b": it is there already; another run is at work, or one was killed: remove it if no run is at work",
+        );
+        return;
+    }
+    os::fail(name);
+}
+
 fn replace_by(name: &[u8], path: &[u8], image: &[u8]) -> bool {
     let file = os::create(name);
     if file < 0 {
-        os::fail(name);
+        tell_not_made(name);
         tell(path, b": the image stays as it was");
         return false;
     }
