@@ -8,7 +8,7 @@ use crate::{
     listed::Listed,
     log::driver::Driver,
     part::Part,
-    protocol::{from_hex, op, to_hex, Script, Stepped, NOT_DRIVEN},
+    protocol::{from_hex, number, op, to_hex, Script, Stepped, NOT_DRIVEN},
 };
 use std::io;
 
@@ -69,6 +69,28 @@ pub fn compare(
     no_further_lines(script, port)
 }
 
+/// Holds the lines of a port that takes each directory as a lent slice against its lines by value. The
+/// first line is the answer to LENT, which no line by value stands beside.
+pub fn compare_forms(by_value: &[String], lent: &[String]) -> Result<(), Difference> {
+    let Some((switched, lent)) = lent.split_first() else {
+        return Err(Difference { at: 0, why: "the port wrote no line for LENT".into() });
+    };
+    same("LENT is answered", &[number::DONE], switched).map_err(|why| Difference { at: 0, why })?;
+    let none = String::new();
+    for at in 0..by_value.len().max(lent.len()) {
+        let (by_value, lent) = (by_value.get(at).unwrap_or(&none), lent.get(at).unwrap_or(&none));
+        if by_value != lent {
+            let why = format!(
+                "by value: {}\nover a lent slice: {}",
+                shown_line(by_value),
+                shown_line(lent)
+            );
+            return Err(Difference { at, why });
+        }
+    }
+    Ok(())
+}
+
 fn no_further_lines(script: &Script, port: &[String]) -> Result<(), Difference> {
     if port.len() <= script.len() {
         return Ok(());
@@ -127,7 +149,7 @@ pub fn walks_through_records(script: &Script) -> io::Result<Script> {
 fn bears_on_the_list(command: &[u8]) -> bool {
     match command[0] {
         op::DIR | op::NEWLIST | op::BEGIN | op::FORGE_LIST | op::FORGE_DROP | op::LIST_SUM => true,
-        op::WRITE => false,
+        op::WRITE | op::SIZE => false,
         _ => Part::called_by(command) == Some(Part::Lists),
     }
 }

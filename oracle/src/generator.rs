@@ -17,7 +17,7 @@ use self::{beside::Beside, directories::random_directory};
 use crate::{
     directory::Directory,
     part::Part,
-    protocol::{op, tag, with_blob, Script, LONGEST_LOG},
+    protocol::{lent, op, tag, with_blob, Script, LONGEST_LOG},
     random::Random,
 };
 
@@ -56,7 +56,7 @@ impl Generator {
             let (forms, _) = forms_of(*part);
             generator.all_forms(forms, 60);
         }
-        generator.script
+        in_both_forms(generator.script)
     }
 
     /// Each form as often as it takes to make so many commands.
@@ -68,6 +68,20 @@ impl Generator {
             }
         }
     }
+}
+
+/// Every other directory is handed on as a lent slice.
+fn in_both_forms(script: Script) -> Script {
+    let mut both = Script::new();
+    let mut is_lent = false;
+    for command in script {
+        if command[0] == op::DIR {
+            both.push(lent(is_lent));
+            is_lent = !is_lent;
+        }
+        both.push(command);
+    }
+    both
 }
 
 /// The forms of a part, and how many commands of each a long script has.

@@ -38,8 +38,10 @@ pub mod op {
     pub const FORGE_OVERLAY: u8 = 0x22;
     pub const LIST_SUM: u8 = 0x23;
     pub const FORGE_DROP: u8 = 0x24;
-    /// An addition to the protocol: docs/ORACLE.md.
+    /// Additions to the protocol: docs/ORACLE.md.
     pub const WRITE: u8 = 0xf0;
+    pub const LENT: u8 = 0xf1;
+    pub const SIZE: u8 = 0xf2;
 }
 
 /// The numbered answers of document 01 that the driver and the listed differences name.
@@ -180,6 +182,11 @@ pub fn put_blob(row: &mut Vec<u8>, blob: &[u8]) {
 /// The command that hands over an image.
 pub fn image(length: usize, fill: u8) -> Vec<u8> {
     [&[op::IMAGE], &(length as u32).to_le_bytes()[..], &[fill]].concat()
+}
+
+/// From here on the port hands each directory on as a lent slice, or by value again.
+pub fn lent(is_lent: bool) -> Vec<u8> {
+    vec![op::LENT, is_lent.into()]
 }
 
 /// REPLAY or RUN.

@@ -1,7 +1,7 @@
 //! The comparison lets listed differences pass, and nothing else.
 
 use oracle::{
-    comparison::{compare, leading_to, Answers, Tally},
+    comparison::{compare, compare_forms, leading_to, Answers, Tally},
     generator::Generator,
     part::Part,
     protocol::{from_hex, to_hex, Script},
@@ -82,6 +82,25 @@ fn behind_a_listed_difference_the_port_must_stay_where_the_rust_goes_on() {
     assert_ne!(to_hex(&run.answers.rust[4]), run.port[4]);
     run.port[4] = to_hex(&run.answers.rust[4]);
     assert_eq!(run.differs_at(), Some(4));
+}
+
+/// Over a lent directory each line must be the one by value, behind the answer to LENT.
+#[test]
+fn another_line_over_a_lent_directory_is_a_difference() {
+    let by_value = begin_inside().port;
+    let lent = [&["00".to_string()], &by_value[..]].concat();
+    let differs_at =
+        |lent: &[String]| compare_forms(&by_value, lent).err().map(|difference| difference.at);
+    assert_eq!(differs_at(&lent), None);
+    for at in 0..by_value.len() {
+        let mut other = lent.clone();
+        other[at + 1] = "05".into();
+        assert_eq!(differs_at(&other), Some(at));
+    }
+    assert_eq!(differs_at(&lent[..3]), Some(2));
+    assert_eq!(differs_at(&[&lent[..], &["00".into()]].concat()), Some(by_value.len()));
+    assert_eq!(differs_at(&["ff".into()]), Some(0));
+    assert_eq!(differs_at(&[]), Some(0));
 }
 
 #[test]

@@ -16,8 +16,8 @@ use compare_lines::wrong_length;
 pub fn forge_entry(
     list: LogChange,
     command: &[u8],
-    list_words: &mut [u64; 400],
-    list_bytes: &mut [u8; 49152],
+    words: &mut [u64; 400],
+    bytes: &mut [u8; 49152],
     answer: &mut [u8; 65536],
 ) -> Listed {
     if command.len() != 23 {
@@ -29,10 +29,7 @@ pub fn forge_entry(
     let kind = kind_of(command[1]);
     let row = forged_at(command, 12, kind, list.record_id);
     put(answer, 0, 0, 1);
-    replied(
-        with_entry(list, kind, row, list_words, list_bytes),
-        Reply::Line(1),
-    )
+    replied(with_entry(list, kind, row, words, bytes), Reply::Line(1))
 }
 
 pub fn forge_drop(list: LogChange, command: &[u8], answer: &mut [u8; 65536]) -> Listed {

@@ -9,18 +9,18 @@ use super::forging::forge_entry;
 use super::listed::Listed;
 use super::listed::replied;
 use super::summing::list_sum;
+use super::writing::size;
 use super::writing::write;
 use change::LogChange;
+use compare_lent::Tables;
 use compare_lines::Reply;
-use directory::Directory;
-use directory::TableKind;
 
 pub fn serve(
     list: LogChange,
-    directory: Directory,
+    tables: Tables,
     command: &[u8],
-    list_words: &mut [u64; 400],
-    list_bytes: &mut [u8; 49152],
+    words: &mut [u64; 400],
+    bytes: &mut [u8; 49152],
     room: &mut [u8; 60000],
     answer: &mut [u8; 65536],
 ) -> Listed
@@ -29,63 +29,13 @@ pub fn serve(
     let opcode = command[0];
     match opcode {
         0x05 => new_list(list, command, answer),
-        0x06 => insert(
-            list,
-            directory,
-            TableKind::Index,
-            command,
-            list_words,
-            list_bytes,
-            answer,
-        ),
-        0x07 => insert(
-            list,
-            directory,
-            TableKind::Value,
-            command,
-            list_words,
-            list_bytes,
-            answer,
-        ),
-        0x08 => insert(
-            list,
-            directory,
-            TableKind::RefCount,
-            command,
-            list_words,
-            list_bytes,
-            answer,
-        ),
-        0x09 => drop_table(
-            list,
-            directory,
-            TableKind::Index,
-            command,
-            list_words,
-            list_bytes,
-            answer,
-        ),
-        0x0a => drop_table(
-            list,
-            directory,
-            TableKind::RefCount,
-            command,
-            list_words,
-            list_bytes,
-            answer,
-        ),
-        0x21 => forge_entry(list, command, list_words, list_bytes, answer),
-        0x23 => list_sum(list, command, list_words, list_bytes, answer),
+        0x06..=0x08 => insert(list, tables, opcode, command, words, bytes, answer),
+        0x09..=0x0a => drop_table(list, tables, opcode, command, words, bytes, answer),
+        0x21 => forge_entry(list, command, words, bytes, answer),
+        0x23 => list_sum(list, command, words, bytes, answer),
         0x24 => forge_drop(list, command, answer),
-        0xf0 => write(
-            list,
-            directory,
-            command,
-            list_words,
-            list_bytes,
-            room,
-            answer,
-        ),
+        0xf0 => write(list, tables, command, words, bytes, room, answer),
+        0xf2 => size(list, tables, command, words, bytes, answer),
         _ => replied(list, Reply::Unknown),
     }
 }

@@ -13,11 +13,11 @@ pub fn with_entry(
     list: LogChange,
     kind: TableKind,
     row: Forged,
-    list_words: &mut [u64; 400],
-    list_bytes: &mut [u8; 49152],
+    words: &mut [u64; 400],
+    bytes: &mut [u8; 49152],
 ) -> LogChange {
     let before = list.counts;
-    let counts = append(Holder::List, kind, before, list_words, list_bytes, row);
+    let counts = append(Holder::List, kind, before, words, bytes, row);
     let mut after = list;
     after.counts = counts;
     after
@@ -51,14 +51,14 @@ pub fn put_entries(
     answer: &mut [u8; 65536],
     at: usize,
     list: LogChange,
-    list_words: &[u64; 400],
-    list_bytes: &[u8; 49152],
+    words: &[u64; 400],
+    bytes: &[u8; 49152],
 ) -> usize
     requires { ⌜ at ≤ 8 ⌝ }
     ensures { λ r. ⌜ r ≤ 23054 ⌝ }
 {
     let counts = list.counts;
-    put_keys(answer, at, Holder::List, counts, list_words, list_bytes)
+    put_keys(answer, at, Holder::List, counts, words, bytes)
 }
 
 fn wide(number: u16) -> u64 {

@@ -1,48 +1,45 @@
 // END: a record ended.
 ghost use Prim.Native.Nat.{_≤_};
 ghost use lib.ListN.{length};
+use super::lived::Life;
 use super::lived::Lived;
-use super::lived::Living;
-use super::lived::replied;
-use change::LogChange;
+use compare_lent::Tables;
 use compare_lines::Fault;
 use compare_lines::Reply;
 use compare_lines::least;
 use compare_lines::put;
 use compare_lines::wrong_length;
-use directory::Directory;
 use ending::Ended;
 use files::FileSource;
-use files::Queues;
-use memory::LogOverlays;
 
 // The output is the front of its room.
 fn end_onto<'a>(
-    directory: Directory,
-    list: LogChange,
-    list_words: &'a [u64],
-    list_bytes: &'a [u8],
-    overlays: LogOverlays,
+    life: Life,
+    tables: Tables,
+    items: &'a [u64],
+    chunks: &'a [u8],
     words: &mut [u64],
     bytes: &mut [u8],
-    queues: Queues,
-    next: u64,
     room: &mut [u8],
     n: usize,
 ) -> Ended
     requires { ⌜ n ≤ length (now room) ⌝ }
 {
-    ending::end_record(
-        directory,
+    let list = life.list;
+    let overlays = life.overlays;
+    let queues = life.queues;
+    let next = life.next_record_id;
+    let out = &mut room[0..n];
+    tables.end_record(
         list,
-        list_words,
-        list_bytes,
+        items,
+        chunks,
         overlays,
         words,
         bytes,
         queues,
         next,
-        &mut room[0..n],
+        out,
     )
 }
 
@@ -71,44 +68,29 @@ fn put_ended(answer: &mut [u8; 65536], done: Ended, bytes: &[u8], n: usize) -> R
 }
 
 pub fn end<'a>(
-    list: LogChange,
-    queues: Queues,
-    living: Living,
-    directory: Directory,
+    life: Life,
+    tables: Tables,
     command: &[u8],
-    list_words: &'a [u64; 400],
-    list_bytes: &'a [u8; 49152],
+    items: &'a [u64; 400],
+    chunks: &'a [u8; 49152],
     room: &mut [u8; 60000],
     words: &mut [u64; 3840],
     bytes: &mut [u8; 524288],
     answer: &mut [u8; 65536],
 ) -> Lived {
     if command.len() != 5 {
-        return replied(list, queues, living, wrong_length(command.len(), 5));
+        return life.replied(wrong_length(command.len(), 5));
     }
     let n = words::u32_at(command, 1) as usize;
     if 60000 < n {
-        return replied(list, queues, living, Reply::Broken(Fault::LongOutput));
+        return life.replied(Reply::Broken(Fault::LongOutput));
     }
     compare_lines::fill(room, 0, n, 0x5a);
-    let before = living.overlays;
-    let next = living.next_record_id;
-    let done = end_onto(
-        directory,
-        list,
-        list_words,
-        list_bytes,
-        before,
-        words,
-        bytes,
-        queues,
-        next,
-        room,
-        n,
-    );
+    let done = end_onto(life, tables, items, chunks, words, bytes, room, n);
     let overlays = done.overlays;
-    let taken = done.queues;
-    let mut after = living;
+    let queues = done.queues;
+    let mut after = life;
     after.overlays = overlays;
-    replied(list, taken, after, put_ended(answer, done, room, n))
+    after.queues = queues;
+    after.replied(put_ended(answer, done, room, n))
 }

@@ -5,6 +5,6 @@ mod opcode;
 mod records;
 mod state;
 
+pub use lived::Life;
 pub use lived::Lived;
-pub use lived::Living;
 pub use opcode::serve;

@@ -4,11 +4,11 @@ ghost use lib.ListN.{length};
 ghost use Rattle.compare_reading.specs.Bounds.{Kept};
 use super::state::Read;
 use super::state::Reading;
+use compare_lent::Tables;
 use compare_lines::Fault;
 use compare_lines::Reply;
 use compare_lines::put;
 use compare_lines::wrong_length;
-use directory::Directory;
 use replay::Ran;
 
 pub fn keep_image(
@@ -36,7 +36,7 @@ pub fn keep_image(
 
 // One record, or all that follow. The image is the front of its room. The count of one isn't told.
 fn replay_onto(
-    directory: Directory,
+    tables: Tables,
     one: bool,
     log: &[u8],
     position: usize,
@@ -47,9 +47,9 @@ fn replay_onto(
     requires { ⌜ n ≤ length (now room) ⌝ }
 {
     if !one {
-        return replay::run(directory, log, position, expected, &mut room[0..n]);
+        return tables.run(log, position, expected, &mut room[0..n]);
     }
-    let done = replay::replay(directory, log, position, expected, &mut room[0..n]);
+    let done = tables.replay(log, position, expected, &mut room[0..n]);
     let answer = done.answer;
     Ran {
         answer: answer,
@@ -74,12 +74,12 @@ pub fn replay(
     }
     let position = words::u64_at(command, 1) as usize;
     let expected = words::u64_at(command, 9);
-    let directory = reading.directory;
+    let tables = reading.tables;
     let logged = reading.logged;
     let imaged = reading.imaged;
     let bytes: &[u8] = log;
     let log = &bytes[0..logged];
-    let done = replay_onto(directory, one, log, position, expected, image, imaged);
+    let done = replay_onto(tables, one, log, position, expected, image, imaged);
     let number = done.answer;
     put(answer, 0, number.number() as u64, 1);
     put(answer, 1, done.position as u64, 8);
@@ -103,8 +103,8 @@ pub fn image_sum(
         return reading.replied(wrong_length(command.len(), 1));
     }
     let imaged = reading.imaged;
-    let tables: &[u8] = image;
+    let bytes: &[u8] = image;
     put(answer, 0, imaged as u64, 4);
-    put(answer, 4, checksum::checksum(&tables[0..imaged]) as u64, 4);
+    put(answer, 4, checksum::checksum(&bytes[0..imaged]) as u64, 4);
     reading.replied(Reply::Line(8))
 }

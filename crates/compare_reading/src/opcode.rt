@@ -12,6 +12,7 @@ use super::state::Reading;
 use super::steps::step;
 use super::steps::step_at;
 use super::tables::keep_directory;
+use super::tables::keep_form;
 use compare_lines::Reply;
 
 pub fn serve(
@@ -35,6 +36,7 @@ pub fn serve(
         0x0d => replay(reading, true, command, log, image, answer),
         0x0e => replay(reading, false, command, log, image, answer),
         0x0f => image_sum(reading, command, image, answer),
+        0xf1 => keep_form(reading, command, answer),
         _ => reading.replied(Reply::Unknown),
     }
 }

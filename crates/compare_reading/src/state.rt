@@ -1,11 +1,11 @@
 // What these commands keep, besides the bytes of the log and of the image.
 ghost use Rattle.compare_reading.specs.Bounds.{Kept};
+use compare_lent::Tables;
 use compare_lines::Reply;
-use directory::Directory;
 use record::LogReader;
 
 pub struct Reading {
-    pub directory: Directory,
+    pub tables: Tables,
     pub reader: LogReader,
     pub logged: usize,
     pub imaged: usize,
@@ -21,7 +21,7 @@ impl Reading {
         ensures { λ r. ⌜ Kept r ⌝ }
     {
         Reading {
-            directory: Directory::new(),
+            tables: Tables::new(),
             reader: LogReader::new(0, false),
             logged: 0,
             imaged: 0,

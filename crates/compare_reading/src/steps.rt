@@ -73,11 +73,11 @@ fn step_from(
     requires { ⌜ Kept reading ⌝ }
     ensures { λ r. ⌜ Kept (r .reading) ⌝ }
 {
-    let directory = reading.directory;
+    let tables = reading.tables;
     let length = reading.logged;
     let room: &[u8] = log;
     let mut kept = reading;
-    match reader.next(directory, &room[0..length]) {
+    match tables.next(reader, &room[0..length]) {
         Step::Refused(refusal) => {
             kept.reader = reader;
             let refused = refusal.answer;

@@ -1,16 +1,16 @@
-// DIR: the directory.
+// DIR: the directory. LENT, an opcode beside those of the run protocol (docs/ORACLE.md): the form in which it is handed on.
 ghost use Prim.Native.Nat.{_+_, _*_, _≤_};
 ghost use lib.ListN.{length};
 ghost use Rattle.compare_reading.specs.Bounds.{Kept};
 use super::state::Read;
 use super::state::Reading;
+use compare_lent::Tables;
 use compare_lines::Fault;
 use compare_lines::Reply;
 use compare_lines::kind_of;
 use compare_lines::put;
 use compare_lines::wide;
 use compare_lines::wrong_length;
-use directory::Directory;
 use directory::TableDescription;
 
 // The description of a table, 8 bytes.
@@ -39,22 +39,23 @@ fn kinds_known(command: &[u8], count: usize) -> bool
     true
 }
 
-// Of more than 16 tables the first 16, and a count beyond the room.
-fn directory_of(command: &[u8], count: usize, before: Directory) -> Directory
+// Of more than 17 tables the first 17. What stood behind the count stays there.
+fn tables_of(command: &[u8], count: usize, before: Tables) -> Tables
     requires { ⌜ 2 + 8 * count ≤ length (now command) ⌝ }
 {
-    let mut tables = before.tables;
+    let mut rows = before.rows;
     let mut i = 0;
     while i < count {
-        if 16 <= i {
+        if 17 <= i {
             break;
         }
-        tables[i] = description_at(command, 2 + 8 * i);
+        rows[i] = description_at(command, 2 + 8 * i);
         i += 1;
     }
-    Directory {
-        tables: tables,
+    Tables {
+        rows: rows,
         count: count,
+        lent: before.lent,
     }
 }
 
@@ -73,10 +74,25 @@ pub fn keep_directory(reading: Reading, command: &[u8], answer: &mut [u8; 65536]
     if !kinds_known(command, count) {
         return reading.replied(Reply::Broken(Fault::UnknownKind));
     }
-    let before = reading.directory;
-    let directory = directory_of(command, count, before);
+    let before = reading.tables;
+    let tables = tables_of(command, count, before);
     let mut kept = reading;
-    kept.directory = directory;
+    kept.tables = tables;
+    put(answer, 0, 0, 1);
+    kept.replied(Reply::Line(1))
+}
+
+pub fn keep_form(reading: Reading, command: &[u8], answer: &mut [u8; 65536]) -> Read
+    requires { ⌜ Kept reading ⌝ }
+    ensures { λ r. ⌜ Kept (r .reading) ⌝ }
+{
+    if command.len() != 2 {
+        return reading.replied(wrong_length(command.len(), 2));
+    }
+    let mut tables = reading.tables;
+    tables.lent = command[1] != 0;
+    let mut kept = reading;
+    kept.tables = tables;
     put(answer, 0, 0, 1);
     kept.replied(Reply::Line(1))
 }

@@ -31,11 +31,13 @@ fn queue(session: Session, command: &[u8], log: &[u8; 80000], answer: &mut [u8; 
     let reading = session.reading;
     let logged = reading.logged;
     let room: &[u8] = log;
-    let before = session.queues;
+    let mut life = session.life;
+    let before = life.queues;
     let done = compare_queues::serve(before, command, &room[0..logged], answer);
     let after = done.queues;
+    life.queues = after;
     let mut kept = session;
-    kept.queues = after;
+    kept.life = life;
     let reply = done.reply;
     kept.replied(reply)
 }
@@ -43,29 +45,23 @@ fn queue(session: Session, command: &[u8], log: &[u8; 80000], answer: &mut [u8; 
 fn list(
     session: Session,
     command: &[u8],
-    list_words: &mut [u64; 400],
-    list_bytes: &mut [u8; 49152],
-    written: &mut [u8; 60000],
+    items: &mut [u64; 400],
+    chunks: &mut [u8; 49152],
+    room: &mut [u8; 60000],
     answer: &mut [u8; 65536],
 ) -> Served
     requires { ⌜ (Kept (session .reading)) × (1 ≤ length (now command)) ⌝ }
     ensures { λ r. ⌜ Kept (r .session .reading) ⌝ }
 {
     let reading = session.reading;
-    let directory = reading.directory;
-    let before = session.list;
-    let done = compare_lists::serve(
-        before,
-        directory,
-        command,
-        list_words,
-        list_bytes,
-        written,
-        answer,
-    );
+    let tables = reading.tables;
+    let mut life = session.life;
+    let before = life.list;
+    let done = compare_lists::serve(before, tables, command, items, chunks, room, answer);
     let after = done.list;
+    life.list = after;
     let mut kept = session;
-    kept.list = after;
+    kept.life = life;
     let reply = done.reply;
     kept.replied(reply)
 }
@@ -73,9 +69,9 @@ fn list(
 fn on_overlays<'a>(
     session: Session,
     command: &[u8],
-    list_words: &'a [u64; 400],
-    list_bytes: &'a [u8; 49152],
-    written: &mut [u8; 60000],
+    items: &'a [u64; 400],
+    chunks: &'a [u8; 49152],
+    room: &mut [u8; 60000],
     words: &mut [u64; 3840],
     bytes: &mut [u8; 524288],
     answer: &mut [u8; 65536],
@@ -83,25 +79,24 @@ fn on_overlays<'a>(
     requires { ⌜ (Kept (session .reading)) × (1 ≤ length (now command)) ⌝ }
     ensures { λ r. ⌜ Kept (r .session .reading) ⌝ }
 {
-    let list = session.list;
-    let living = session.living;
-    let before = living.overlays;
+    let mut life = session.life;
+    let list = life.list;
+    let before = life.overlays;
     let done = compare_overlays::serve(
         list,
         before,
         command,
-        list_words,
-        list_bytes,
-        written,
+        items,
+        chunks,
+        room,
         words,
         bytes,
         answer,
     );
     let after = done.overlays;
+    life.overlays = after;
     let mut kept = session;
-    let mut lived = living;
-    lived.overlays = after;
-    kept.living = lived;
+    kept.life = life;
     let reply = done.reply;
     kept.replied(reply)
 }
@@ -110,9 +105,9 @@ fn live<'a>(
     session: Session,
     command: &[u8],
     log: &[u8; 80000],
-    list_words: &'a [u64; 400],
-    list_bytes: &'a [u8; 49152],
-    written: &mut [u8; 60000],
+    items: &'a [u64; 400],
+    chunks: &'a [u8; 49152],
+    room: &mut [u8; 60000],
     words: &mut [u64; 3840],
     bytes: &mut [u8; 524288],
     answer: &mut [u8; 65536],
@@ -121,33 +116,25 @@ fn live<'a>(
     ensures { λ r. ⌜ Kept (r .session .reading) ⌝ }
 {
     let reading = session.reading;
-    let directory = reading.directory;
+    let tables = reading.tables;
     let logged = reading.logged;
-    let room: &[u8] = log;
-    let before = session.list;
-    let queues = session.queues;
-    let living = session.living;
+    let bytes_read: &[u8] = log;
+    let before = session.life;
     let done = compare_log::serve(
         before,
-        queues,
-        living,
-        directory,
+        tables,
         command,
-        &room[0..logged],
-        list_words,
-        list_bytes,
-        written,
+        &bytes_read[0..logged],
+        items,
+        chunks,
+        room,
         words,
         bytes,
         answer,
     );
-    let after = done.list;
-    let moved = done.queues;
-    let lived = done.living;
+    let after = done.life;
     let mut kept = session;
-    kept.list = after;
-    kept.queues = moved;
-    kept.living = lived;
+    kept.life = after;
     let reply = done.reply;
     kept.replied(reply)
 }
@@ -157,9 +144,9 @@ pub fn serve(
     command: &[u8],
     log: &mut [u8; 80000],
     image: &mut [u8; 300000],
-    list_words: &mut [u64; 400],
-    list_bytes: &mut [u8; 49152],
-    written: &mut [u8; 60000],
+    items: &mut [u64; 400],
+    chunks: &mut [u8; 49152],
+    room: &mut [u8; 60000],
     words: &mut [u64; 3840],
     bytes: &mut [u8; 524288],
     answer: &mut [u8; 65536],
@@ -169,33 +156,21 @@ pub fn serve(
 {
     let opcode = command[0];
     match opcode {
-        0x01..=0x04 | 0x0b..=0x0f => read(session, command, log, image, answer),
-        0x05..=0x0a | 0x21 | 0x23 | 0x24 | 0xf0 => list(
-            session,
-            command,
-            list_words,
-            list_bytes,
-            written,
-            answer,
-        ),
+        0x01..=0x04 | 0x0b..=0x0f | 0xf1 => read(session, command, log, image, answer),
+        0x05..=0x0a | 0x21 | 0x23 | 0x24 | 0xf0 | 0xf2 => {
+            list(session, command, items, chunks, room, answer)
+        }
         0x14..=0x17 | 0x19 | 0x1f => queue(session, command, log, answer),
-        0x1a | 0x1b | 0x1d | 0x1e | 0x22 => on_overlays(
-            session,
-            command,
-            list_words,
-            list_bytes,
-            written,
-            words,
-            bytes,
-            answer,
-        ),
+        0x1a | 0x1b | 0x1d | 0x1e | 0x22 => {
+            on_overlays(session, command, items, chunks, room, words, bytes, answer)
+        }
         _ => live(
             session,
             command,
             log,
-            list_words,
-            list_bytes,
-            written,
+            items,
+            chunks,
+            room,
             words,
             bytes,
             answer,

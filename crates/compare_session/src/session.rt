@@ -2,15 +2,13 @@
 ghost use Rattle.compare_reading.specs.Bounds.{Kept};
 use change::LogChange;
 use compare_lines::Reply;
-use compare_log::Living;
+use compare_log::Life;
 use compare_reading::Reading;
 use files::Queues;
 
 pub struct Session {
     pub reading: Reading,
-    pub queues: Queues,
-    pub list: LogChange,
-    pub living: Living,
+    pub life: Life,
 }
 
 pub struct Served {
@@ -24,9 +22,7 @@ impl Session {
     {
         Session {
             reading: Reading::new(),
-            queues: Queues::new(),
-            list: LogChange::new(1),
-            living: Living::new(),
+            life: Life::new(LogChange::new(1), Queues::new()),
         }
     }
 

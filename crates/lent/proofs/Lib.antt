@@ -2,5 +2,6 @@
 pub mod Entry
 pub mod Gathered
 pub mod Held
+pub mod Lending
 pub mod Many
 pub mod More

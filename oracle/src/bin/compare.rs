@@ -1,12 +1,14 @@
 //! compare PORT SEED COUNT [PART]: runs random scripts of all parts, or of one, through the Rust and
 //! through the program PORT until COUNT answers are compared, and prints the first difference, or
-//! what agreed.
+//! what agreed. PORT takes each script twice, with its directories by value and as lent slices.
 
 use oracle::{
-    comparison::{compare, leading_to, walks_through_records, Answers, Difference, Tally},
+    comparison::{
+        compare, compare_forms, leading_to, walks_through_records, Answers, Difference, Tally,
+    },
     generator::Generator,
     part::Part,
-    protocol::{lines_of, to_hex, Script},
+    protocol::{lent, lines_of, to_hex, Script},
     scratch::Scratch,
 };
 use std::{
@@ -14,7 +16,7 @@ use std::{
     fs::{self, File},
     io,
     path::Path,
-    process::{Command, ExitCode},
+    process::{Child, Command, ExitCode},
 };
 
 fn main() -> Result<ExitCode, Box<dyn Error>> {
@@ -31,42 +33,67 @@ fn main() -> Result<ExitCode, Box<dyn Error>> {
         let walks = walks_through_records(&batch)?;
         tally.count_records_of_the_rust(&walks);
         for script in [batch, walks].into_iter().filter(|script| !script.is_empty()) {
-            let (answers, lines) = run_both(&script, Path::new(port))?;
-            if let Err(difference) = compare(&script, &answers, &lines, &mut tally) {
+            let (answers, by_value, lent_lines) = run_both(&script, Path::new(port))?;
+            let compared = compare(&script, &answers, &by_value, &mut tally)
+                .map_err(|difference| (difference, Script::new()))
+                .and_then(|()| {
+                    let forms = compare_forms(&by_value, &lent_lines);
+                    forms.map_err(|difference| (difference, vec![lent(true)]))
+                });
+            if let Err((difference, before)) = compared {
                 println!("seed {seed}: {} answers agree, then a difference", tally.calls(&parts));
-                show(&script, &difference)?;
+                show(before, &script, &difference)?;
                 return Ok(ExitCode::FAILURE);
             }
+            tally.count_forms(&script);
         }
     }
     print!("seed {seed}\n{tally}");
     Ok(ExitCode::SUCCESS)
 }
 
-/// The port is a process of its own. It reads from and writes to files, so that neither side waits
-/// for the other.
-fn run_both(script: &Script, port: &Path) -> io::Result<(Answers, Vec<String>)> {
-    let folder = Scratch::new()?;
-    let (commands, lines) = (folder.path().join("commands"), folder.path().join("lines"));
-    fs::write(&commands, lines_of(script))?;
-    let mut running = Command::new(port)
-        .stdin(File::open(&commands)?)
-        .stdout(File::create(&lines)?)
-        .spawn()
-        .map_err(|error| io::Error::other(format!("{}: {error}", port.display())))?;
+/// The answers due, the port's lines by value, and those over lent slices.
+fn run_both(script: &Script, port: &Path) -> io::Result<(Answers, Vec<String>, Vec<String>)> {
+    let by_value = Run::start(script, port)?;
+    let lent = Run::start(&[&[lent(true)][..], script].concat(), port)?;
     let answers = Answers::to(script)?;
-    let ended = running.wait()?;
-    if !ended.success() {
-        eprintln!("{}: {ended}", port.display());
-    }
-    let written = fs::read(&lines)?;
-    let lines = String::from_utf8_lossy(&written).lines().map(str::to_string).collect();
-    Ok((answers, lines))
+    Ok((answers, by_value.lines(port)?, lent.lines(port)?))
 }
 
-/// Prints a difference, and keeps the commands that lead to it as a script.
-fn show(script: &Script, difference: &Difference) -> io::Result<()> {
-    let leading = leading_to(script, difference.at);
+/// The port is a process of its own. It reads from and writes to files, so that neither side waits
+/// for the other.
+struct Run {
+    folder: Scratch,
+    running: Child,
+}
+
+impl Run {
+    fn start(script: &Script, port: &Path) -> io::Result<Run> {
+        let folder = Scratch::new()?;
+        let commands = folder.path().join("commands");
+        fs::write(&commands, lines_of(script))?;
+        let running = Command::new(port)
+            .stdin(File::open(&commands)?)
+            .stdout(File::create(folder.path().join("lines"))?)
+            .spawn()
+            .map_err(|error| io::Error::other(format!("{}: {error}", port.display())))?;
+        Ok(Run { folder, running })
+    }
+
+    fn lines(mut self, port: &Path) -> io::Result<Vec<String>> {
+        let ended = self.running.wait()?;
+        if !ended.success() {
+            eprintln!("{}: {ended}", port.display());
+        }
+        let written = fs::read(self.folder.path().join("lines"))?;
+        Ok(String::from_utf8_lossy(&written).lines().map(str::to_string).collect())
+    }
+}
+
+/// Prints a difference, and keeps the commands that lead to it, behind those that come before, as a
+/// script.
+fn show(before: Script, script: &Script, difference: &Difference) -> io::Result<()> {
+    let leading = [before, leading_to(script, difference.at)].concat();
     for command in &leading {
         println!("  {}", shortened(&to_hex(command)));
     }

@@ -23,6 +23,7 @@ pub struct Tally {
     last_ids: u64,
     records_replayed: u64,
     records_refused: u64,
+    lines_in_both_forms: u64,
 }
 
 /// The calls of one part.
@@ -95,6 +96,11 @@ impl Tally {
         self.records_of_the_rust += walked.count() as u64;
     }
 
+    /// The lines that are the same by value and over lent slices.
+    pub fn count_forms(&mut self, script: &Script) {
+        self.lines_in_both_forms += script.len() as u64;
+    }
+
     fn count_number(&mut self, part: Part, answer: &[u8]) {
         self.calls[part as usize].numbers[answer[0] as usize] += 1;
     }
@@ -136,6 +142,7 @@ impl fmt::Display for Tally {
             (self.lookups_that_find, "of them find something"),
             (self.last_ids, "last ids agree"),
             (self.checksums, "checksums agree"),
+            (self.lines_in_both_forms, "lines are the same over a lent directory"),
         ];
         for (count, what) in others.into_iter().filter(|(count, _)| *count > 0) {
             writeln!(f, "{count} {what}")?;

@@ -309,6 +309,7 @@ impl Generator {
         }
         self.drop_any(directory, op::DROP);
         self.drop_any(directory, op::DROP_REF);
+        self.script.push(vec![op::SIZE]);
         let length = self.random.pick(&[0, 14, LONGEST_OUTPUT]);
         self.write_into(length);
     }

@@ -8,11 +8,12 @@ use crate::{
 };
 
 impl Generator {
-    /// The record of the list that the script leaves into outputs of all sorts of lengths; then it
-    /// is replayed.
+    /// The length of the record of the list that the script leaves, and the record into outputs of all
+    /// sorts of lengths; then it is replayed.
     pub fn write_list(&mut self, directory: &Directory) {
         let record = self.record_of_list();
         let (exact, more) = (record.len(), self.random.between(1, 2_000));
+        self.script.push(vec![op::SIZE]);
         for length in [exact, exact.saturating_sub(1), exact + more, 0] {
             self.write_into(length);
         }

@@ -83,6 +83,9 @@ impl Driver {
             op::LIST_SUM => self.list.sum(),
             op::FORGE_DROP => self.forge_drop(&mut fields),
             op::WRITE => self.write(&mut fields),
+            // The Rust has no directory, and so no form of one.
+            op::LENT => vec![number::DONE],
+            op::SIZE => self.size(),
             _ => vec![NOT_DRIVEN],
         }
     }

@@ -61,6 +61,7 @@ fn lists() {
         Fault::ZeroesTheRest,
         Fault::ShortBeforeBroken,
         Fault::CountsBehindDrops,
+        Fault::SizeOfABrokenList,
     ];
     try_part(Part::Lists, &faults);
 }

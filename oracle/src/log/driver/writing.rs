@@ -1,5 +1,5 @@
-//! WRITE, an addition to the run protocol: the list's record as `flush_to_file` writes it, with its
-//! items in document 01's order.
+//! WRITE and SIZE, additions to the run protocol: the list's record as `flush_to_file` writes it, with
+//! its items in document 01's order, and its length.
 
 use super::Driver;
 use crate::{
@@ -26,6 +26,15 @@ impl Driver {
         answer.extend((record.len() as u32).to_le_bytes());
         put_output(&mut answer, length, &record);
         answer
+    }
+
+    /// 13.
+    pub fn size(&mut self) -> Vec<u8> {
+        let (number, length) = match self.record_due() {
+            Ok(record) => (number::DONE, record.len() as u32),
+            Err(number) => (number, 0),
+        };
+        [&[number], &length.to_le_bytes()[..]].concat()
     }
 
     /// 13, 10.

@@ -49,6 +49,15 @@ impl Model {
         answer
     }
 
+    /// The command f2.
+    pub fn size(&self) -> Vec<u8> {
+        let kept = self.list_and_directory_keep_the_rules();
+        let told = kept || self.has(Fault::SizeOfABrokenList);
+        let mut answer = vec![if kept { 0 } else { 13 }];
+        put(&mut answer, if told { self.record().len() as u64 } else { 0 }, 4);
+        answer
+    }
+
     /// What is written, and the output as a checksum; nothing if it is refused.
     pub fn put_written(&self, answer: &mut Vec<u8>, record: &[u8], length: usize) {
         let mut output = vec![0x5a; length];

@@ -1,15 +1,15 @@
--- `directory_of` is safe and ends. Assumes nothing.
+-- `tables_of` is safe and ends. Assumes nothing.
 use Prim.Native.Nat.{_≤_, _-_}
 use native.Mathlib.Omega.{arith}
 use borrow.Author.Needs.{needs}
-use Rattle.compare_reading.proofs.tables.directory_of.Statement.{statement}
-use Rattle.compare_reading.proofs.tables.directory_of.Tie as tie
+use Rattle.compare_reading.proofs.tables.tables_of.Statement.{statement}
+use Rattle.compare_reading.proofs.tables.tables_of.Tie as tie
 
 abbrev Inv-loop : tie.InvT-loop
-Inv-loop command count tables₀ i₀ tables i = i ≤ count
+Inv-loop command count before rows₀ i₀ rows i = i ≤ count
 
 abbrev μ-loop : tie.MeasureT-loop
-μ-loop command count tables₀ i₀ tables i = count - i
+μ-loop command count before rows₀ i₀ rows i = count - i
 
 loop-holds : tie.Need-loop-holds Inv-loop μ-loop
 loop-holds c = omega arith
@@ -23,11 +23,11 @@ add-description-at c = omega arith
 description-at-requires : tie.Need-description-at-requires Inv-loop μ-loop
 description-at-requires c κs = omega arith
 
-mul-tables : tie.Need-mul-tables Inv-loop μ-loop
-mul-tables c = omega arith
+mul-rows : tie.Need-mul-rows Inv-loop μ-loop
+mul-rows c = omega arith
 
-array-set-from-tables : tie.Need-array-set-from-tables Inv-loop μ-loop
-array-set-from-tables c = search needs
+array-set-from-rows : tie.Need-array-set-from-rows Inv-loop μ-loop
+array-set-from-rows c = search needs
 
 add-i : tie.Need-add-i Inv-loop μ-loop
 add-i c = omega arith
@@ -44,8 +44,8 @@ returns c = tt
 returns-2 : tie.Need-returns-2 Inv-loop μ-loop
 returns-2 c = tt
 
-pub directory-of-spec : {M : Type 1} → statement M
-directory-of-spec =
+pub tables-of-spec : {M : Type 1} → statement M
+tables-of-spec =
     tie.close
     (tie.spec
     Inv-loop
@@ -54,8 +54,8 @@ directory-of-spec =
     mul-description-at
     add-description-at
     description-at-requires
-    mul-tables
-    array-set-from-tables
+    mul-rows
+    array-set-from-rows
     add-i
     loop-less
     loop-again
