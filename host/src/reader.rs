@@ -6,6 +6,7 @@ use crate::{
     error::Error,
     sys,
 };
+use std::fmt;
 
 /// What a record says.
 #[derive(Clone, Copy, Debug, PartialEq, Eq)]
@@ -335,5 +336,23 @@ pub(crate) fn fault_in(directory: &Directory, log: &[u8], position: usize, answe
             while reader.step().is_ok() {}
             reader.offset()
         }
+    }
+}
+
+impl fmt::Debug for LogReader<'_> {
+    fn fmt(&self, f: &mut fmt::Formatter<'_>) -> fmt::Result {
+        f.debug_struct("LogReader").field("offset", &self.offset()).finish_non_exhaustive()
+    }
+}
+
+impl fmt::Debug for Records<'_> {
+    fn fmt(&self, f: &mut fmt::Formatter<'_>) -> fmt::Result {
+        f.debug_struct("Records").field("offset", &self.offset()).finish_non_exhaustive()
+    }
+}
+
+impl fmt::Debug for Record<'_> {
+    fn fmt(&self, f: &mut fmt::Formatter<'_>) -> fmt::Result {
+        f.debug_struct("Record").field("id", &self.id).field("position", &self.position).finish_non_exhaustive()
     }
 }
