@@ -9,7 +9,7 @@ use crate::{
     sys,
 };
 use std::{
-    fs,
+    fmt, fs,
     io::{self, Read},
     path::Path,
 };
@@ -186,6 +186,12 @@ struct Window<R> {
     source: R,
     bytes: Vec<u8>,
     passed: u64,
+}
+
+impl fmt::Debug for Image {
+    fn fmt(&self, f: &mut fmt::Formatter<'_>) -> fmt::Result {
+        f.debug_struct("Image").field("directory", &self.directory).finish_non_exhaustive()
+    }
 }
 
 /// How many bytes of a long log are taken in at once.

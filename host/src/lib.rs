@@ -15,7 +15,7 @@
 //! - [`raw`] has every call over the host's own memory.
 //!
 //! No function here panics, whatever it is handed.
-#![deny(missing_docs, unsafe_code)]
+#![deny(missing_debug_implementations, missing_docs, unsafe_code)]
 
 mod answer;
 mod directory;

@@ -5,7 +5,7 @@ use crate::{
     error::Error,
     sys,
 };
-use std::num::NonZeroU64;
+use std::{fmt, num::NonZeroU64};
 
 /// A change list: what a record is to change, until it is ended.
 ///
@@ -131,5 +131,11 @@ impl ChangeList {
 
     pub(crate) fn kept(&self) -> &sys::List {
         &self.list
+    }
+}
+
+impl fmt::Debug for ChangeList {
+    fn fmt(&self, f: &mut fmt::Formatter<'_>) -> fmt::Result {
+        f.debug_struct("ChangeList").field("id", &self.id()).finish_non_exhaustive()
     }
 }

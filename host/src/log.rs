@@ -16,6 +16,7 @@ use crate::{
     reader::Record,
 };
 use std::{
+    fmt,
     fs::{self, File, OpenOptions},
     io::Write,
     num::NonZeroU64,
@@ -106,7 +107,8 @@ impl Log {
     /// after a refusal for room (9) it can be ended again behind a [`checkpoint`](Log::checkpoint).
     ///
     /// What is appended outlives this process; to outlive the machine it needs [`sync`](Log::sync). If the file can't be
-    /// written the log does nothing any more, and has to be opened anew.
+    /// written the log does nothing any more but lookups, which may find what isn't in the file, and has to be opened
+    /// anew.
     pub fn end(&mut self, list: &ChangeList) -> Result<Ended, Error> {
         self.works()?;
         let next = self.next.checked_add(1).ok_or(Answer::UsedUp)?;
@@ -223,7 +225,8 @@ impl Log {
 
     /// Empties up to so many of the files that were read, and removes those beyond a pool of 16. Whether there are more.
     ///
-    /// **What their records were applied to must be on its device first**: afterwards no replay brings it back.
+    /// **What their records were applied to must be on its device first**: afterwards no replay brings it back. A log
+    /// has room for 64 files, and each life appends to one of its own: one that is never cleaned is full after 64.
     pub fn clean(&mut self, max: usize) -> Result<bool, Error> {
         self.works()?;
         let mut queues = self.queues.clone();
@@ -324,6 +327,12 @@ impl Log {
     fn note<T>(&mut self, result: Result<T, Error>) -> Result<T, Error> {
         self.has_failed |= result.is_err();
         result
+    }
+}
+
+impl fmt::Debug for Log {
+    fn fmt(&self, f: &mut fmt::Formatter<'_>) -> fmt::Result {
+        f.debug_struct("Log").field("folder", &self.folder).field("next_id", &self.next).finish_non_exhaustive()
     }
 }
 

@@ -7,7 +7,7 @@ use crate::{
     queues::Queues,
     sys,
 };
-use std::num::NonZeroU64;
+use std::{fmt, num::NonZeroU64};
 
 /// The shared overlays: what was put there by the end of a record and not cleared since. 256 keys of each kind.
 ///
@@ -140,6 +140,13 @@ pub struct Ended {
     pub size: usize,
 }
 
+impl fmt::Debug for Overlays {
+    fn fmt(&self, f: &mut fmt::Formatter<'_>) -> fmt::Result {
+        let counts = [Kind::Index, Kind::Value, Kind::RefCount].map(|kind| self.count(kind));
+        f.debug_struct("Overlays").field("counts", &counts).finish_non_exhaustive()
+    }
+}
+
 /// Lookups in a change list first, then in the shared overlays.
 #[derive(Clone, Copy)]
 pub struct WithList<'a> {
@@ -166,5 +173,11 @@ impl<'a> WithList<'a> {
     /// Copies the value under a key, as much of it as there is room for; the rest stays. Whether there is one.
     pub fn copy_value(self, table: ValueTableId, index: u64, to: &mut [u8]) -> bool {
         self.overlays.copy_value(Some(self.list), table.0, index, to)
+    }
+}
+
+impl fmt::Debug for WithList<'_> {
+    fn fmt(&self, f: &mut fmt::Formatter<'_>) -> fmt::Result {
+        f.debug_struct("WithList").finish_non_exhaustive()
     }
 }

@@ -5,6 +5,7 @@ use crate::{
     error::Error,
     sys::{self, raw::QUEUES_WORDS},
 };
+use std::fmt;
 
 /// A file that was found when a log's folder was opened.
 #[derive(Clone, Copy, Debug)]
@@ -192,5 +193,20 @@ impl Queues {
 
     pub(crate) fn kept(&mut self) -> &mut sys::Queues {
         &mut self.0
+    }
+}
+
+impl fmt::Debug for Queues {
+    fn fmt(&self, f: &mut fmt::Formatter<'_>) -> fmt::Result {
+        f.debug_struct("Queues")
+            .field("appending", &self.appending())
+            .field("read_queue", &self.read_queue())
+            .field("reading", &self.reading())
+            .field("cleanup_queue", &self.cleanup_queue())
+            .field("pool", &self.pool())
+            .field("replay_queue", &self.replay_queue())
+            .field("next_number", &self.next_number())
+            .field("is_dirty", &self.is_dirty())
+            .finish()
     }
 }

@@ -6,6 +6,7 @@ use crate::{
     error::Error,
     sys,
 };
+use std::fmt;
 
 /// What a record says.
 #[derive(Clone, Copy, Debug, PartialEq, Eq)]
@@ -323,5 +324,23 @@ impl<'a> Record<'a> {
     pub fn actions(&self) -> impl Iterator<Item = Action<'a>> {
         let all = LogReader::at(&self.directory, self.bytes, 0, false).map_while(Result::ok);
         all.filter(|action| !matches!(action, Action::BeginRecord { .. } | Action::EndRecord))
+    }
+}
+
+impl fmt::Debug for LogReader<'_> {
+    fn fmt(&self, f: &mut fmt::Formatter<'_>) -> fmt::Result {
+        f.debug_struct("LogReader").field("offset", &self.offset()).finish_non_exhaustive()
+    }
+}
+
+impl fmt::Debug for Records<'_> {
+    fn fmt(&self, f: &mut fmt::Formatter<'_>) -> fmt::Result {
+        f.debug_struct("Records").field("offset", &self.offset()).finish_non_exhaustive()
+    }
+}
+
+impl fmt::Debug for Record<'_> {
+    fn fmt(&self, f: &mut fmt::Formatter<'_>) -> fmt::Result {
+        f.debug_struct("Record").field("id", &self.id).field("position", &self.position).finish_non_exhaustive()
     }
 }

@@ -22,6 +22,7 @@ use std::{
 };
 
 /// A log whose files were found and aren't replayed yet.
+#[derive(Debug)]
 pub struct Opened {
     log: Log,
     discards: bool,

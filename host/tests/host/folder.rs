@@ -1,8 +1,8 @@
 //! A log's life in a folder.
 
 use crate::sample::{directory, fill, record, Scratch, INDEX, REF_COUNT, VALUE};
-use hongsathep::{Answer, ChangeList, Directory, Error, Image, Kind, Log};
-use std::{fs, path::Path};
+use hongsathep::*;
+use std::{fmt::Debug, fs, path::Path};
 
 fn open(scratch: &Scratch, image: &mut Image) -> Log {
     Log::open(scratch.path(), &directory()).unwrap().recover(image).unwrap()
@@ -30,6 +30,14 @@ fn image_of(count: u64) -> Image {
         image.replay(&record(&directory(), id), 0, id).unwrap();
     }
     image
+}
+
+/// One thread at a time, whichever.
+#[test]
+fn all_may_go_to_another_thread() {
+    fn may<T: Send + Sync + Debug>() {}
+    may::<(Directory, Image, ChangeList, Overlays, Queues)>();
+    may::<(LogReader, Records, Record, Log, Opened, Error)>();
 }
 
 #[test]
@@ -205,7 +213,7 @@ fn damage_is_told_and_nothing_touched() {
     assert_eq!(error.position(), Some(record(&directory(), 4).len() as u64 + 9));
     assert!(image.bytes() == image_of(4).bytes());
     let mut ids = Vec::new();
-    let apply = |record: &hongsathep::Record| {
+    let apply = |record: &Record| {
         ids.push(record.id());
         Ok(())
     };

@@ -1,5 +1,6 @@
 //! The tests of the crate, in one program.
 
+mod actions;
 mod cut;
 mod folder;
 mod hostile;
