@@ -43,7 +43,8 @@ impl Tally {
     /// How many answers to the calls agree that count for these parts.
     pub fn calls(&self, parts: &[Part]) -> u64 {
         let counted = |part: &Part| parts.iter().any(|of| of.counts(*part));
-        let calls: u64 = Part::ALL.into_iter().filter(counted).map(|part| self.calls_of(part)).sum();
+        let calls: u64 =
+            Part::ALL.into_iter().filter(counted).map(|part| self.calls_of(part)).sum();
         calls + if parts.contains(&Part::Places) { self.places } else { 0 }
     }
 

@@ -27,10 +27,7 @@ impl Generator {
 pub fn asked(script: Script) -> Script {
     let mut with_places = Script::new();
     for command in script {
-        let reads = matches!(
-            command[0],
-            op::STEP_AT | op::STEP | op::REPLAY | op::RUN | op::CLEAR
-        );
+        let reads = matches!(command[0], op::STEP_AT | op::STEP | op::REPLAY | op::RUN | op::CLEAR);
         with_places.push(command);
         if reads || with_places.len() % 7 == 0 {
             with_places.push(vec![op::WHERE]);

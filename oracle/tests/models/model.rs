@@ -15,8 +15,8 @@ use lists::List;
 use overlays::Overlays;
 use queues::Queues;
 use replay::opening;
-use steps::Cursor;
 use std::sync::LazyLock;
+use steps::Cursor;
 
 #[derive(Clone, Copy, PartialEq, Eq, Debug)]
 pub enum Fault {
