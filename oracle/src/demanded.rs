@@ -48,7 +48,10 @@ impl Demanded {
     fn step(&mut self, command: &[u8]) -> ByRule {
         match self.watch.listed() {
             // The Rust isn't asked, so that its cursor stays, as after every refusal.
-            Some((listed, number)) => ByRule { answer: vec![number], listed: Some(listed) },
+            Some((listed, number)) => {
+                self.driver.refuse_the_step();
+                ByRule { answer: vec![number], listed: Some(listed) }
+            }
             None => {
                 let answer = self.driver.answer(command);
                 self.watch.answered(&answer);

@@ -7,6 +7,7 @@ mod forging;
 mod lists;
 mod lives;
 mod log_bytes;
+mod places;
 mod queues;
 mod records;
 mod replays;
@@ -44,7 +45,7 @@ impl Generator {
     pub fn batch(&mut self) -> Script {
         for part in self.parts.clone() {
             let (forms, commands) = forms_of(part);
-            self.all_forms(forms, commands);
+            self.all_forms(part, &forms, commands);
         }
         std::mem::take(&mut self.script)
     }
@@ -54,18 +55,23 @@ impl Generator {
         let mut generator = Generator { small: true, ..Generator::new(seed, parts) };
         for part in parts {
             let (forms, _) = forms_of(*part);
-            generator.all_forms(forms, 60);
+            generator.all_forms(*part, &forms, 60);
         }
         in_both_forms(generator.script)
     }
 
     /// Each form as often as it takes to make so many commands.
-    fn all_forms(&mut self, forms: &[Form], commands: usize) {
+    fn all_forms(&mut self, part: Part, forms: &[Form], commands: usize) {
+        let start = self.script.len();
         for form in forms {
             let enough = self.script.len() + commands;
             while self.script.len() < enough {
                 form(self);
             }
+        }
+        if part == Part::Places {
+            let made = self.script.split_off(start);
+            self.script.extend(places::asked(made));
         }
     }
 }
@@ -85,13 +91,14 @@ fn in_both_forms(script: Script) -> Script {
 }
 
 /// The forms of a part, and how many commands of each a long script has.
-fn forms_of(part: Part) -> (&'static [Form], usize) {
+fn forms_of(part: Part) -> (Vec<Form>, usize) {
     match part {
-        Part::Steps => (&steps::FORMS, 5_000),
-        Part::Replay => (&replays::FORMS, 1_000),
-        Part::Lists => (&lists::FORMS, 1_000),
-        Part::Queues => (&queues::FORMS, 2_000),
-        Part::Lives => (&lives::FORMS, 400),
+        Part::Steps => (steps::FORMS.to_vec(), 5_000),
+        Part::Replay => (replays::FORMS.to_vec(), 1_000),
+        Part::Lists => (lists::FORMS.to_vec(), 1_000),
+        Part::Queues => (queues::FORMS.to_vec(), 2_000),
+        Part::Lives => (lives::FORMS.to_vec(), 400),
+        Part::Places => ([&places::FORMS[..], &replays::FORMS, &steps::FORMS].concat(), 500),
     }
 }
 

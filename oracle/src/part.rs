@@ -12,10 +12,16 @@ pub enum Part {
     Lists,
     Queues,
     Lives,
+    Places,
 }
 
 impl Part {
-    pub const ALL: [Part; 5] = [Part::Steps, Part::Replay, Part::Lists, Part::Queues, Part::Lives];
+    pub const ALL: [Part; 6] =
+        [Part::Steps, Part::Replay, Part::Lists, Part::Queues, Part::Lives, Part::Places];
+
+    /// Document 01's. Those of document 02 come only by name.
+    pub const OF_01: [Part; 5] =
+        [Part::Steps, Part::Replay, Part::Lists, Part::Queues, Part::Lives];
 
     pub fn name(self) -> &'static str {
         match self {
@@ -24,13 +30,14 @@ impl Part {
             Part::Lists => "lists",
             Part::Queues => "queues",
             Part::Lives => "lives",
+            Part::Places => "places",
         }
     }
 
-    /// The part of that name; without a name all of them.
+    /// The part of that name; without a name all of document 01.
     pub fn named(name: Option<&str>) -> Option<Vec<Part>> {
         match name {
-            None => Some(Part::ALL.to_vec()),
+            None => Some(Part::OF_01.to_vec()),
             Some(name) => {
                 Part::ALL.into_iter().find(|part| part.name() == name).map(|part| vec![part])
             }
@@ -53,6 +60,7 @@ impl Part {
             op::CLEAR | op::OVERLAYS | op::LAST_ID => &[Part::Lives],
             op::BEGIN | op::LOOKUP | op::VALUE_INTO => &[Part::Lives, Part::Lists],
             op::END => &[Part::Lives, Part::Lists, Part::Queues],
+            op::WHERE => &[Part::Places, Part::Steps, Part::Lives],
             _ => &[],
         }
     }
@@ -61,7 +69,7 @@ impl Part {
     pub fn called_by(command: &[u8]) -> Option<Part> {
         match command[0] {
             op::IMAGE_SUM | op::LIST_SUM | op::STATE | op::OVERLAYS => None,
-            op::LOOKUP | op::VALUE_INTO | op::LAST_ID => None,
+            op::LOOKUP | op::VALUE_INTO | op::LAST_ID | op::WHERE => None,
             _ => Part::touched_by(command).first().copied(),
         }
     }
@@ -77,7 +85,7 @@ impl Part {
         let opened = command[0] == op::OPEN && answer[0] == number::DONE;
         match self {
             Part::Steps => command[0] == op::STEP_AT,
-            Part::Replay => false,
+            Part::Replay | Part::Places => false,
             Part::Lists => command[0] == op::NEWLIST,
             Part::Queues => opened || command[0] == op::FORGE_QUEUES,
             Part::Lives => opened,
@@ -90,6 +98,8 @@ impl Part {
         match self {
             Part::Steps => command[0] == op::STEP_AT,
             Part::Replay => command[0] == op::IMAGE,
+            // The reading that a place is told of may be of any part.
+            Part::Places => command[0] == op::DIR,
             Part::Lists => command[0] == op::NEWLIST,
             // An OPEN of some files may be refused, and then leaves what was before.
             Part::Queues => command[0] == op::FORGE_QUEUES || command == OPEN_NOTHING,

@@ -185,7 +185,8 @@ fn open_keeps_64_files() {
         let all: String = (0..files).map(file).collect();
         format!("10{low:02x}{high:02x}{all}")
     };
-    let numbers: Vec<u8> = answers(&[&open(64), &open(65)]).iter().map(|answer| answer[0]).collect();
+    let numbers: Vec<u8> =
+        answers(&[&open(64), &open(65)]).iter().map(|answer| answer[0]).collect();
     assert_eq!(numbers, [0, 9]);
 }
 

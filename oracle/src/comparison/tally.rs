@@ -24,6 +24,8 @@ pub struct Tally {
     records_replayed: u64,
     records_refused: u64,
     lines_in_both_forms: u64,
+    places: u64,
+    places_of_faults: u64,
 }
 
 /// The calls of one part.
@@ -41,7 +43,9 @@ impl Tally {
     /// How many answers to the calls agree that count for these parts.
     pub fn calls(&self, parts: &[Part]) -> u64 {
         let counted = |part: &Part| parts.iter().any(|of| of.counts(*part));
-        Part::ALL.into_iter().filter(counted).map(|part| self.calls_of(part)).sum()
+        let calls: u64 =
+            Part::ALL.into_iter().filter(counted).map(|part| self.calls_of(part)).sum();
+        calls + if parts.contains(&Part::Places) { self.places } else { 0 }
     }
 
     fn calls_of(&self, part: Part) -> u64 {
@@ -66,6 +70,10 @@ impl Tally {
             op::LOOKUP | op::VALUE_INTO => {
                 self.lookups += 1;
                 self.lookups_that_find += u64::from(answer[1]);
+            }
+            op::WHERE => {
+                self.places += 1;
+                self.places_of_faults += u64::from(answer[0]);
             }
             op::WRITE => self.records_written += u64::from(answer[0] == number::DONE),
             _ => {}
@@ -141,6 +149,8 @@ impl fmt::Display for Tally {
             (self.lookups, "lookups agree"),
             (self.lookups_that_find, "of them find something"),
             (self.last_ids, "last ids agree"),
+            (self.places, "places of a fault agree"),
+            (self.places_of_faults, "of them tell one"),
             (self.checksums, "checksums agree"),
             (self.lines_in_both_forms, "lines are the same over a lent directory"),
         ];

@@ -29,6 +29,8 @@ pub struct Driver {
     cursor: Cursor,
     list: List,
     state: State,
+    /// Where the last reading is at fault, if it was refused.
+    fault_at: Option<u64>,
 }
 
 impl Driver {
@@ -40,6 +42,7 @@ impl Driver {
             cursor: Cursor::at(0),
             list: List::new(1),
             state: State::new()?,
+            fault_at: None,
         })
     }
 
@@ -82,6 +85,7 @@ impl Driver {
             op::FORGE_OVERLAY => self.forge_overlay(&mut fields),
             op::LIST_SUM => self.list.sum(),
             op::FORGE_DROP => self.forge_drop(&mut fields),
+            op::WHERE => self.place_of_the_fault(),
             op::WRITE => self.write(&mut fields),
             // The Rust has no directory, and so no form of one.
             op::LENT => vec![number::DONE],
@@ -93,6 +97,11 @@ impl Driver {
     fn dir(&mut self, fields: &mut Fields) -> Vec<u8> {
         self.directory = Directory::from_fields(fields);
         vec![number::DONE]
+    }
+
+    fn place_of_the_fault(&self) -> Vec<u8> {
+        let place = self.fault_at.unwrap_or(0);
+        [&[self.fault_at.is_some().into()], &place.to_le_bytes()[..]].concat()
     }
 
     fn log(&mut self, fields: &mut Fields) -> Vec<u8> {

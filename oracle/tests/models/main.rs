@@ -31,6 +31,11 @@ fn try_part(part: Part, faults: &[Fault]) {
 }
 
 #[test]
+fn steps() {
+    try_part(Part::Steps, &[Fault::SumsWhatIsntValidated, Fault::CutOpeningsByBeginAlone]);
+}
+
+#[test]
 fn replay() {
     let faults = [
         Fault::AppliesBeforeTheEnd,
@@ -64,6 +69,17 @@ fn lists() {
         Fault::SizeOfABrokenList,
     ];
     try_part(Part::Lists, &faults);
+}
+
+#[test]
+fn places() {
+    let faults = [
+        Fault::StartOfTheRecord,
+        Fault::BehindTheTag,
+        Fault::StartOfTheLastRecord,
+        Fault::PlaceOfTheRefusalBefore,
+    ];
+    try_part(Part::Places, &faults);
 }
 
 #[test]

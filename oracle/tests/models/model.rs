@@ -7,6 +7,7 @@ mod lists;
 mod overlays;
 mod queues;
 mod replay;
+mod steps;
 mod writer;
 
 use directory::Table;
@@ -15,9 +16,12 @@ use overlays::Overlays;
 use queues::Queues;
 use replay::opening;
 use std::sync::LazyLock;
+use steps::Cursor;
 
 #[derive(Clone, Copy, PartialEq, Eq, Debug)]
 pub enum Fault {
+    SumsWhatIsntValidated,
+    CutOpeningsByBeginAlone,
     AppliesBeforeTheEnd,
     CountsWithoutApplying,
     CountsTheRefused,
@@ -72,6 +76,10 @@ pub enum Fault {
     CopyEmptiesTheRest,
     ColumnOfAByte,
     OverlayRoomUntested,
+    StartOfTheRecord,
+    BehindTheTag,
+    StartOfTheLastRecord,
+    PlaceOfTheRefusalBefore,
 }
 
 pub struct Model {
@@ -82,6 +90,9 @@ pub struct Model {
     list: List,
     overlays: Overlays,
     queues: Queues,
+    cursor: Cursor,
+    /// Where the last reading is at fault, if it was refused.
+    fault_at: Option<u64>,
 }
 
 impl Model {
@@ -94,6 +105,8 @@ impl Model {
             list: List::new(1),
             overlays: Overlays::new(),
             queues: Queues::new(),
+            cursor: Cursor::default(),
+            fault_at: None,
         }
     }
 
@@ -128,6 +141,12 @@ impl Model {
             0x10 | 0x14..=0x19 | 0x1c | 0x1f => self.answer_of_queues(command[0], &mut take),
             0x11..=0x13 | 0x20 => self.answer_of_records(command[0], &mut take),
             0x1a | 0x1b | 0x1d | 0x1e | 0x22 => self.answer_of_overlays(command[0], &mut take),
+            0x0b | 0x0c => self.step(command[0], &mut take),
+            0x30 => {
+                let mut answer = vec![u8::from(self.fault_at.is_some())];
+                put(&mut answer, self.fault_at.unwrap_or(0), 8);
+                answer
+            }
             0x0d => self.replay(take.number(8), take.number(8)),
             0x0e => self.run(take.number(8), take.number(8)),
             0x0f => {

@@ -1,7 +1,7 @@
 //! CLEAR: `end_read` with what the Rust's reader has gathered from a whole record that it accepts.
 
 use super::{
-    reading::{check, open_record},
+    reading::{check, open_record, Refused},
     Driver,
 };
 use crate::protocol::{number, Fields};
@@ -9,25 +9,28 @@ use crate::protocol::{number, Fields};
 impl Driver {
     pub fn clear(&mut self, fields: &mut Fields) -> Vec<u8> {
         let position = fields.u64();
-        let (number, position, id) = match self.clear_record(position) {
+        let cleared = self.clear_record(position);
+        self.fault_at = cleared.err().map(|refused| refused.place);
+        let (number, position, id) = match cleared {
             Ok((behind, id)) => (number::DONE, behind, id),
-            Err(number) => (number, position, 0),
+            Err(refused) => (refused.number, position, 0),
         };
         [&[number], &position.to_le_bytes()[..], &id.to_le_bytes()].concat()
     }
 
     /// The position behind the record and its id, or the refusal: 13, 14, the faults in byte order,
     /// then 12.
-    fn clear_record(&mut self, position: u64) -> Result<(u64, u64), u8> {
+    fn clear_record(&mut self, position: u64) -> Result<(u64, u64), Refused> {
+        let refused = Refused::at(position);
         if !self.directory.keeps_the_rules() || !self.state.overlays_keep_the_rules() {
-            return Err(number::RULE_BROKEN);
+            return Err(refused(number::RULE_BROKEN));
         }
-        self.log_file.try_to_go_to(position)?;
-        let mut reader = open_record(&self.log_file, true)?;
-        check(&mut reader, &self.log_file.bytes()[position as usize..], &self.directory)?;
+        self.log_file.try_to_go_to(position).map_err(&refused)?;
+        let mut reader = open_record(&self.log_file, true).map_err(&refused)?;
+        check(&mut reader, self.log_file.bytes(), position, &self.directory)?;
         let (id, behind) = (reader.record_id(), position + reader.read_bytes());
         if id == u64::MAX {
-            return Err(number::USED_UP);
+            return Err(Refused { number: number::USED_UP, place: behind });
         }
         self.state.log.end_read(reader.drain(), id);
         Ok((behind, id))
@@ -86,7 +89,8 @@ mod tests {
     #[test]
     fn document_01_clears_neither() {
         let mut driver = with_value();
-        assert_eq!(driver.clear_record(0), Err(number::CHECKSUM_DIFFERS));
+        let refused = driver.clear_record(0).unwrap_err();
+        assert_eq!(refused.number, number::CHECKSUM_DIFFERS);
         assert_eq!(values(&driver), 1);
     }
 

@@ -15,6 +15,20 @@ use crate::{
 };
 use std::io::ErrorKind;
 
+/// What a reading is refused with: document 01's number, and the place that request Five of document
+/// 02 wants told: "the byte position of the first byte of the action at fault".
+#[derive(Debug, Clone, Copy, PartialEq, Eq)]
+pub struct Refused {
+    pub number: u8,
+    pub place: u64,
+}
+
+impl Refused {
+    pub fn at(place: u64) -> impl Fn(u8) -> Refused {
+        move |number| Refused { number, place }
+    }
+}
+
 pub fn open_record(file: &LogFile, validate: bool) -> std::result::Result<LogReader<'_>, u8> {
     match file.read_next(validate) {
         Ok(Some(reader)) => Ok(reader),
@@ -78,23 +92,27 @@ fn read_entries(reader: &mut LogReader, entry_bytes: usize) -> Result<Vec<u8>> {
     Ok(payload)
 }
 
-/// Reads up to the record's end. What the Rust doesn't test is told from the bytes before its
-/// reader takes them: so 4, 6 and 7 come where document 01 has them.
+/// Reads a record that starts at a position of the log up to its end. What the Rust doesn't test is
+/// told from the bytes before its reader takes them: so 4, 6 and 7 come where document 01 has them.
+/// The place of a refusal is where the action starts that the reader is at, which is the log's end
+/// where none is begun.
 pub fn check(
     reader: &mut LogReader,
-    from_record: &[u8],
+    log: &[u8],
+    start: u64,
     directory: &Directory,
-) -> std::result::Result<(), u8> {
+) -> std::result::Result<(), Refused> {
     loop {
-        let rest = &from_record[reader.read_bytes() as usize..];
-        if let Some((_, number)) = Listed::inside(directory, rest) {
-            return Err(number);
+        let place = start + reader.read_bytes();
+        let refused = Refused::at(place);
+        if let Some((_, number)) = Listed::inside(directory, &log[place as usize..]) {
+            return Err(refused(number));
         }
-        let action = next_action(reader).map_err(number_of)?;
+        let action = next_action(reader).map_err(|error| refused(number_of(error)))?;
         if action.tag == END_RECORD {
             return Ok(());
         }
-        read_payload(reader, &action, directory).map_err(number_of)?;
+        read_payload(reader, &action, directory).map_err(|error| refused(number_of(error)))?;
     }
 }
 

@@ -2,7 +2,7 @@
 //! then it is reset, and what it reads again is applied to the image.
 
 use super::{
-    reading::{check, next_action, open_record, read_payload},
+    reading::{check, next_action, open_record, read_payload, Refused},
     Driver,
 };
 use crate::protocol::{number, tag, Fields};
@@ -10,9 +10,11 @@ use crate::protocol::{number, tag, Fields};
 impl Driver {
     pub fn replay(&mut self, fields: &mut Fields) -> Vec<u8> {
         let (position, expected) = (fields.u64(), fields.u64());
-        let (number, position) = match self.replay_record(position, expected) {
+        let replayed = self.replay_record(position, expected);
+        self.fault_at = replayed.err().map(|refused| refused.place);
+        let (number, position) = match replayed {
             Ok(behind) => (number::DONE, behind),
-            Err(number) => (number, position),
+            Err(refused) => (refused.number, position),
         };
         [&[number], &position.to_le_bytes()[..]].concat()
     }
@@ -20,32 +22,34 @@ impl Driver {
     pub fn run(&mut self, fields: &mut Fields) -> Vec<u8> {
         let (mut position, mut expected) = (fields.u64(), fields.u64());
         let mut count: u64 = 0;
-        let number = loop {
+        let refused = loop {
             match self.replay_record(position, expected) {
                 Ok(behind) => position = behind,
-                Err(number) => break number,
+                Err(refused) => break refused,
             }
             count += 1;
             match expected.checked_add(1) {
                 Some(next) => expected = next,
                 // Whatever stands behind the last id there is, the end of the log too.
-                None => break number::USED_UP,
+                None => break Refused { number: number::USED_UP, place: position },
             }
         };
-        [&[number], &position.to_le_bytes()[..], &count.to_le_bytes()].concat()
+        self.fault_at = Some(refused.place);
+        [&[refused.number], &position.to_le_bytes()[..], &count.to_le_bytes()].concat()
     }
 
     /// The position behind the record, or its refusal.
-    fn replay_record(&mut self, position: u64, expected: u64) -> Result<u64, u8> {
+    fn replay_record(&mut self, position: u64, expected: u64) -> Result<u64, Refused> {
+        let refused = Refused::at(position);
         if !self.directory.keeps_the_rules() || !self.image.fits(&self.directory) {
-            return Err(number::RULE_BROKEN);
+            return Err(refused(number::RULE_BROKEN));
         }
-        self.log_file.try_to_go_to(position)?;
-        let mut reader = open_record(&self.log_file, true)?;
+        self.log_file.try_to_go_to(position).map_err(&refused)?;
+        let mut reader = open_record(&self.log_file, true).map_err(&refused)?;
         if reader.record_id() != expected {
-            return Err(number::OTHER_ID);
+            return Err(refused(number::OTHER_ID));
         }
-        check(&mut reader, &self.log_file.bytes()[position as usize..], &self.directory)?;
+        check(&mut reader, self.log_file.bytes(), position, &self.directory)?;
         let length = reader.read_bytes();
         reader.reset().expect("a seek back to the record's begin");
         loop {

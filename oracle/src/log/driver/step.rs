@@ -35,10 +35,19 @@ impl Driver {
             Ok((stepped, cursor)) => {
                 self.log_file.read_up_to(cursor.position);
                 self.cursor = cursor;
+                self.fault_at = None;
                 stepped.answer()
             }
-            Err(number) => vec![number],
+            Err(number) => {
+                self.refuse_the_step();
+                vec![number]
+            }
         }
+    }
+
+    /// The action at fault in a step is the one that the cursor stands at.
+    pub fn refuse_the_step(&mut self) {
+        self.fault_at = Some(self.cursor.position);
     }
 
     /// 13 and 14 come first and concern additions of document 01; all else is the Rust's word.

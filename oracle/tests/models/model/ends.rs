@@ -139,6 +139,7 @@ impl Model {
 
     fn clear(&mut self, position: u64) -> Vec<u8> {
         let mut record = Record::default();
+        record.fault_at = position;
         let read = match self.overlays_keep_the_rules() {
             true => self.read_record(position, None, &mut record),
             false => Err(13),
@@ -151,6 +152,7 @@ impl Model {
             self.clear_keys(&record);
         }
         let mut answer = vec![cleared.err().unwrap_or(0)];
+        self.tell_fault(answer[0], if answer[0] == 12 { record.behind } else { record.fault_at });
         put(&mut answer, if cleared.is_ok() { record.behind } else { position }, 8);
         put(&mut answer, if cleared.is_ok() { record.id } else { 0 }, 8);
         answer

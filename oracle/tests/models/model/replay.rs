@@ -1,6 +1,7 @@
 //! 01, "The opening of a record" and "Replay".
 
 use super::{checksum, directory, number, Fault, Model};
+use std::ops::Range;
 
 /// What is read of a record, up to its end or to what refuses it.
 #[derive(Default)]
@@ -14,40 +15,54 @@ pub struct Record {
     pub keys: Vec<(usize, u64, u64, bool)>,
     /// Kind and table.
     pub drops: Vec<(usize, u64)>,
+    /// Where it is at fault, if it is refused.
+    pub fault_at: u64,
 }
 
 impl Model {
     pub fn replay(&mut self, position: u64, expected: u64) -> Vec<u8> {
-        let (answer, behind) = self.replay_record(position, expected);
+        let (answer, behind, fault_at) = self.replay_record(position, expected);
+        self.tell_fault(answer, fault_at);
         [&[answer], &behind.to_le_bytes()[..]].concat()
     }
 
     pub fn run(&mut self, mut position: u64, mut expected: u64) -> Vec<u8> {
         let mut count: u64 = 0;
-        let answer = loop {
+        let (answer, fault_at) = loop {
             let before =
                 (count > 0 && self.has(Fault::CountsWithoutApplying)).then(|| self.image.clone());
-            let (answer, behind) = self.replay_record(position, expected);
+            let (answer, behind, fault_at) = self.replay_record(position, expected);
             if let Some(before) = before {
                 self.image = before;
             }
+            let start = position;
             position = behind;
             if answer != 0 {
-                break answer;
+                break (answer, fault_at);
             }
             count += 1;
             if expected == u64::MAX && !self.has(Fault::EndOfLogBehindTheLastId) {
-                break 12;
+                let at_start = self.has(Fault::StartOfTheLastRecord);
+                break (12, if at_start { start } else { position });
             }
             expected = expected.wrapping_add(1);
         };
+        self.tell_fault(answer, fault_at);
         count += u64::from(self.has(Fault::CountsTheRefused) && answer == 8);
         [&[answer], &position.to_le_bytes()[..], &count.to_le_bytes()].concat()
     }
 
-    fn replay_record(&mut self, position: u64, expected: u64) -> (u8, u64) {
+    /// 02, "Five": the place stands beside an answer other than 0.
+    pub fn tell_fault(&mut self, answer: u8, place: u64) {
+        if answer != 0 || !self.has(Fault::PlaceOfTheRefusalBefore) {
+            self.fault_at = (answer != 0).then_some(place);
+        }
+    }
+
+    fn replay_record(&mut self, position: u64, expected: u64) -> (u8, u64, u64) {
         let mut record = Record::default();
         let read = self.read_for_replay(position, expected, &mut record);
+        let fault_at = record.fault_at;
         if read.is_ok() || self.has(Fault::AppliesBeforeTheEnd) {
             if self.has(Fault::FirstKeyWins) {
                 record.writes.reverse();
@@ -59,19 +74,20 @@ impl Model {
         }
         match read {
             Ok(()) if self.has(Fault::RecordLengthOf16Bits) => {
-                (0, position + u64::from((record.behind - position) as u16))
+                (0, position + u64::from((record.behind - position) as u16), fault_at)
             }
-            Ok(()) => (0, record.behind),
+            Ok(()) => (0, record.behind, fault_at),
             Err(answer) => {
                 if self.has(Fault::WritesOnRefusal) && answer == 8 {
                     self.image.iter_mut().take(1).for_each(|byte| *byte ^= 1);
                 }
-                (answer, position)
+                (answer, position, fault_at)
             }
         }
     }
 
     fn read_for_replay(&self, position: u64, expected: u64, record: &mut Record) -> Result<(), u8> {
+        record.fault_at = position;
         if self.image.len() as u64 != directory::image_length(&self.directory) {
             return Err(13);
         }
@@ -85,8 +101,8 @@ impl Model {
         expected: Option<u64>,
         record: &mut Record,
     ) -> Result<(), u8> {
-        let tables = &self.directory;
-        if !directory::keeps_the_rules(tables) {
+        record.fault_at = position;
+        if !directory::keeps_the_rules(&self.directory) {
             return Err(13);
         }
         let log = self.log.get(position as usize..).ok_or(14)?;
@@ -95,68 +111,112 @@ impl Model {
             return Err(5);
         }
         let mut at = 9;
-        // So many bytes from `at` on, or 2.
-        let part = |at: usize, length: usize| log.get(at..at + length).ok_or(2);
         loop {
-            let tag = part(at, 1)?[0];
-            at += 1;
-            match tag {
-                1 => return Err(4),
-                2 | 3 | 6 => {
-                    let key = part(at, 10)?;
-                    at += 10;
-                    let kind = [0, 1, 2][[2, 3, 6].iter().position(|t| *t == tag).unwrap()];
-                    let (start, table) =
-                        directory::find(tables, kind, number(&key[..2])).ok_or(6)?;
-                    let index = number(&key[2..]);
-                    if index >= table.count {
-                        return Err(7);
-                    }
-                    let place = start + index * table.place_bytes();
-                    if tag == 3 {
-                        let value = part(at, table.length as usize)?;
-                        at += value.len();
-                        record.writes.push((place, value.to_vec()));
-                        record.keys.push((1, table.number, index, false));
-                        continue;
-                    }
-                    let mask = number(part(at, 8)?);
-                    at += 8;
-                    record.keys.push((kind as usize, table.number, index, mask == 0));
-                    let width = table.place_bytes() / 64;
-                    part(at, mask.count_ones() as usize * width as usize)?;
-                    let mut slots: Vec<u64> =
-                        (0..64).filter(|slot| mask >> slot & 1 == 1).collect();
-                    if self.has(Fault::MaskFromTheTop) {
-                        slots.reverse();
-                    }
-                    for slot in slots {
-                        let entry = part(at, width as usize)?;
-                        at += entry.len();
-                        record.writes.push((place + slot * width, entry.to_vec()));
-                    }
-                }
-                4 => {
-                    let stated = part(at, 4)?;
-                    if number(stated) != u64::from(checksum(&log[..at])) {
-                        return Err(8);
-                    }
-                    record.behind = position + at as u64 + 4;
-                    return Ok(());
-                }
-                5 | 7 => {
-                    let table = number(part(at, 2)?);
-                    at += 2;
-                    let kind = if tag == 5 { 0 } else { 2 };
-                    let (start, table) = directory::find(tables, kind, table).ok_or(6)?;
-                    let kept = u64::from(self.has(Fault::DropLeavesLastByte));
-                    let length = table.count * table.place_bytes() - kept;
-                    record.writes.push((start, vec![0; length as usize]));
-                    record.drops.push((kind as usize, table.number));
-                }
-                _ => return Err(3),
+            if !self.has(Fault::StartOfTheRecord) {
+                let behind = u64::from(self.has(Fault::BehindTheTag));
+                record.fault_at = position + at as u64 + behind;
             }
+            let action = self.action(log, at)?;
+            if action.tag == 4 {
+                if number(&log[action.payload.clone()]) != u64::from(checksum(&log[..=at])) {
+                    return Err(8);
+                }
+                record.behind = position + action.behind() as u64;
+                return Ok(());
+            }
+            at = action.behind();
+            self.note(&action, &log[action.payload.clone()], record);
         }
+    }
+
+    /// The action whose tag stands at a place inside a record. What its checksum should be is the
+    /// caller's to test.
+    pub fn action(&self, log: &[u8], at: usize) -> Result<Action, u8> {
+        // So many bytes from a place on, or 2.
+        let part = |at: usize, length: usize| log.get(at..at + length).ok_or(2);
+        let tag = part(at, 1)?[0];
+        let (kind, fixed) = match tag {
+            1 => return Err(4),
+            2 => (0, 10),
+            3 => (1, 10),
+            6 => (2, 10),
+            5 => (0, 2),
+            7 => (2, 2),
+            4 => {
+                part(at + 1, 4)?;
+                let payload = at + 1..at + 5;
+                return Ok(Action { tag, kind: 0, table: 0, index: 0, payload });
+            }
+            _ => return Err(3),
+        };
+        let key = part(at + 1, fixed)?;
+        let start = at + 1 + fixed;
+        let (_, table) = directory::find(&self.directory, kind, number(&key[..2])).ok_or(6)?;
+        let (kind, number_of_table) = (kind as usize, table.number);
+        if fixed == 2 {
+            let payload = start..start;
+            return Ok(Action { tag, kind, table: number_of_table, index: 0, payload });
+        }
+        let index = number(&key[2..]);
+        if index >= table.count {
+            return Err(7);
+        }
+        let length = match tag {
+            3 => table.length,
+            _ => {
+                let mask = number(part(start, 8)?);
+                8 + u64::from(mask.count_ones()) * (table.place_bytes() / 64)
+            }
+        };
+        part(start, length as usize)?;
+        let payload = start..start + length as usize;
+        Ok(Action { tag, kind, table: number_of_table, index, payload })
+    }
+
+    /// What an action that isn't the end does and names.
+    fn note(&self, action: &Action, payload: &[u8], record: &mut Record) {
+        let found = directory::find(&self.directory, action.kind as u8, action.table);
+        let (start, table) = found.expect("a table that was found before");
+        if matches!(action.tag, 5 | 7) {
+            let kept = u64::from(self.has(Fault::DropLeavesLastByte));
+            let length = table.count * table.place_bytes() - kept;
+            record.writes.push((start, vec![0; length as usize]));
+            record.drops.push((action.kind, action.table));
+            return;
+        }
+        let place = start + action.index * table.place_bytes();
+        if action.tag == 3 {
+            record.writes.push((place, payload.to_vec()));
+            record.keys.push((1, action.table, action.index, false));
+            return;
+        }
+        let (mask, entries) = payload.split_at(8);
+        let mask = number(mask);
+        record.keys.push((action.kind, action.table, action.index, mask == 0));
+        let width = table.place_bytes() / 64;
+        let mut slots: Vec<u64> = (0..64).filter(|slot| mask >> slot & 1 == 1).collect();
+        if self.has(Fault::MaskFromTheTop) {
+            slots.reverse();
+        }
+        for (slot, entry) in slots.into_iter().zip(entries.chunks(width as usize)) {
+            record.writes.push((place + slot * width, entry.to_vec()));
+        }
+    }
+}
+
+/// An action inside a record, as it is read.
+pub struct Action {
+    pub tag: u8,
+    pub kind: usize,
+    pub table: u64,
+    pub index: u64,
+    /// Everything behind the index; behind an end tag its checksum.
+    pub payload: Range<usize>,
+}
+
+impl Action {
+    pub fn behind(&self) -> usize {
+        self.payload.end
     }
 }
 
