@@ -100,12 +100,14 @@ impl ByWords {
                 vec![0]
             }
             0x04 => Row::default().number(hongsathep_checksum(f.blob()).into(), 4).0,
-            0x05..=0x0a | 0x21 | 0x23 | 0x24 | 0xf0 => self.answer_of_list(command[0], f),
+            0x05..=0x0a | 0x21 | 0x23 | 0x24 | 0xf0 | 0xf2 => self.answer_of_list(command[0], f),
             0x0b..=0x0f => self.answer_of_reading(command[0], f),
             0x10 => self.open(command),
             0x11..=0x13 | 0x18 | 0x1c | 0x20 => self.answer_of_log(command[0], f),
             0x14..=0x17 | 0x19 | 0x1f => self.answer_of_queues(command[0], f),
             0x1a | 0x1b | 0x1d | 0x1e | 0x22 => self.answer_of_overlays(command[0], f),
+            // The form in which a directory is handed on: here it is always words.
+            0xf1 => vec![0],
             _ => vec![0xff],
         }
     }
@@ -182,6 +184,11 @@ impl ByWords {
                 }
                 head[at] = (count as u64 + 1).min(17);
                 vec![0]
+            }
+            0xf2 => {
+                let mut size = 0;
+                let answer = hongsathep_record_size(tables, head, words, bytes, &mut size);
+                Row::of(answer).number(size, 4).0
             }
             _ => {
                 let (mut out, mut size) = (vec![0x5a; f.number(4) as usize], 0);

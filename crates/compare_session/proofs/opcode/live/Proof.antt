@@ -1,4 +1,4 @@
--- `live` meets its contract: what was read stays. Assumes nothing.
+-- `live` meets its contract: what was read stays, but for the place of the last refusal. Assumes nothing.
 use borrow.Author.Needs.{needs}
 use Rattle.compare_session.proofs.opcode.live.Statement.{statement}
 use Rattle.compare_session.proofs.opcode.live.Tie as tie
@@ -16,7 +16,7 @@ serve-requires : tie.Need-serve-requires
 serve-requires c κs = search needs
 
 replied-requires : tie.Need-replied-requires
-replied-requires c κs = c .before .before .before .before .before .before .before .before .before .before .before .before .before .before .pre .0
+replied-requires c κs = record { log = c .before .before .before .before .before .before .before .before .before .before .before .before .before .before .pre .0 .log; image = c .before .before .before .before .before .before .before .before .before .before .before .before .before .before .pre .0 .image }
 
 returns : tie.Need-returns
 returns c = search needs
