@@ -11,6 +11,7 @@ mod places;
 mod queues;
 mod records;
 mod replays;
+mod salvages;
 mod steps;
 mod writing;
 
@@ -98,6 +99,7 @@ fn forms_of(part: Part) -> (Vec<Form>, usize) {
         Part::Lists => (lists::FORMS.to_vec(), 1_000),
         Part::Queues => (queues::FORMS.to_vec(), 2_000),
         Part::Lives => (lives::FORMS.to_vec(), 400),
+        Part::Salvage => (salvages::FORMS.to_vec(), 400),
         Part::Places => ([&places::FORMS[..], &replays::FORMS, &steps::FORMS].concat(), 500),
     }
 }

@@ -13,11 +13,19 @@ pub enum Part {
     Queues,
     Lives,
     Places,
+    Salvage,
 }
 
 impl Part {
-    pub const ALL: [Part; 6] =
-        [Part::Steps, Part::Replay, Part::Lists, Part::Queues, Part::Lives, Part::Places];
+    pub const ALL: [Part; 7] = [
+        Part::Steps,
+        Part::Replay,
+        Part::Lists,
+        Part::Queues,
+        Part::Lives,
+        Part::Places,
+        Part::Salvage,
+    ];
 
     /// Document 01's. Those of document 02 come only by name.
     pub const OF_01: [Part; 5] =
@@ -31,6 +39,7 @@ impl Part {
             Part::Queues => "queues",
             Part::Lives => "lives",
             Part::Places => "places",
+            Part::Salvage => "salvage",
         }
     }
 
@@ -61,6 +70,7 @@ impl Part {
             op::BEGIN | op::LOOKUP | op::VALUE_INTO => &[Part::Lives, Part::Lists],
             op::END => &[Part::Lives, Part::Lists, Part::Queues],
             op::WHERE => &[Part::Places, Part::Steps, Part::Lives],
+            op::SALVAGE => &[Part::Salvage],
             _ => &[],
         }
     }
@@ -85,7 +95,7 @@ impl Part {
         let opened = command[0] == op::OPEN && answer[0] == number::DONE;
         match self {
             Part::Steps => command[0] == op::STEP_AT,
-            Part::Replay | Part::Places => false,
+            Part::Replay | Part::Places | Part::Salvage => false,
             Part::Lists => command[0] == op::NEWLIST,
             Part::Queues => opened || command[0] == op::FORGE_QUEUES,
             Part::Lives => opened,
@@ -100,6 +110,8 @@ impl Part {
             Part::Replay => command[0] == op::IMAGE,
             // The reading that a place is told of may be of any part.
             Part::Places => command[0] == op::DIR,
+            // Nothing is kept from one to the next.
+            Part::Salvage => command[0] == op::SALVAGE,
             Part::Lists => command[0] == op::NEWLIST,
             // An OPEN of some files may be refused, and then leaves what was before.
             Part::Queues => command[0] == op::FORGE_QUEUES || command == OPEN_NOTHING,

@@ -26,6 +26,8 @@ pub struct Tally {
     lines_in_both_forms: u64,
     places: u64,
     places_of_faults: u64,
+    records_salvaged: u64,
+    stretches_lost: u64,
 }
 
 /// The calls of one part.
@@ -75,6 +77,7 @@ impl Tally {
                 self.places += 1;
                 self.places_of_faults += u64::from(answer[0]);
             }
+            op::SALVAGE => self.count_lines(&answer[1..]),
             op::WRITE => self.records_written += u64::from(answer[0] == number::DONE),
             _ => {}
         }
@@ -84,6 +87,18 @@ impl Tally {
         self.records_replayed += replayed;
         let refused = number::ENDS_INSIDE..=number::CHECKSUM_DIFFERS;
         self.records_refused += u64::from(refused.contains(&number));
+    }
+
+    /// Of a salvage.
+    fn count_lines(&mut self, behind_the_number: &[u8]) {
+        let mut fields = Fields(behind_the_number);
+        for _ in 0..fields.u16() {
+            match fields.u8() {
+                0 => self.stretches_lost += 1,
+                _ => self.records_salvaged += 1,
+            }
+            let _position_length_and_id = (fields.u64(), fields.u64(), fields.u64());
+        }
     }
 
     pub fn count_listed(&mut self, part: Part, listed: Listed, demanded: &[u8]) {
@@ -151,6 +166,8 @@ impl fmt::Display for Tally {
             (self.last_ids, "last ids agree"),
             (self.places, "places of a fault agree"),
             (self.places_of_faults, "of them tell one"),
+            (self.records_salvaged, "records are kept of damaged logs"),
+            (self.stretches_lost, "stretches of them are left out"),
             (self.checksums, "checksums agree"),
             (self.lines_in_both_forms, "lines are the same over a lent directory"),
         ];

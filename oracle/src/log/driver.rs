@@ -11,6 +11,7 @@ mod overlays;
 mod queues;
 mod reading;
 mod replay;
+mod salvage;
 mod state;
 mod step;
 mod writing;
@@ -86,6 +87,7 @@ impl Driver {
             op::LIST_SUM => self.list.sum(),
             op::FORGE_DROP => self.forge_drop(&mut fields),
             op::WHERE => self.place_of_the_fault(),
+            op::SALVAGE => self.salvage(&mut fields),
             op::WRITE => self.write(&mut fields),
             // The Rust has no directory, and so no form of one.
             op::LENT => vec![number::DONE],

@@ -83,6 +83,20 @@ fn places() {
 }
 
 #[test]
+fn salvage() {
+    let faults = [
+        Fault::GoesOnBehindWhatWasRead,
+        Fault::ForgetsTheLastStretch,
+        Fault::StretchesByteByByte,
+        Fault::ShortBeforeLines,
+        Fault::SalvagesUnchecked,
+        Fault::IdsMustRise,
+        Fault::SalvagesWhatFits,
+    ];
+    try_part(Part::Salvage, &faults);
+}
+
+#[test]
 fn queues() {
     let faults = [
         Fault::NumbersBeforeRoom,

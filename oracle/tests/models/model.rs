@@ -7,6 +7,7 @@ mod lists;
 mod overlays;
 mod queues;
 mod replay;
+mod salvage;
 mod steps;
 mod writer;
 
@@ -80,6 +81,13 @@ pub enum Fault {
     BehindTheTag,
     StartOfTheLastRecord,
     PlaceOfTheRefusalBefore,
+    GoesOnBehindWhatWasRead,
+    ForgetsTheLastStretch,
+    StretchesByteByByte,
+    ShortBeforeLines,
+    SalvagesUnchecked,
+    IdsMustRise,
+    SalvagesWhatFits,
 }
 
 pub struct Model {
@@ -142,6 +150,7 @@ impl Model {
             0x11..=0x13 | 0x20 => self.answer_of_records(command[0], &mut take),
             0x1a | 0x1b | 0x1d | 0x1e | 0x22 => self.answer_of_overlays(command[0], &mut take),
             0x0b | 0x0c => self.step(command[0], &mut take),
+            0x39 => self.salvage(take.number(4) as usize),
             0x30 => {
                 let mut answer = vec![u8::from(self.fault_at.is_some())];
                 put(&mut answer, self.fault_at.unwrap_or(0), 8);

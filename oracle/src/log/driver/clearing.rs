@@ -1,7 +1,7 @@
 //! CLEAR: `end_read` with what the Rust's reader has gathered from a whole record that it accepts.
 
 use super::{
-    reading::{check, open_record, Refused},
+    reading::{whole_record, Refused},
     Driver,
 };
 use crate::protocol::{number, Fields};
@@ -21,13 +21,10 @@ impl Driver {
     /// The position behind the record and its id, or the refusal: 13, 14, the faults in byte order,
     /// then 12.
     fn clear_record(&mut self, position: u64) -> Result<(u64, u64), Refused> {
-        let refused = Refused::at(position);
         if !self.directory.keeps_the_rules() || !self.state.overlays_keep_the_rules() {
-            return Err(refused(number::RULE_BROKEN));
+            return Err(Refused { number: number::RULE_BROKEN, place: position });
         }
-        self.log_file.try_to_go_to(position).map_err(&refused)?;
-        let mut reader = open_record(&self.log_file, true).map_err(&refused)?;
-        check(&mut reader, self.log_file.bytes(), position, &self.directory)?;
+        let reader = whole_record(&mut self.log_file, &self.directory, position, None)?;
         let (id, behind) = (reader.record_id(), position + reader.read_bytes());
         if id == u64::MAX {
             return Err(Refused { number: number::USED_UP, place: behind });
@@ -40,7 +37,7 @@ impl Driver {
 /// What the Rust does by itself where the driver goes by document 01: docs/DIFFERENCES.md.
 #[cfg(test)]
 mod tests {
-    use super::super::super::Cleared;
+    use super::super::{super::Cleared, reading::open_record};
     use super::*;
     use crate::protocol::{from_hex, op, with_blob};
     use std::panic::{catch_unwind, AssertUnwindSafe};

@@ -37,6 +37,25 @@ pub fn open_record(file: &LogFile, validate: bool) -> std::result::Result<LogRea
     }
 }
 
+/// A reader that has gone over a whole record, validating, up to its end: 14, the opening, 5 if an id
+/// is expected, the faults in byte order.
+pub fn whole_record<'a>(
+    file: &'a mut LogFile,
+    directory: &Directory,
+    position: u64,
+    expected: Option<u64>,
+) -> std::result::Result<LogReader<'a>, Refused> {
+    let refused = Refused::at(position);
+    file.try_to_go_to(position).map_err(&refused)?;
+    let file = &*file;
+    let mut reader = open_record(file, true).map_err(&refused)?;
+    if expected.is_some_and(|expected| reader.record_id() != expected) {
+        return Err(refused(number::OTHER_ID));
+    }
+    check(&mut reader, file.bytes(), position, directory)?;
+    Ok(reader)
+}
+
 /// The next action, told by tag, table, index and id.
 pub fn next_action(reader: &mut LogReader) -> Result<Stepped> {
     Ok(match reader.next()? {
@@ -96,7 +115,7 @@ fn read_entries(reader: &mut LogReader, entry_bytes: usize) -> Result<Vec<u8>> {
 /// told from the bytes before its reader takes them: so 4, 6 and 7 come where document 01 has them.
 /// The place of a refusal is where the action starts that the reader is at, which is the log's end
 /// where none is begun.
-pub fn check(
+fn check(
     reader: &mut LogReader,
     log: &[u8],
     start: u64,

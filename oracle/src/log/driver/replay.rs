@@ -2,7 +2,7 @@
 //! then it is reset, and what it reads again is applied to the image.
 
 use super::{
-    reading::{check, next_action, open_record, read_payload, Refused},
+    reading::{next_action, read_payload, whole_record, Refused},
     Driver,
 };
 use crate::protocol::{number, tag, Fields};
@@ -40,16 +40,11 @@ impl Driver {
 
     /// The position behind the record, or its refusal.
     fn replay_record(&mut self, position: u64, expected: u64) -> Result<u64, Refused> {
-        let refused = Refused::at(position);
         if !self.directory.keeps_the_rules() || !self.image.fits(&self.directory) {
-            return Err(refused(number::RULE_BROKEN));
+            return Err(Refused { number: number::RULE_BROKEN, place: position });
         }
-        self.log_file.try_to_go_to(position).map_err(&refused)?;
-        let mut reader = open_record(&self.log_file, true).map_err(&refused)?;
-        if reader.record_id() != expected {
-            return Err(refused(number::OTHER_ID));
-        }
-        check(&mut reader, self.log_file.bytes(), position, &self.directory)?;
+        let mut reader =
+            whole_record(&mut self.log_file, &self.directory, position, Some(expected))?;
         let length = reader.read_bytes();
         reader.reset().expect("a seek back to the record's begin");
         loop {
