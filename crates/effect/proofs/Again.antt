@@ -6,7 +6,7 @@ use mathlib.Core.Option.{Option, none, some, Option·getD, orElse}
 use Prim.Native.Nat.{ℕ, _<_}
 use lib.ListN.{length, getD, take, drop, take-append-drop}
 use Rattle.directory.specs.declared.directory.Directory.{Directory}
-use Rattle.effect.specs.Effect.{Written, strokes, apply}
+use Rattle.effect.specs.Effect.{Written, strokes, apply, stoppedAt}
 use Rattle.effect.proofs.Bytes.{orElse-none, lastAt, recordAt, apply-at, apply-agree, length-apply}
 
 orElse-assoc : (a b c : Option ℕ) → orElse (orElse a b) c ≡ orElse a (orElse b c)
@@ -35,14 +35,9 @@ again d s t image = apply-agree d (s ++ t) (apply d s image) image (length-apply
         let none-here : recordAt d s p ≡ none = orElse-right (recordAt d t p) (recordAt d s p) (rw record-append at e) in
         apply-at d s image p (rw length-apply at k) ∙ ap (λ (o : Option ℕ). Option·getD o (getD image p 0)) none-here
 
--- The actions s, stopped after the first n of them; taken again from the first, and stopped after the next number of the list; and so on.
-unfoldable pub stopped : Directory → List Written → List ℕ → List ℕ → List ℕ
-stopped d s [] image = image
-stopped d s (n ∷ stops) image = stopped d s stops (apply d (take n s) image)
-
 -- Whatever the stops were, all the actions then leave what they would have left without them.
-pub stopped-again : (d : Directory) (s : List Written) (stops image : List ℕ) → apply d s (stopped d s stops image) ≡ apply d s image
-unfolding stopped
+pub stopped-again : (d : Directory) (s : List Written) (stops image : List ℕ) → apply d s (stoppedAt d s stops image) ≡ apply d s image
+unfolding stoppedAt
 stopped-again d s [] image = refl
 stopped-again d s (n ∷ stops) image = stopped-again d s stops (apply d (take n s) image) ∙ once
   where

@@ -96,3 +96,8 @@ done d w image = puts (strokes d (w .action) (w .payload)) image
 unfoldable pub apply : Directory → List Written → List ℕ → List ℕ
 apply d [] image = image
 apply d (w ∷ ws) image = apply d ws (done d w image)
+
+-- the actions stopped after the first n of them; taken again from the first, and stopped after the next number of the list; and so on
+unfoldable pub stoppedAt : Directory → List Written → List ℕ → List ℕ → List ℕ
+stoppedAt d s [] image = image
+stoppedAt d s (n ∷ stops) image = stoppedAt d s stops (apply d (take n s) image)
