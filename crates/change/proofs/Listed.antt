@@ -40,14 +40,10 @@ pub record Placed (kind : TableKind) (room : ℕ) (o : Overlay) (p : ℕ) : Type
   pub slot : slotSize kind * p + slotSize kind ≤ length (o .bytes)
   pub stored : slotSize kind * p + storedLength kind (markAt (o .rows) p) ≤ length (o .bytes)
 
-pub placed : (kind : TableKind) (room : ℕ) (o : Overlay) → overlayKept kind room o ≡ true → (j : ℕ) → j < o .count → Placed kind room o (getD (o .order) j 0)
-placed kind room o ok j h =
+pub placed-at : (kind : TableKind) (room : ℕ) (o : Overlay) → overlayKept kind room o ≡ true → (p : ℕ) → p < o .count → rowRuled kind (o .rows) p ≡ true → Placed kind room o p
+placed-at kind room o ok p u r =
     let k = shows kind room o ok in
-    let w : o .count ≤ length (o .order) = omega (arith, k .fits, k .order-long) in
-    let p = getD (o .order) j 0 in
-    let u : p < o .count = in-use (o .rows) (o .order) (o .count) j (k .in-order) w h in
     let low : p < room = omega (arith, k .fits) in
-    let r = used-at (rowRuled kind (o .rows)) (o .order) (o .count) j w h (k .each) in
     let m = row-mark kind (o .rows) p r in
     let s : slotSize kind * p + slotSize kind ≤ length (o .bytes) = omega (arith, slot-in (slotSize kind) p room low, k .bytes-long) in
     record {
@@ -60,6 +56,14 @@ placed kind room o ok j h =
       slot = s;
       stored = omega (arith, unit-fits kind (markAt (o .rows) p) m);
     }
+
+-- the one at j of the order
+pub placed : (kind : TableKind) (room : ℕ) (o : Overlay) → overlayKept kind room o ≡ true → (j : ℕ) → j < o .count → Placed kind room o (getD (o .order) j 0)
+placed kind room o ok j h =
+    let k = shows kind room o ok in
+    let w : o .count ≤ length (o .order) = omega (arith, k .fits, k .order-long) in
+    placed-at kind room o ok (getD (o .order) j 0) (in-use (o .rows) (o .order) (o .count) j (k .in-order) w h)
+    (used-at (rowRuled kind (o .rows)) (o .order) (o .count) j w h (k .each))
 
 -- and its table: "Every value of a table has exactly that table's length."
 pub record Tabled (d : Directory) (kind : TableKind) (o : Overlay) (p : ℕ) : Type 0 where

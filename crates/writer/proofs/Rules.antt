@@ -7,16 +7,14 @@ use native.Mathlib.Omega.{arith}
 use lib.ListN.{length, take, drop, getD, length-drop}
 use Rattle.directory.specs.declared.table.TableKind.{TableKind}
 use Rattle.keys.specs.Keys.{markAt}
-use Rattle.keys.proofs.Places.{in-use}
 use Rattle.overlay.specs.Rules.{Overlay, slotSize, storedLength, rowRuled, overlayKept}
 use Rattle.overlay.proofs.Parts.{rest-part}
-use Rattle.overlay.proofs.Ruled.{shows, unit-fits}
-use Rattle.overlay.proofs.Slots.{slot-in}
+use Rattle.overlay.proofs.Ruled.{shows}
 use Rattle.memory.specs.Parts.{spanOf, ofKind}
 use Rattle.memory.specs.declared.span.Holder.the-variants as holder
 use Rattle.memory.proofs.Spans.{all-shows}
 use Rattle.change.specs.Change.{Change, changeRuled}
-use Rattle.change.proofs.Fitting.{used-at, row-small, row-mark}
+use Rattle.change.proofs.Listed.{Placed, placed, placed-at}
 use Rattle.change.proofs.Rules.{ruled-parts}
 use Rattle.writer.specs.Inner.{Writable}
 
@@ -25,23 +23,14 @@ module _ (kind : TableKind) (room : ℕ) (o : Overlay) (small : room ≤ 256) (o
   pub within : o .count ≤ length (o .order)
   within = let k = shows kind room o ok in omega (arith, k .fits, k .order-long)
 
-  pub place-writable : (p : ℕ) → p < o .count → rowRuled kind (o .rows) p ≡ true → Writable kind (o .rows) (o .bytes) p
-  place-writable p h e =
-      let k = shows kind room o ok in
-      let used : p < room = omega (arith, k .fits) in
-      record {
-        place = omega arith;
-        row = omega (arith, k .rows-long);
-        table = row-small kind (o .rows) p e;
-        lies = omega (arith, k .bytes-long, slot-in (slotSize kind) p room used, unit-fits kind (markAt (o .rows) p) (row-mark kind (o .rows) p e));
-      }
+  writable : (p : ℕ) → Placed kind room o p → Writable kind (o .rows) (o .bytes) p
+  writable p k = record { place = omega (arith, k .low); row = k .row; table = k .small; lies = k .stored }
 
-  row-ruled : (i : ℕ) → i < o .count → rowRuled kind (o .rows) (getD (o .order) i 0) ≡ true
-  row-ruled i h = used-at (rowRuled kind (o .rows)) (o .order) (o .count) i within h (shows kind room o ok .each)
+  pub place-writable : (p : ℕ) → p < o .count → rowRuled kind (o .rows) p ≡ true → Writable kind (o .rows) (o .bytes) p
+  place-writable p h e = writable p (placed-at kind room o ok p h e)
 
   pub key-writable : (i : ℕ) → i < o .count → Writable kind (o .rows) (o .bytes) (getD (o .order) i 0)
-  key-writable i h =
-      place-writable (getD (o .order) i 0) (in-use (o .rows) (o .order) (o .count) i (shows kind room o ok .in-order) within h) (row-ruled i h)
+  key-writable i h = writable (getD (o .order) i 0) (placed kind room o ok i h)
 
 -- where the chunk or value of a key begins, and that it lies there: `size` is a slot's, as the code has it
 module _ (kind : TableKind) (rows bytes : List ℕ) (p : ℕ) (w : Writable kind rows bytes p) where
