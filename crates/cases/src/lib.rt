@@ -1,1 +1,1 @@
-// Document 01's cases as a single proved table: proofs/Table.antt.
+// Document 01's cases as a single proved table (specs/Table.antt, proofs/Table.antt), and the largest record.

@@ -7,7 +7,6 @@ pub mod Kept
 pub mod CleanKept
 pub mod KeepsRules
 pub mod NoneLost
-pub mod Cases
 pub mod ReadOf
 pub mod ReadKept
 pub mod OpenKept

@@ -1,4 +1,3 @@
-pub mod Cases
 pub mod Faults
 pub mod Formats
 pub mod Parts

@@ -1,7 +1,5 @@
 -- The laws, for other crates to cite.
 pub mod Answers
-pub mod Cases
-pub mod Largest
 pub mod Masks
 pub mod Rules
 pub mod Sizes
