@@ -14,17 +14,18 @@ use Rattle.files.specs.Moves.{withCleanup, withPool}
 use Rattle.files.specs.Calls.{pooled, cleanupPooled, cleanLogsKept}
 use Rattle.files.specs.declared.queues.Queues.{Queues}
 use Rattle.files.specs.declared.cleaning.Cleaned.{Cleaned}
-use Rattle.files.proofs.Rule.{Sized, Room}
+use Rattle.files.specs.Queues.{QueuesTyped}
+use Rattle.files.proofs.Rule.{Room}
 
 pub moved-count : (q : Queues) (n : ℕ) → firstOf n (q .«cleanup_queue») .count ≤ q .«cleanup_queue» .count
 moved-count q n = least-le n (q .«cleanup_queue» .count) _ refl .1
 
-pub moved-length : (q : Queues) (n : ℕ) → Sized q → Room q → length (listOf (firstOf n (q .«cleanup_queue»))) ≡ firstOf n (q .«cleanup_queue») .count
+pub moved-length : (q : Queues) (n : ℕ) → QueuesTyped q → Room q → length (listOf (firstOf n (q .«cleanup_queue»))) ≡ firstOf n (q .«cleanup_queue») .count
 moved-length q n s r =
     length-take-le (firstOf n (q .«cleanup_queue») .count) (q .«cleanup_queue» .numbers) (omega (arith, moved-count q n, r .cleanup, s .cleanup))
 
 -- the pool and those moved
-pub pooled-count : (q : Queues) (n : ℕ) → Sized q → Room q → (e a : NumberQueue) → e ≡ firstOf n (q .«cleanup_queue») → a ≡ allSortedIn (q .«log_pool») (listOf e) → a .count ≤ 64
+pub pooled-count : (q : Queues) (n : ℕ) → QueuesTyped q → Room q → (e a : NumberQueue) → e ≡ firstOf n (q .«cleanup_queue») → a ≡ allSortedIn (q .«log_pool») (listOf e) → a .count ≤ 64
 pooled-count q n s r e a f g =
     let h : a .count ≡ q .«log_pool» .count + length (listOf e) = ap (λ (x : NumberQueue). x .count) g ∙ all-sorted-count (q .«log_pool») (listOf e) in
     let k : length (listOf e) ≡ firstOf n (q .«cleanup_queue») .count = ap (λ (x : NumberQueue). length (listOf x)) f ∙ moved-length q n s r in

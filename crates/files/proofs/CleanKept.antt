@@ -10,13 +10,13 @@ use Rattle.numbers.specs.Queue.{listOf, firstOf, withoutFirst}
 use Rattle.numbers.proofs.Laws.{least-le, least-rest}
 use Rattle.numbers.proofs.QueueLists.{first-list, without-list, all-sorted-count, all-sorted-list, all-sorted-length}
 use Rattle.numbers.proofs.Sort.{times-append, times-all, times-lacks, has-times, times-distinct, distinct-times, all-ascends, ascends-take}
-use Rattle.files.specs.Queues.{poolOf, cleanupOf, appendingSize, filesOf}
+use Rattle.files.specs.Queues.{poolOf, cleanupOf, appendingSize, filesOf, QueuesTyped}
 use Rattle.files.specs.Calls.{pooled, cleanupPooled}
 use Rattle.files.specs.declared.queues.Queues.{Queues}
-use Rattle.files.proofs.Rule.{Sized, Kept, whole, still-kept}
+use Rattle.files.proofs.Rule.{Kept, whole, still-kept}
 use Rattle.files.proofs.Clean.{moved-count, moved-length}
 
-module _ (q : Queues) (n : ℕ) (s : Sized q) (k : Kept q) where
+module _ (q : Queues) (n : ℕ) (s : QueuesTyped q) (k : Kept q) where
   -- what is moved and what is left in cleanup
   moved : List ℕ
   moved = take n (cleanupOf q)

@@ -1,13 +1,13 @@
 -- Every call keeps the rules. Document 01: "Rules of a state: room kept, no key twice, no mask 0, each file in one place and below the next
 -- number, pool ascending and at most 16." Handed queues that break one, a call answers 13 and hands them back as they were, by definition.
--- Assumes nothing; `Sized` says that the arrays have the lengths that their types give them.
+-- Assumes nothing; `QueuesTyped` says that the arrays have the lengths that their types give them.
 use Prim.Native.Nat.{ℕ, _+_, _<_}
 use mathlib.Core.Bool.{Bool, true, false, _&&_}
 use mathlib.Core.Path.{_≡_, refl, _∙_}
 use native.Mathlib.Omega.{arith}
 use lib.Dec.{eqb}
 use borrow.Author.Tests.{ltb-true, eqb-false}
-use Rattle.files.specs.Queues.{appendingSize, filesOf, fileCount, roomKept, queuesKept}
+use Rattle.files.specs.Queues.{appendingSize, filesOf, fileCount, roomKept, queuesKept, QueuesTyped}
 use Rattle.files.specs.Moves.{withDirty, readingCleaned, replayCleaned}
 use Rattle.files.specs.Calls.{flushes, flushOneKept, flushOne, replayNextKept, replayNext, clearReplayLogsKept, clearReplayLogs, cleanLogsKept, cleanLogs, killLogsKept, killLogs, needsNew, fileSetFull, filesUsedUp, takenBy, takeFileKept, takeFile}
 use Rattle.files.specs.declared.queues.Queues.{Queues}
@@ -17,7 +17,7 @@ use Rattle.files.specs.declared.writing.Flushed.{Flushed}
 use Rattle.files.specs.declared.writing.Taken.{Taken}
 use Rattle.files.specs.declared.cleaning.Cleaned.{Cleaned}
 use Rattle.files.specs.declared.cleaning.Killed.{Killed}
-use Rattle.files.proofs.Rule.{Sized, Kept, kept-facts, kept-makes, sized-appending, size-low, behind-door}
+use Rattle.files.proofs.Rule.{Kept, kept-facts, kept-makes, sized-appending, size-low, behind-door}
 use Rattle.files.proofs.Kept.{queued-kept, reading-kept, reading-sized, replayed-kept, replay-kept, killed-kept, goes-kept, pool-kept, made-kept}
 use Rattle.files.proofs.CleanKept.{cleaned-kept}
 
@@ -29,7 +29,7 @@ dirty-same : (q : Queues) (b : Bool) → queuesKept (withDirty q b) ≡ queuesKe
 unfolding queuesKept roomKept fileCount filesOf appendingSize
 dirty-same q b = refl
 
-module _ (q : Queues) (s : Sized q) (ok : queuesKept q ≡ true) where
+module _ (q : Queues) (s : QueuesTyped q) (ok : queuesKept q ≡ true) where
   k : Kept q
   k = kept-facts q ok
 

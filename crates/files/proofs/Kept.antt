@@ -13,11 +13,11 @@ use Rattle.numbers.specs.declared.queue.NumberQueue.{NumberQueue}
 use Rattle.numbers.proofs.Laws.{one-true, one-false}
 use Rattle.numbers.proofs.QueueLists.{push-list, push-if-list, push-if-count, push-if-length, append-list, without-list, without-length, front-list}
 use Rattle.numbers.proofs.Sort.{times-append, times-under, under-times, times-distinct, distinct-times, ascends-drop}
-use Rattle.files.specs.Queues.{poolOf, appendingOf, readingOf, appendingSize, filesOf}
+use Rattle.files.specs.Queues.{poolOf, appendingOf, readingOf, appendingSize, filesOf, QueuesTyped}
 use Rattle.files.specs.Moves.{appendingQueued, readingCleaned, frontRead, frontReplayed, replayCleaned}
 use Rattle.files.specs.Calls.{withoutPool, goesOn, madeNew, fromPool}
 use Rattle.files.specs.declared.queues.Queues.{Queues}
-use Rattle.files.proofs.Rule.{Sized, Kept, whole, still-kept}
+use Rattle.files.proofs.Rule.{Kept, whole, still-kept}
 
 -- ---- how often a number stands in a queue that changed at an end
 module _ (x : ℕ) (q : NumberQueue) where
@@ -33,7 +33,7 @@ module _ (x : ℕ) (q : NumberQueue) where
   times-front : 0 < q .count → q .count ≤ length (q .numbers) → times x (listOf q) ≡ times x (frontOf q ∷ []) + times x (listOf (withoutFirst 1 q))
   times-front h k = ap (times x) (front-list q h k) ∙ times-append x (frontOf q ∷ []) (listOf (withoutFirst 1 q))
 
-module _ (q : Queues) (s : Sized q) (k : Kept q) where
+module _ (q : Queues) (s : QueuesTyped q) (k : Kept q) where
   -- ---- the appending file to the read queue
   module _ (a : q .appending .some ≡ true) where
     queued-room : q .«read_queue» .count < 64
@@ -69,7 +69,7 @@ module _ (q : Queues) (s : Sized q) (k : Kept q) where
       (record { read = k .room .read; cleanup = omega (arith, n, cleaned-room); pool = k .room .pool; replay = k .room .replay; all = omega (arith, n, k .room .all) })
       refl (λ v. omega (arith, reading-times v)) (k .pool) (k .size)
 
-  pub reading-sized : Sized (readingCleaned q)
+  pub reading-sized : QueuesTyped (readingCleaned q)
   unfolding readingCleaned
   reading-sized = record {
     read = s .read;
@@ -93,7 +93,7 @@ module _ (q : Queues) (s : Sized q) (k : Kept q) where
         (record { read = omega (arith, k .room .read); cleanup = k .room .cleanup; pool = k .room .pool; replay = k .room .replay; all = omega (arith, k .room .all) })
         refl (λ v. omega (arith, front-times v)) (k .pool) (k .size)
 
-    pub front-sized : Sized (frontRead q)
+    pub front-sized : QueuesTyped (frontRead q)
     unfolding frontRead
     front-sized = record { read = without-length (q .«read_queue») 1 (omega (arith, s .read, k .room .read)) ∙ s .read; cleanup = s .cleanup; pool = s .pool; replay = s .replay }
 

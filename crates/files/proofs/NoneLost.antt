@@ -1,6 +1,6 @@
 -- No number is ever lost or in two places. Document 01: "At most 64 files, each in one place: appending, read queue, reading, cleanup, pool or
 -- replay queue. Calls move numbers and tell the host what to open, empty or remove." Counted: each number stands after a call as often as
--- before it, those made (added) and those removed (taken away). Once at most: `KeepsRules`. Assumes nothing; `Sized` as there.
+-- before it, those made (added) and those removed (taken away). Once at most: `KeepsRules`. Assumes nothing; `QueuesTyped` as there.
 use Prim.Native.Nat.{ℕ, _+_, _<_}
 use mathlib.Core.Bool.{Bool, true, false}
 use mathlib.Core.List.{List, [], _∷_}
@@ -12,19 +12,17 @@ use Rattle.numbers.specs.Numbers.{times}
 use Rattle.numbers.specs.Queue.{listOf}
 use Rattle.numbers.proofs.Laws.{one-le}
 use Rattle.numbers.proofs.QueueLists.{push-if-list}
-use Rattle.files.specs.Queues.{appendingSize, filesOf, queuesKept}
+use Rattle.files.specs.Queues.{appendingSize, filesOf, queuesKept, QueuesTyped}
 use Rattle.files.specs.Moves.{withDirty, readingCleaned, replayCleaned}
-use Rattle.files.specs.Calls.{flushes, flushOneKept, flushOne, replayNextKept, replayNext, clearReplayLogs, cleanLogsKept, cleanLogs, killLogs, fileSetFull, filesUsedUp, goesOn, madeNew, fromPool, takenBy, takeFileKept, takeFile}
+use Rattle.files.specs.Calls.{flushes, flushOneKept, flushOne, replayNextKept, replayNext, clearReplayLogs, cleanLogsKept, cleanLogs, killLogs, fileSetFull, filesUsedUp, goesOn, madeNew, fromPool, takenBy, takeFileKept, takeFile, fileMade}
 use Rattle.files.specs.declared.queues.Queues.{Queues}
 use Rattle.files.specs.declared.reading.ReplayNext.{ReplayNext}
 use Rattle.files.specs.declared.reading.ReplayCleared.{ReplayCleared}
-use Rattle.files.specs.declared.writing.FileSource.{FileSource}
-use Rattle.files.specs.declared.writing.FileSource.the-variants.{Appending, Pool, New}
 use Rattle.files.specs.declared.writing.Flushed.{Flushed}
 use Rattle.files.specs.declared.writing.Taken.{Taken}
 use Rattle.files.specs.declared.cleaning.Cleaned.{Cleaned}
 use Rattle.files.specs.declared.cleaning.Killed.{Killed}
-use Rattle.files.proofs.Rule.{Sized, Kept, kept-facts, sized-appending, door}
+use Rattle.files.proofs.Rule.{Kept, kept-facts, sized-appending, door}
 use Rattle.files.proofs.Kept.{queued-times, reading-times, reading-kept, reading-sized, replayed-times, replay-times, killed-times, goes-times, pool-times, made-times}
 use Rattle.files.proofs.CleanKept.{cleaned-times}
 
@@ -41,13 +39,7 @@ waiting : (q : Queues) → (q .«replay_queue» .count ≡ 0 → ⊥) → 0 < re
 unfolding readingCleaned
 waiting q d = omega arith
 
--- the number that was made, or none
-abbrev pub madeBy : FileSource → ℕ → List ℕ
-madeBy Appending n = []
-madeBy Pool n = []
-madeBy New n = n ∷ []
-
-module _ (q : Queues) (s : Sized q) (v : ℕ) where
+module _ (q : Queues) (s : QueuesTyped q) (v : ℕ) where
   module _ (ok : queuesKept q ≡ true) where
     k : Kept q
     k = kept-facts q ok
@@ -102,9 +94,9 @@ module _ (q : Queues) (s : Sized q) (v : ℕ) where
 
   -- what is left of a choice, by the answer that it comes to
   Made : Taken → Type 0
-  Made t = times v (filesOf (t .queues)) ≡ times v (filesOf q) + times v (madeBy (t .source) (t .number))
+  Made t = times v (filesOf (t .queues)) ≡ times v (filesOf q) + times v (fileMade (t .source) (t .number))
 
-  none : (t : Taken) (q′ : Queues) → t .queues ≡ q′ → times v (filesOf q′) ≡ times v (filesOf q) → madeBy (t .source) (t .number) ≡ [] → Made t
+  none : (t : Taken) (q′ : Queues) → t .queues ≡ q′ → times v (filesOf q′) ≡ times v (filesOf q) → fileMade (t .source) (t .number) ≡ [] → Made t
   unfolding Made
   none t q′ e f g = ap (λ (x : Queues). times v (filesOf x)) e ∙ f ∙ more ∙ ap (λ (l : List ℕ). times v (filesOf q) + times v l) (sym g)
     where
@@ -119,7 +111,7 @@ module _ (q : Queues) (s : Sized q) (v : ℕ) where
       by true a d e = none (takenBy q size) (goesOn q size) (rw a) (goes-times q s r size a v) (rw a)
       by false n true e =
           let x : takenBy q size .queues ≡ madeNew q size = rw (n, e) in
-          let y : madeBy (takenBy q size .source) (takenBy q size .number) ≡ q .«next_log_id» ∷ [] = rw (n, e) in
+          let y : fileMade (takenBy q size .source) (takenBy q size .number) ≡ q .«next_log_id» ∷ [] = rw (n, e) in
           ap (λ (z : Queues). times v (filesOf z)) x ∙ made-times q s r size n v ∙ ap (λ (l : List ℕ). times v (filesOf q) + times v l) (sym y)
       by false n false e =
           none (takenBy q size) (fromPool q size) (rw (n, e)) (pool-times q s r size n (omega (arith, eqb-false (q .«log_pool» .count) 0 e)) v) (rw (n, e))
@@ -133,6 +125,6 @@ module _ (q : Queues) (s : Sized q) (v : ℕ) where
       nothing = omega arith
 
   -- "a new number only if the pool is empty"
-  pub take-file : (length : ℕ) → times v (filesOf (takeFile q length .queues)) ≡ times v (filesOf q) + times v (madeBy (takeFile q length .source) (takeFile q length .number))
+  pub take-file : (length : ℕ) → times v (filesOf (takeFile q length .queues)) ≡ times v (filesOf q) + times v (fileMade (takeFile q length .source) (takeFile q length .number))
   unfolding takeFile Made
   take-file length = door Made (queuesKept q) (λ ok. file-taken length (kept-facts q ok)) (omega arith)

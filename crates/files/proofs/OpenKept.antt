@@ -11,7 +11,6 @@ use lib.Dec.{eqb}
 use borrow.Author.Tests.{eqb-false, eqb-true}
 use Rattle.words.specs.Choice.{if_then_else_}
 use Rattle.numbers.specs.Numbers.{times, allBelow, distinct}
-use Rattle.numbers.specs.Queue.{listOf}
 use Rattle.answer.specs.Answer.{numberOf}
 use Rattle.record.specs.Next.{readerAt, openingOf}
 use Rattle.answer.specs.declared.answer.Answer.{Answer}
@@ -20,28 +19,23 @@ use Rattle.record.specs.declared.reader.LogReader.{LogReader}
 use Rattle.record.specs.declared.reader.Step.{Step}
 use Rattle.record.specs.declared.reader.Step.the-variants.{Took, Refused}
 use Rattle.found.specs.Names.{saidBy}
-use Rattle.found.specs.Logs.{LogFile, fileNumber, fileId, takenNumbers, removed, keptFiles, inOrder, nextFrom, answered}
-use Rattle.found.specs.Inner.{pairs}
+use Rattle.found.specs.Logs.{LogFile, fileNumber, fileId, takenNumbers, removed, keptFiles, inOrder, ordered, howMany, nextFrom, answered}
 use Rattle.found.proofs.Listed.{filled}
 use Rattle.found.proofs.SortLaws.{pairs-map, next-above}
 use Rattle.found.proofs.Found.{order-times}
-use Rattle.found.proofs.Order.{ordered, count, same-files}
+use Rattle.found.proofs.Order.{same-files}
 use Rattle.found.proofs.Answers.{logs-told, logs-all}
-use Rattle.files.specs.Queues.{replayOf, appendingSize, filesOf, queuesKept}
-use Rattle.files.specs.Moves.{firstIds, readingCleaned}
-use Rattle.files.specs.Open.{openedWith, openLogs}
+use Rattle.files.specs.Queues.{appendingSize, filesOf, queuesKept, QueuesTyped}
+use Rattle.files.specs.Moves.{readingCleaned}
+use Rattle.files.specs.Open.{openedWith, openLogs, replayFiles}
 use Rattle.files.specs.Read.{nowReading, notRead, readBy, readNextKept, readNext}
 use Rattle.files.specs.Inner.{hasFile}
 use Rattle.files.specs.declared.queues.Queues.{Queues}
 use Rattle.files.specs.declared.read.ReadNext.{ReadNext}
-use Rattle.files.proofs.Rule.{Sized, Kept, kept-facts, kept-makes, behind-door}
+use Rattle.files.proofs.Rule.{Kept, kept-facts, kept-makes, behind-door}
 use Rattle.files.proofs.Kept.{reading-kept, reading-times}
 use Rattle.files.proofs.ReadOf.{has-reading, has-waiting, next-reading, next-none, next-front}
 use Rattle.files.proofs.ReadKept.{now-kept, now-sized, now-times}
-
--- the replay queue: each file with its first id
-abbrev pub replayFiles : Queues → List LogFile
-replayFiles q = pairs (replayOf q) (listOf (firstIds q))
 
 module _ (answer : Answer) (n : ℕ) (files : List LogFile) where
   opened-files : filesOf (openedWith (answered answer n files)) ≡ map fileNumber files
@@ -75,10 +69,10 @@ module _ (names nameLengths lengths heads : List ℕ) (room : ℕ) where
 
   module _ (d : openLogs names nameLengths lengths heads room .answer ≡ Done) where
     -- the files kept, in another order: as many pass any test
-    pub open-same : (p : LogFile → Bool) → count p (replayFiles (openLogs names nameLengths lengths heads room .queues)) ≡ count p (keptFiles (saidBy names nameLengths) lengths heads)
+    pub open-same : (p : LogFile → Bool) → howMany p (replayFiles (openLogs names nameLengths lengths heads room .queues)) ≡ howMany p (keptFiles (saidBy names nameLengths) lengths heads)
     unfolding openLogs
     open-same p =
-        rw (logs-all names nameLengths lengths heads room d) (ap (count p) (opened-queue Done (length (removed (saidBy names nameLengths) lengths)) (inOrder (saidBy names nameLengths) lengths heads)) ∙ same-files p (saidBy names nameLengths) lengths heads)
+        rw (logs-all names nameLengths lengths heads room d) (ap (howMany p) (opened-queue Done (length (removed (saidBy names nameLengths) lengths)) (inOrder (saidBy names nameLengths) lengths heads)) ∙ same-files p (saidBy names nameLengths) lengths heads)
 
     -- each file found under a taken name is to be replayed or to be removed
     pub open-loses-none : (v : ℕ)
@@ -89,7 +83,7 @@ module _ (names nameLengths lengths heads : List ℕ) (room : ℕ) where
         (ap (λ (l : List ℕ). times v l + times v (removed (saidBy names nameLengths) lengths)) (opened-files Done (length (removed (saidBy names nameLengths) lengths)) (inOrder (saidBy names nameLengths) lengths heads))
         ∙ order-times (saidBy names nameLengths) lengths heads v)
 
-module _ (q : Queues) (s : Sized q) (ok : queuesKept q ≡ true) where
+module _ (q : Queues) (s : QueuesTyped q) (ok : queuesKept q ≡ true) where
   k : Kept q
   k = kept-facts q ok
 

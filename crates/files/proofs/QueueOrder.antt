@@ -1,5 +1,5 @@
 -- In which order the queues are filled and emptied, on lists. Document 01, "File numbers"; each sentence stands with its theorem. Assumes
--- nothing; `Sized` says that the arrays have the lengths that their types give them.
+-- nothing; `QueuesTyped` says that the arrays have the lengths that their types give them.
 use Prim.Native.Nat.{ℕ, _+_, _<_}
 use mathlib.Core.Bool.{Bool, true, false}
 use mathlib.Core.List.{List, [], _∷_, _++_}
@@ -13,18 +13,18 @@ use Rattle.numbers.specs.Numbers.{someOf, insertAll, ascends}
 use Rattle.numbers.specs.Queue.{listOf, frontOf}
 use Rattle.numbers.proofs.Laws.{one-true}
 use Rattle.numbers.proofs.QueueLists.{push-list, push-if-list, push-if-count, push-if-length, append-list, first-list, front-list}
-use Rattle.files.specs.Queues.{appendingOf, readQueueOf, readingOf, cleanupOf, poolOf, replayOf, appendingSize, queuesKept}
+use Rattle.files.specs.Queues.{appendingOf, readQueueOf, readingOf, cleanupOf, poolOf, replayOf, appendingSize, queuesKept, QueuesTyped}
 use Rattle.files.specs.Moves.{appendingQueued, readingCleaned, frontRead, frontReplayed, replayCleaned}
 use Rattle.files.specs.Calls.{flushes, flushOneKept, replayNextKept, clearReplayLogsKept, cleanLogsKept, fromPool}
 use Rattle.files.specs.Read.{nowReading}
 use Rattle.files.specs.declared.queues.Queues.{Queues}
 use Rattle.files.specs.declared.reading.ReplayNext.{ReplayNext}
 use Rattle.files.specs.declared.writing.Flushed.{Flushed}
-use Rattle.files.proofs.Rule.{Sized, Kept, kept-facts, sized-appending}
+use Rattle.files.proofs.Rule.{Kept, kept-facts, sized-appending}
 use Rattle.files.proofs.ReadOf.{now-front}
 use Rattle.files.proofs.CleanKept.{pooled-list, new-pool, new-cleanup, removed-list, pooled-rises}
 
-module _ (q : Queues) (s : Sized q) (ok : queuesKept q ≡ true) where
+module _ (q : Queues) (s : QueuesTyped q) (ok : queuesKept q ≡ true) where
   k : Kept q
   k = kept-facts q ok
 

@@ -4,16 +4,16 @@ use mathlib.Core.Bool.{Bool, true, false}
 use mathlib.Core.Path.{_≡_, refl}
 use Rattle.words.specs.Choice.{if_then_else_}
 use Rattle.numbers.specs.Numbers.{times}
-use Rattle.files.specs.Queues.{filesOf}
+use Rattle.files.specs.Queues.{filesOf, QueuesTyped}
 use Rattle.files.specs.Moves.{frontRead}
 use Rattle.files.specs.Read.{nowReading}
 use Rattle.files.specs.Inner.{hasFile}
 use Rattle.files.specs.declared.queues.Queues.{Queues}
-use Rattle.files.proofs.Rule.{Sized, Kept}
+use Rattle.files.proofs.Rule.{Kept}
 use Rattle.files.proofs.Kept.{front-times, front-kept, front-sized}
 use Rattle.files.proofs.ReadOf.{has-front}
 
-module _ (q : Queues) (s : Sized q) (k : Kept q) (h : hasFile q ≡ true) where
+module _ (q : Queues) (s : QueuesTyped q) (k : Kept q) (h : hasFile q ≡ true) where
   pub now-kept : Kept (nowReading q)
   unfolding nowReading
   now-kept = by (q .reading .some) refl
@@ -22,11 +22,11 @@ module _ (q : Queues) (s : Sized q) (k : Kept q) (h : hasFile q ≡ true) where
       by true e = k
       by false e = front-kept q s k e (has-front q h e)
 
-  pub now-sized : Sized (nowReading q)
+  pub now-sized : QueuesTyped (nowReading q)
   unfolding nowReading
   now-sized = by (q .reading .some) refl
     where
-      by : (b : Bool) → q .reading .some ≡ b → Sized (if b then q else frontRead q)
+      by : (b : Bool) → q .reading .some ≡ b → QueuesTyped (if b then q else frontRead q)
       by true e = s
       by false e = front-sized q s k e (has-front q h e)
 

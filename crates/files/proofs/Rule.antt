@@ -4,7 +4,6 @@ use mathlib.Core.Bool.{Bool, true, false, _||_}
 use mathlib.Core.List.{List, _++_}
 use mathlib.Core.Path.{_≡_, refl, sym, ap, _∙_}
 use native.Mathlib.Omega.{arith}
-use lib.ListN.{length}
 use lib.Dec.{leb}
 use borrow.Author.Tests.{ltb-true, lt-ltb, le-leb, leb-true, leb-false, lt-leb, eq-eqb}
 use Rattle.words.specs.Choice.{if_then_else_}
@@ -16,13 +15,6 @@ use Rattle.numbers.proofs.QueueLists.{push-if-count}
 use Rattle.files.specs.Moves.{readingCleaned}
 use Rattle.files.specs.Calls.{needsNew, lacksNumber, filesUsedUp}
 use Rattle.files.specs.declared.queues.Queues.{Queues}
-
--- an array of the code has its length; a list of the definitions may have any
-pub record Sized (q : Queues) : Type 0 where
-  pub read : length (q .«read_queue» .numbers) ≡ 64
-  pub cleanup : length (q .«cleanup_queue» .numbers) ≡ 64
-  pub pool : length (q .«log_pool» .numbers) ≡ 64
-  pub replay : length (q .«replay_queue» .numbers) ≡ 64
 
 pub record Room (q : Queues) : Type 0 where
   pub read : q .«read_queue» .count ≤ 64

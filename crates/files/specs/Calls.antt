@@ -3,6 +3,7 @@
 -- back as they were and tells the host nothing.
 use Prim.Native.Nat.{ℕ, _+_}
 use mathlib.Core.Bool.{Bool, true, false, not, _&&_, _||_}
+use mathlib.Core.List.{List, [], _∷_}
 use lib.Dec.{ltb, eqb, leb}
 use Rattle.words.specs.Choice.{if_then_else_}
 use Rattle.numbers.specs.Queue.{listOf, noNumbers, pushedIf, frontOf, firstOf, withoutFirst, emptied, allSortedIn}
@@ -127,7 +128,7 @@ lacksNumber q = needsNew q && eqb (q .«next_log_id») 4294967295
 
 -- 12: there is no number, or with the record "A file's size stays below 2^63." would be broken
 unfoldable pub filesUsedUp : Queues → ℕ → Bool
-filesUsedUp q length = lacksNumber q || leb 9223372036854775808 (appendingSize q + length)
+filesUsedUp q more = lacksNumber q || leb 9223372036854775808 (appendingSize q + more)
 
 -- the file that is appended to, with its size; "dirty .. is set"
 abbrev pub grown : Queues → ℕ → ℕ → Queues
@@ -162,11 +163,17 @@ notTaken answer q = record { answer = answer; source = Appending; number = 0; qu
 
 -- "9 for files, 12"; "The record's length adds to the file's size (0 when taken)"
 unfoldable pub takeFileKept : Queues → ℕ → Taken
-takeFileKept q length =
+takeFileKept q more =
     if fileSetFull q then notTaken NoRoom q else
-    if filesUsedUp q length then notTaken UsedUp q else
-    takenBy q (appendingSize q + length)
+    if filesUsedUp q more then notTaken UsedUp q else
+    takenBy q (appendingSize q + more)
 
 -- behind 13
 unfoldable pub takeFile : Queues → ℕ → Taken
-takeFile q length = if queuesKept q then takeFileKept q length else notTaken BadState q
+takeFile q more = if queuesKept q then takeFileKept q more else notTaken BadState q
+
+-- the number of the file that was made for a record, if one was
+abbrev pub fileMade : FileSource → ℕ → List ℕ
+fileMade Appending n = []
+fileMade Pool n = []
+fileMade New n = n ∷ []

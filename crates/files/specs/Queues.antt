@@ -3,7 +3,9 @@
 use Prim.Native.Nat.{ℕ, _+_}
 use mathlib.Core.Bool.{Bool, _&&_}
 use mathlib.Core.List.{List, _++_}
+use mathlib.Core.Path.{_≡_}
 use lib.Dec.{ltb, leb}
+use lib.ListN.{length}
 use Rattle.words.specs.Choice.{if_then_else_}
 use Rattle.numbers.specs.Numbers.{allBelow, distinct, ascends, someOf, oneIf}
 use Rattle.numbers.specs.Queue.{listOf}
@@ -59,3 +61,10 @@ unfoldable pub queuesKept : Queues → Bool
 queuesKept q =
     roomKept q && (allBelow (q .«next_log_id») (filesOf q) && (distinct (filesOf q) && (ascends (poolOf q) &&
     ltb (appendingSize q) 9223372036854775808)))
+
+-- What the types say of queues that code is handed, a premise of the theorems and no rule that is tested: each array has 64 numbers
+pub record QueuesTyped (q : Queues) : Type 0 where
+  pub read : length (q .«read_queue» .numbers) ≡ 64
+  pub cleanup : length (q .«cleanup_queue» .numbers) ≡ 64
+  pub pool : length (q .«log_pool» .numbers) ≡ 64
+  pub replay : length (q .«replay_queue» .numbers) ≡ 64

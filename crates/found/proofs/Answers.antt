@@ -12,13 +12,13 @@ use Rattle.numbers.specs.Numbers.{has, allBelow, distinct, over}
 use Rattle.answer.specs.declared.answer.Answer.{Answer}
 use Rattle.answer.specs.declared.answer.Answer.the-variants.{Done, NoRoom, ShortOutput, UsedUp, BadState}
 use Rattle.found.specs.Names.{saidBy}
-use Rattle.found.specs.Logs.{LogFile, fileNumber, takenNumbers, removed, inOrder, belong, foundKept, answered, toReplay, logFiles}
+use Rattle.found.specs.Logs.{LogFile, fileNumber, takenNumbers, removed, inOrder, belong, foundKept, answered, toReplay, logFiles, ordered}
 use Rattle.found.specs.Inner.{filesIn, Gathered}
 use Rattle.found.specs.declared.logs.LogFiles.{LogFiles}
 use Rattle.found.specs.declared.sorted.Sorted.{Sorted}
 use Rattle.found.proofs.SortLaws.{too-many, few, kept-numbers}
 use Rattle.found.proofs.Found.{found-once, order-below, order-once, said-below, lower}
-use Rattle.found.proofs.Order.{ordered, in-order}
+use Rattle.found.proofs.Order.{in-order}
 
 -- a refusal tells of none to remove
 pub told-none : (d l : List ℕ) (f : LogFiles) (a : Answer) → f ≡ answered a 0 [] → d ≡ over d l (f .«remove_count»)

@@ -2,7 +2,8 @@
 use native.Mathlib.Omega.{arith}
 use mathlib.Core.Path.{ap}
 use Rattle.numbers.specs.declared.queue.NumberQueue.{NumberQueue}
-use Rattle.files.proofs.Rule.{Sized, kept-facts}
+use Rattle.files.specs.Queues.{QueuesTyped}
+use Rattle.files.proofs.Rule.{kept-facts}
 use Rattle.files.proofs.Clean.{moved-count, pooled-count, clean-as}
 use borrow.Author.Needs.{needs}
 use Rattle.files.proofs.queues.Queues.clean_logs_kept.Statement.{statement}
@@ -13,7 +14,7 @@ use Rattle.numbers.proofs.queue.NumberQueue.first.Reads as first-reads
 use Rattle.numbers.proofs.queue.NumberQueue.insert_all.Reads as insert-all-reads
 use Rattle.numbers.proofs.queue.NumberQueue.without_first.Reads as without-first-reads
 
-sized : (s : tie.Start) → Sized (s .args .self)
+sized : (s : tie.Start) → QueuesTyped (s .args .self)
 sized s = record { read = search needs; cleanup = search needs; pool = search needs; replay = search needs }
 
 first-requires : tie.Need-first-requires

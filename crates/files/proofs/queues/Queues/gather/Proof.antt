@@ -1,7 +1,7 @@
 -- `Queues::gather` meets its contract: the list grows by one place after the other. Assumes nothing.
 use native.Mathlib.Omega.{arith}
-use Rattle.files.specs.Queues.{filesOf}
-use Rattle.files.proofs.Rule.{Sized, room-facts}
+use Rattle.files.specs.Queues.{filesOf, QueuesTyped}
+use Rattle.files.proofs.Rule.{room-facts}
 use Rattle.files.proofs.Gather.{holds-new, holds-push, holds-append}
 use borrow.Author.Needs.{needs}
 use Rattle.files.proofs.queues.Queues.gather.Statement.{statement}
@@ -12,7 +12,7 @@ use Rattle.numbers.proofs.queue.NumberQueue.append.Reads as append-reads
 use Rattle.numbers.proofs.queue.NumberQueue.new.Reads as new-reads
 use Rattle.numbers.proofs.queue.NumberQueue.push_if.Reads as push-if-reads
 
-sized : (s : tie.Start) → Sized (s .args .self)
+sized : (s : tie.Start) → QueuesTyped (s .args .self)
 sized s = record { read = search needs; cleanup = search needs; pool = search needs; replay = search needs }
 
 new-requires : tie.Need-new-requires
