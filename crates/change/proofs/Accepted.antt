@@ -2,7 +2,6 @@
 use mathlib.Core.Path.{_≡_, refl, sym, ap, _∙_, subst}
 use mathlib.Core.Bool.{Bool, true, false}
 use mathlib.Core.List.{List, [], _∷_}
-use mathlib.Core.Option.{Option, none, some}
 use Prim.Native.Nat.{ℕ, _+_, _<_, _≤_}
 use native.Mathlib.Omega.{arith}
 use lib.Dec.{ltb, leb, eqb}
@@ -35,7 +34,7 @@ use Rattle.memory.proofs.Spans.{all-shows}
 use Rattle.change.specs.declared.plans.Plan.{Plan}
 use Rattle.change.specs.declared.plans.Plan.the-variants.{Refuse, Go}
 use Rattle.change.specs.Change.{Change, withParts}
-use Rattle.change.specs.Insert.{Made, notMade, markOf, bytesFit, roomFor, planIn, madeBy, insertedKept}
+use Rattle.change.specs.Insert.{Made, notMade, markOf, bytesFit, roomFor, planIn, madeBy, insertedKept, markIn}
 
 -- the last step: over the key's own place, or into the next one
 module _ (room : ℕ) (o : Overlay) (w : o .count ≤ length (o .order)) (in-order : ruled (o .rows) (o .order) (o .count) ≡ true) (key : ℕ) where
@@ -130,11 +129,6 @@ refused a m e = let z : _≡_ {A = ℕ} 0 1 = cc in omega arith
 abbrev goes : Plan → ℕ
 goes (Refuse a) = 0
 goes (Go m) = m
-
--- the mark of an entry, 0 where there is none
-abbrev pub markIn : Option Entry → ℕ
-markIn none = 0
-markIn (some e) = e .mark
 
 module _ (kind : TableKind) (p : Parts) (key old : ℕ) (ok : partsKept holder.List p ≡ true) where
   abbrev o : Overlay

@@ -23,6 +23,7 @@ use Rattle.keys.specs.Keys.{rank, markAt, rowPut, every}
 use Rattle.keys.proofs.Kept.{table-here, index-here, mark-here, word-other}
 use Rattle.overlay.specs.Rules.{Overlay, overlayKept}
 use Rattle.overlay.specs.Overlay.{standsIn, putOver}
+use Rattle.overlay.proofs.EachPut.{each-put}
 use Rattle.memory.specs.declared.span.Holder.the-variants as holder
 use Rattle.memory.specs.Parts.{spanOf, wordsAll, bytesAll, ofKind, putInto}
 use Rattle.memory.proofs.Spans.{all-shows, into-kept, put-of}
@@ -35,7 +36,6 @@ use Rattle.change.specs.Insert.{Made, notMade, markOf, planIn, madeBy, i
 use Rattle.change.specs.Drop.{droppedIn, tableDroppedKept, tableDropped, countTableDroppedKept, countTableDropped}
 use Rattle.change.proofs.Rules.{RuledList, ruled-shows, ruled-makes, FitList, kept-directory, kept-ruled, kept-parts, kept-fits, kept-makes}
 use Rattle.change.proofs.Accepted.{same-kind, Accepted, accepted}
-use Rattle.change.proofs.EachPut.{each-put}
 use Rattle.change.proofs.Meaning.{mark-good, mark-right}
 
 -- a row that an insert writes fits the directory; every other is as it was

@@ -5,7 +5,6 @@ pub mod OneKind
 pub mod Fitting
 pub mod Accepted
 pub mod Meaning
-mod EachPut
 pub mod Kept
 pub mod Listed
 pub mod Sizes

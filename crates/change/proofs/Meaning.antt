@@ -23,7 +23,7 @@ use Rattle.directory.specs.declared.directory.Directory.{Directory}
 use Rattle.keys.specs.Keys.{rank}
 use Rattle.overlay.specs.Rules.{Overlay, storedLength, markRuled}
 use Rattle.overlay.specs.Overlay.{putOver}
-use Rattle.overlay.specs.Entries.{Entry, entriesOf, findEntry, putEntry}
+use Rattle.overlay.specs.Entries.{entriesOf, findEntry, putEntry}
 use Rattle.overlay.proofs.Puts.{put-entries, findEntry-after-put}
 use Rattle.memory.specs.declared.span.Holder.the-variants as holder
 use Rattle.memory.specs.Parts.{spanOf, ofKind, putInto}
@@ -31,9 +31,9 @@ use Rattle.memory.proofs.Spans.{all-shows, put-of}
 use Rattle.change.specs.Change.{Change, markFits, changeKept}
 use Rattle.change.specs.declared.plans.Plan.{Plan}
 use Rattle.change.specs.declared.plans.Plan.the-variants.{Go}
-use Rattle.change.specs.Insert.{notMade, markOf, planIn, madeBy, insertedKept, inserted}
+use Rattle.change.specs.Insert.{notMade, markOf, planIn, madeBy, insertedKept, inserted, newEntry}
 use Rattle.change.proofs.Rules.{kept-directory, kept-parts}
-use Rattle.change.proofs.Accepted.{Accepted, accepted, markIn}
+use Rattle.change.proofs.Accepted.{Accepted, accepted}
 
 -- the bytes are those that the mark stands for, and the mark is one of the kind and of the table
 some-bit : (old sub : ℕ) → ltb 0 (bitOr old (2 ^ sub)) ≡ true
@@ -56,20 +56,11 @@ mark-right RefCount old sub t bytes e = refl
 
 module _ (kind : TableKind) (d : Directory) (l : Change) (ok : changeKept d l ≡ true) (number index sub : ℕ) (bytes : List ℕ) (old : ℕ)
     (go : planIn kind (ofKind kind (l .parts)) (findTable d kind number) number index sub bytes ≡ Go old) where
-  -- what is inserted: the mask joined, the chunk whole, the id the list's
-  abbrev pub newEntry : Entry
-  newEntry = record {
-    key = rank number index;
-    id = l .id;
-    mark = markOf kind (markIn (findEntry (rank number index) (entriesOf kind (ofKind kind (l .parts))))) sub bytes;
-    bytes = bytes;
-  }
-
   a : Accepted kind d (l .parts) number index sub bytes old
   a = accepted kind d (l .parts) number index sub bytes old (kept-directory d l ok) (kept-parts d l ok) go
 
   -- an insert that is refused nothing, as one put
-  pub insert-parts : inserted kind d l number index sub bytes .change .parts ≡ putInto kind (l .parts) number index (l .id) (newEntry .mark) bytes
+  pub insert-parts : inserted kind d l number index sub bytes .change .parts ≡ putInto kind (l .parts) number index (l .id) (newEntry kind l number index sub bytes .mark) bytes
   unfolding inserted insertedKept
   insert-parts =
       ap (λ (b : Bool). (if b then insertedKept kind d l number index sub bytes else notMade BadState l) .change .parts) ok
@@ -77,8 +68,8 @@ module _ (kind : TableKind) (d : Directory) (l : Change) (ok : changeKept d l �
       ∙ ap (λ (m : ℕ). putInto kind (l .parts) number index (l .id) (markOf kind m sub bytes) bytes) (a .old-is)
 
   -- the kind's own entries, and those of another
-  own : ofKind kind (inserted kind d l number index sub bytes .change .parts) ≡ putOver kind (ofKind kind (l .parts)) number index (l .id) (newEntry .mark) bytes
-  own = ap (ofKind kind) insert-parts ∙ put-of kind kind (l .parts) number index (l .id) (newEntry .mark) bytes ∙ if-true (sameKind kind kind) _ _ (itself kind)
+  own : ofKind kind (inserted kind d l number index sub bytes .change .parts) ≡ putOver kind (ofKind kind (l .parts)) number index (l .id) (newEntry kind l number index sub bytes .mark) bytes
+  own = ap (ofKind kind) insert-parts ∙ put-of kind kind (l .parts) number index (l .id) (newEntry kind l number index sub bytes .mark) bytes ∙ if-true (sameKind kind kind) _ _ (itself kind)
     where
       itself : (kind : TableKind) → sameKind kind kind ≡ true
       itself Index = refl
@@ -86,19 +77,19 @@ module _ (kind : TableKind) (d : Directory) (l : Change) (ok : changeKept d l �
       itself RefCount = refl
 
   pub insert-others : (other : TableKind) → sameKind kind other ≡ false → ofKind other (inserted kind d l number index sub bytes .change .parts) ≡ ofKind other (l .parts)
-  insert-others other e = ap (ofKind other) insert-parts ∙ put-of kind other (l .parts) number index (l .id) (newEntry .mark) bytes ∙ if-false (sameKind kind other) _ _ e
+  insert-others other e = ap (ofKind other) insert-parts ∙ put-of kind other (l .parts) number index (l .id) (newEntry kind l number index sub bytes .mark) bytes ∙ if-false (sameKind kind other) _ _ e
 
   -- "on a key already listed take the whole new chunk and add the slot's bit to the mask"
-  pub insert-entries : entriesOf kind (ofKind kind (inserted kind d l number index sub bytes .change .parts)) ≡ putEntry newEntry (entriesOf kind (ofKind kind (l .parts)))
+  pub insert-entries : entriesOf kind (ofKind kind (inserted kind d l number index sub bytes .change .parts)) ≡ putEntry (newEntry kind l number index sub bytes) (entriesOf kind (ofKind kind (l .parts)))
   insert-entries =
       ap (entriesOf kind) own
-      ∙ put-entries kind (spanOf holder.List kind .room) (ofKind kind (l .parts)) (all-shows holder.List (l .parts) (kept-parts d l ok) .each kind) number index (l .id) (newEntry .mark) bytes
+      ∙ put-entries kind (spanOf holder.List kind .room) (ofKind kind (l .parts)) (all-shows holder.List (l .parts) (kept-parts d l ok) .each kind) number index (l .id) (newEntry kind l number index sub bytes .mark) bytes
       (a .fits) (a .takes) (mark-whole kind _ sub (a .table .length) bytes (a .whole))
 
   -- a lookup finds it under its key, and under any other what it found before
   pub insert-lookup : (key : ℕ) → findEntry key (entriesOf kind (ofKind kind (inserted kind d l number index sub bytes .change .parts)))
-      ≡ (if eqb (rank number index) key then some newEntry else findEntry key (entriesOf kind (ofKind kind (l .parts))))
+      ≡ (if eqb (rank number index) key then some (newEntry kind l number index sub bytes) else findEntry key (entriesOf kind (ofKind kind (l .parts))))
   insert-lookup key =
       ap (λ (o : Overlay). findEntry key (entriesOf kind o)) own
-      ∙ findEntry-after-put kind (spanOf holder.List kind .room) (ofKind kind (l .parts)) (all-shows holder.List (l .parts) (kept-parts d l ok) .each kind) number index (l .id) (newEntry .mark) bytes
+      ∙ findEntry-after-put kind (spanOf holder.List kind .room) (ofKind kind (l .parts)) (all-shows holder.List (l .parts) (kept-parts d l ok) .each kind) number index (l .id) (newEntry kind l number index sub bytes .mark) bytes
       (a .fits) (a .takes) (mark-whole kind _ sub (a .table .length) bytes (a .whole)) key

@@ -1,6 +1,7 @@
 -- What an insert does (document 01, "Change lists and overlays", "Inserting: 6, 7, 14, 9."). log.rs lines 480 to 515.
 use mathlib.Core.Bool.{Bool}
 use mathlib.Core.List.{List}
+use mathlib.Core.Option.{Option, none, some}
 use Prim.Native.Nat.{ℕ, _^_}
 use lib.Bits.{bitOr}
 use lib.Dec.{ltb, leb, eqb}
@@ -19,6 +20,7 @@ use Rattle.directory.specs.declared.directory.Found.the-variants.{At, Nothing}
 use Rattle.keys.specs.Keys.{rank, markAt}
 use Rattle.overlay.specs.Rules.{Overlay}
 use Rattle.overlay.specs.Overlay.{standsIn, placeIn}
+use Rattle.overlay.specs.Entries.{Entry, entriesOf, findEntry}
 use Rattle.memory.specs.Parts.{spanOf, ofKind, putInto}
 use Rattle.memory.specs.declared.span.Holder.the-variants as holder
 use Rattle.change.specs.Change.{Change, changeOf, withParts, changeKept}
@@ -80,3 +82,17 @@ insertedKept kind d l number index sub bytes =
 unfoldable pub inserted : TableKind → Directory → Change → ℕ → ℕ → ℕ → List ℕ → Made
 inserted kind d l number index sub bytes =
     if changeKept d l then insertedKept kind d l number index sub bytes else notMade BadState l  -- 13
+
+-- the mark of an entry that is there; 0 where there is none
+abbrev pub markIn : Option Entry → ℕ
+markIn none = 0
+markIn (some e) = e .mark
+
+-- what is inserted: under its key, "add the slot's bit to the mask", the chunk whole, the id the list's
+abbrev pub newEntry : TableKind → Change → ℕ → ℕ → ℕ → List ℕ → Entry
+newEntry kind l number index sub bytes = record {
+  key = rank number index;
+  id = l .id;
+  mark = markOf kind (markIn (findEntry (rank number index) (entriesOf kind (ofKind kind (l .parts))))) sub bytes;
+  bytes = bytes;
+}

@@ -21,6 +21,7 @@ use Rattle.memory.specs.Parts.{spanOf, wordsAll, bytesAll, partOf, partsOf, par
 use Rattle.memory.specs.declared.counts.Counts.{Counts}
 use Rattle.memory.specs.declared.span.Holder.{Holder}
 use Rattle.memory.specs.declared.span.Holder.the-variants as holder
+use Rattle.memory.proofs.OneKind.{shared-room}
 use Rattle.memory.proofs.Spans.{words-all, bytes-all, of-parts, AllKept, all-shows}
 use Rattle.query.specs.Inner.{foundIn}
 use Rattle.query.proofs.Found.{FoundAt, found, not-found}
@@ -54,11 +55,6 @@ place-none kind o key j e = rw e
 
 pub part-le : (n b : ℕ) (l : List ℕ) → length (take n (drop b l)) ≤ length l
 part-le n b l = simp (length-take, length-drop) (omega arith)
-
-pub shared-room : (kind : TableKind) → spanOf holder.Shared kind .room ≡ 256
-shared-room Index = refl
-shared-room Value = refl
-shared-room RefCount = refl
 
 pub span-low : (h : Holder) (kind : TableKind) → spanOf h kind .«bytes_at» ≤ 524288
 span-low holder.Shared Index = omega arith

@@ -4,7 +4,7 @@ ghost use mathlib.Core.Bool.{true};
 ghost use Prim.Native.Nat.{_≤_};
 ghost use lib.ListN.{length};
 ghost use Rattle.keys.specs.Keys.{rank};
-ghost use Rattle.overlay.specs.Rules.{storedLength, overlayOf, overlayKept};
+ghost use Rattle.overlay.specs.Rules.{overlayOf, overlayKept};
 ghost use Rattle.memory.specs.Parts.{spanOf, wordsAll, bytesAll, partOf};
 ghost use Rattle.edge_lookups.specs.Lookups.{storedPlace};
 use directory::TableKind;
@@ -16,16 +16,6 @@ pub struct Place {
     pub found: bool,
     pub at: usize,
     pub length: usize,
-}
-
-fn stored_length(kind: TableKind, mark: u64) -> usize
-    ensures { λ r. ⌜ r ≡ storedLength kind mark ⌝ }
-{
-    match kind {
-        TableKind::Index => 512,
-        TableKind::Value => mark as usize,
-        TableKind::RefCount => 1024,
-    }
 }
 
 fn place_in(
@@ -44,7 +34,7 @@ fn place_in(
         Seat::Over(p) => Place {
             found: true,
             at: overlay::slot_size(kind) * p,
-            length: stored_length(kind, words[4 * p + 3]),
+            length: overlay::stored_length(kind, words[4 * p + 3]),
         },
         Seat::Next(_) => Place {
             found: false,

@@ -1,8 +1,8 @@
 -- What the end of a record means: the rules are kept, a lookup finds the list's entry first, and what is written is what `flush_to_file` writes.
--- Assumes nothing; `Sized` says that the arrays of the queues have the lengths that their types give them.
+-- Assumes nothing; `QueuesTyped` says that the arrays of the queues have the lengths that their types give them.
 use mathlib.Core.Path.{_≡_, refl, ap, _∙_}
 use mathlib.Core.Bool.{Bool, true, false}
-use mathlib.Core.List.{List, map}
+use mathlib.Core.List.{map}
 use mathlib.Core.Option.{some}
 use Prim.Native.Nat.{ℕ, _*_, _<_}
 use lib.ListN.{length, getD, take}
@@ -18,18 +18,16 @@ use Rattle.overlay.specs.Rules.{Overlay}
 use Rattle.overlay.specs.Entries.{entriesOf, findEntry, orElse}
 use Rattle.memory.specs.Parts.{spanOf, ofKind, partsKept, entryUnder}
 use Rattle.memory.specs.declared.span.Holder.the-variants as holder
-use Rattle.putting.specs.Listed.{columnOf, putListed, overlaysPut}
+use Rattle.putting.specs.Listed.{columnOf, putListed, listedEntry, listedEntries, overlaysPut}
 use Rattle.putting.proofs.Crowds.{each-free}
 use Rattle.putting.proofs.Kept.{all-kept, put-of}
 use Rattle.putting.proofs.LastIds as ids
 use Rattle.putting.proofs.Meaning as puts
-use Rattle.putting.proofs.OneKind.{kind-kept}
-use Rattle.putting.proofs.Puts.{listedEntry}
+use Rattle.memory.proofs.OneKind.{kind-kept}
 use Rattle.change.specs.Size.{recordSize}
 use Rattle.change.proofs.Rules.{kept-parts}
 use Rattle.writer.specs.Flush.{flushToFileKept, flushToFile}
-use Rattle.files.specs.Queues.{queuesKept}
-use Rattle.files.proofs.Rule.{Sized}
+use Rattle.files.specs.Queues.{queuesKept, QueuesTyped}
 use Rattle.files.proofs.KeepsRules.{take-file-kept}
 use Rattle.ending.specs.EndRecord.{Handed, endAnswer, isDone, endRecord}
 use Rattle.ending.proofs.Decided.{Accepted, accepted, list-kept, shared-kept}
@@ -47,29 +45,23 @@ module _ (d : Directory) (h : Handed) where
     as-flushed = rw (done, list-kept d h (a .kept), le-ltb (length (h .output)) (recordSize (h .list)) (a .fits))
 
     module _ (kind : TableKind) where
-      abbrev list : Overlay
-      list = ofKind kind (h .list .parts)
-
-      abbrev used : List ℕ
-      used = take (list .count) (list .order)
-
-      after : ofKind kind (endRecord d h .overlays .parts) ≡ putListed kind (h .list .id) list (ofKind kind (h .overlays .parts))
+      after : ofKind kind (endRecord d h .overlays .parts) ≡ putListed kind (h .list .id) (ofKind kind (h .list .parts)) (ofKind kind (h .overlays .parts))
       unfolding endRecord overlaysPut
       after = rw done (put-of kind (h .list .id) (h .list .parts) (h .overlays .parts))
 
       -- "puts each entry, id, mask and chunk, over the shared one; masks aren't joined there": first the list's, then what was there
-      pub found-ended : (x : ℕ) → entryUnder kind x (endRecord d h .overlays .parts) ≡ orElse (findEntry x (map (listedEntry kind (h .list .id) list) used)) (entryUnder kind x (h .overlays .parts))
+      pub found-ended : (x : ℕ) → entryUnder kind x (endRecord d h .overlays .parts) ≡ orElse (findEntry x (listedEntries kind (h .list .id) (ofKind kind (h .list .parts)))) (entryUnder kind x (h .overlays .parts))
       found-ended x =
           ap (λ (o : Overlay). findEntry x (entriesOf kind o)) after
-          ∙ puts.found-put kind (h .list .id) (spanOf holder.List kind .room) list (ofKind kind (h .overlays .parts)) (kind-kept holder.List kind (h .list .parts) (kept-parts d (h .list) (list-kept d h (a .kept))))
+          ∙ puts.found-put kind (h .list .id) (spanOf holder.List kind .room) (ofKind kind (h .list .parts)) (ofKind kind (h .overlays .parts)) (kind-kept holder.List kind (h .list .parts) (kept-parts d (h .list) (list-kept d h (a .kept))))
           (kind-kept holder.Shared kind (h .overlays .parts) (shared-kept d h (a .kept))) (each-free kind (h .list .parts) (h .overlays .parts) (a .free)) x
 
       -- the j-th listed key is found with the list's own mask and bytes, under the record's id
-      pub listed-found : (j : ℕ) → j < list .count
-          → entryUnder kind (keyAt (list .rows) (getD (list .order) j 0)) (endRecord d h .overlays .parts) ≡ some (listedEntry kind (h .list .id) list (getD (list .order) j 0))
+      pub listed-found : (j : ℕ) → j < ofKind kind (h .list .parts) .count
+          → entryUnder kind (keyAt (ofKind kind (h .list .parts) .rows) (getD (ofKind kind (h .list .parts) .order) j 0)) (endRecord d h .overlays .parts) ≡ some (listedEntry kind (h .list .id) (ofKind kind (h .list .parts)) (getD (ofKind kind (h .list .parts) .order) j 0))
       listed-found j i =
-          ap (λ (o : Overlay). findEntry (keyAt (list .rows) (getD (list .order) j 0)) (entriesOf kind o)) after
-          ∙ puts.listed-found kind (h .list .id) (spanOf holder.List kind .room) list (ofKind kind (h .overlays .parts)) (kind-kept holder.List kind (h .list .parts) (kept-parts d (h .list) (list-kept d h (a .kept))))
+          ap (λ (o : Overlay). findEntry (keyAt (ofKind kind (h .list .parts) .rows) (getD (ofKind kind (h .list .parts) .order) j 0)) (entriesOf kind o)) after
+          ∙ puts.listed-found kind (h .list .id) (spanOf holder.List kind .room) (ofKind kind (h .list .parts)) (ofKind kind (h .overlays .parts)) (kind-kept holder.List kind (h .list .parts) (kept-parts d (h .list) (list-kept d h (a .kept))))
           (kind-kept holder.Shared kind (h .overlays .parts) (shared-kept d h (a .kept))) (each-free kind (h .list .parts) (h .overlays .parts) (a .free)) j i
 
     -- "Only values set the column's last id.": a column's is the record's if a listed value is of it, else what it was
@@ -93,7 +85,7 @@ module _ (d : Directory) (h : Handed) where
       by false e = rw e k
 
   -- "each file in one place and below the next number, pool ascending and at most 16": so do the queues
-  pub queues-stay : Sized (h .queues) → queuesKept (h .queues) ≡ true → queuesKept (endRecord d h .queues) ≡ true
+  pub queues-stay : QueuesTyped (h .queues) → queuesKept (h .queues) ≡ true → queuesKept (endRecord d h .queues) ≡ true
   unfolding endRecord
   queues-stay z k = by (isDone (endAnswer d h)) refl
     where

@@ -39,7 +39,7 @@ use Rattle.writer.proofs.Sizes.{length-record}
 use Rattle.written.specs.Actions.{insertAt, inserts, allInserts, allDrops, listActions}
 use Rattle.written.proofs.Accepted.{accepted}
 use Rattle.written.proofs.Replayed.{output-is, replayed-done}
-use Rattle.putting.proofs.OneKind.{kind-kept}
+use Rattle.memory.proofs.OneKind.{kind-kept}
 use Rattle.putting.proofs.Places.{order-holds}
 use Rattle.ending.specs.EndRecord.{Handed, EndState, endAnswer, isDone, endRecord}
 use Rattle.ending.proofs.Decided as decided
@@ -115,11 +115,11 @@ module _
     l = h .list
 
     -- what the call leaves
-    abbrev pub left : EndState
+    abbrev left : EndState
     left = endRecord d h
 
     -- the record as it is read again
-    abbrev pub again : read.Again
+    abbrev again : read.Again
     again = record { id = l .id; actions = listActions l }
 
     taken : decided.Accepted d h
@@ -132,7 +132,7 @@ module _
     more = drop (length (recordOf l)) (h .output)
 
     -- "What `end_record` writes is what `flush_to_file` writes ..
-    pub as-flush-writes : left .output ≡ flushToFile d l (h .output) .output
+    pub as-flush-writes : endRecord d h .output ≡ flushToFile d (h .list) (h .output) .output
     as-flush-writes = as-flushed d h done
 
     record-first : left .output ≡ recordOf l ++ more
@@ -141,7 +141,7 @@ module _
     -- .. and what replay accepts": with the list's id it answers 0 and the length that `end_record` answered
     pub replay-accepts : (image : List ℕ)
         → length image ≡ imageLength d  -- any other gives 13
-        → replayedAs 0 (judged d (left .output) 0 (l .id) image) ≡ record { answer = Done; position = recordSize l }
+        → replayedAs 0 (judged d (endRecord d h .output) 0 (h .list .id) image) ≡ record { answer = Done; position = recordSize (h .list) }
     replay-accepts image long =
         ap (λ (log : List ℕ). replayedAs 0 (judged d log 0 (l .id) image)) record-first ∙ replayed-done d l more image kept words long
 
@@ -152,7 +152,8 @@ module _
         (accepted d l kept words [] more ∙ ap (walked (listActions l)) (zero-add (length (recordOf l)) ∙ length-record l (kept-ruled d l kept) words))
 
     -- `end_read` of those bytes, behind all its tests, takes them as the record of the list's id and actions, of that length
-    pub accepted-again : read.toClear d (left .output) 0 (left .overlays) (h .next) ≡ walked again (recordSize l)
+    pub accepted-again : read.toClear d (endRecord d h .output) 0 (endRecord d h .overlays) (h .next)
+        ≡ walked (record { id = h .list .id; actions = listActions (h .list) }) (recordSize (h .list))
     unfolding read.toClear
     accepted-again =
         if-true _ _ _
@@ -163,8 +164,8 @@ module _
 
     -- "After `end_record` and then `end_read` of its bytes, with nothing between, the overlays hold no key of the record": of no kind
     pub none-left : (kind : TableKind) (j : ℕ)
-        → j < ofKind kind (l .parts) .count  -- the j-th listed key of the kind
-        → entryUnder kind (keyAt (ofKind kind (l .parts) .rows) (getD (ofKind kind (l .parts) .order) j 0)) (read.endRead d (left .output) 0 (left .overlays) (h .next) .overlays .parts) ≡ none
+        → j < ofKind kind (h .list .parts) .count  -- the j-th listed key of the kind
+        → entryUnder kind (keyAt (ofKind kind (h .list .parts) .rows) (getD (ofKind kind (h .list .parts) .order) j 0)) (read.endRead d (endRecord d h .output) 0 (endRecord d h .overlays) (h .next) .overlays .parts) ≡ none
     none-left kind j i =
         ap (λ (g : Walked read.Again). entryUnder kind key (read.endReadBy 0 (left .overlays) (h .next) g .overlays .parts)) accepted-again
         ∙ own-cleared kind (l .id) key (listActions l) (left .overlays .parts) (shared-stays d h (decided.shared-kept d h (taken .kept))) _

@@ -43,7 +43,7 @@ module _ (o : LogOverlays) (words bytes : List ℕ) (q : Queues) (ok : partsKept
   emptied : partsKept holder.Shared (at noOverlays) ≡ true
   emptied = empty-kept holder.Shared words bytes (words-all holder.Shared (o .counts) words bytes ok) (bytes-all holder.Shared (o .counts) words bytes ok)
 
-  pub overlays-stay : partsKept holder.Shared (at (logsCleared o words bytes q .overlays)) ≡ true
+  pub overlays-stay : partsKept holder.Shared (partsOf holder.Shared (logsCleared o words bytes q .overlays .counts) words bytes) ≡ true
   overlays-stay = by (queuesKept q) refl
     where
       by : (b : Bool) → queuesKept q ≡ b → partsKept holder.Shared (at (logsCleared o words bytes q .overlays)) ≡ true

@@ -20,7 +20,7 @@ use Rattle.memory.specs.declared.span.Span.{Span}
 use Rattle.memory.proofs.Lent.{lentOf, lent-is}
 use Rattle.putting.specs.Listed.{keysHeld, passes, crowded}
 use Rattle.putting.specs.Inner.{KeysIn}
-use Rattle.putting.proofs.OneKind.{shared-room}
+use Rattle.memory.proofs.OneKind.{shared-room}
 
 -- the two parts of each, lent at once
 pub lacking-as : (room : ℕ) (words : List ℕ) (n list-room : ℕ) (listed : List ℕ) (m : ℕ)

@@ -17,7 +17,7 @@ use Rattle.memory.proofs.Lent.{fits, lentOf, lent-is, lent-kept}
 use Rattle.memory.proofs.Spans.{of-parts, with-kept}
 use Rattle.putting.specs.Listed.{passes, crowded, putListed, putKind, putAll, lastIdsPut, overlaysPut}
 use Rattle.putting.specs.Inner.{partsAt, overlaysAt, listPut, KindGoes, ListGoes}
-use Rattle.putting.proofs.OneKind.{kind-kept}
+use Rattle.memory.proofs.OneKind.{kind-kept}
 use Rattle.putting.proofs.Crowds.{each-free}
 use Rattle.putting.proofs.Meaning as meaning
 

@@ -1,8 +1,8 @@
 -- The laws, for other crates to cite.
 pub mod Crowds
-pub mod OneKind
 pub mod Kept
 pub mod LastIds
+pub mod Long
 pub mod Meaning
 pub mod Parts
 pub mod Places

@@ -24,10 +24,10 @@ use Rattle.overlay.proofs.Entries.{keyOf}
 use Rattle.overlay.proofs.Ruled.{shows}
 use Rattle.memory.specs.Parts.{spanOf}
 use Rattle.memory.specs.declared.span.Holder.the-variants as holder
-use Rattle.putting.specs.Listed.{passes, putPlace, putPlaces, putListed}
+use Rattle.putting.specs.Listed.{passes, putPlace, putPlaces, putListed, listedEntry, listedEntries}
 use Rattle.change.proofs.Listed.{Placed, placed}
 use Rattle.putting.proofs.Places.{order-holds}
-use Rattle.putting.proofs.Puts.{isSome, has-found, Going, listedEntry, found-placed, goes-on, going-first}
+use Rattle.putting.proofs.Puts.{isSome, has-found, Going, found-placed, goes-on, going-first}
 
 not-some : (v : Option Entry) → isSome v ≡ false → v ≡ none
 not-some none e = refl
@@ -102,7 +102,7 @@ module _ (kind : TableKind) (id room : ℕ) (list o : Overlay) (ok : overlayKept
   put-kept = all-kept kind id room list used places o going
 
   -- "puts each entry, id, mask and chunk, over the shared one; masks aren't joined there": first the list's, then what was there
-  pub found-put : (x : ℕ) → findEntry x (entriesOf kind (putListed kind id list o)) ≡ orElse (findEntry x (map (listedEntry kind id list) used)) (findEntry x (entriesOf kind o))
+  pub found-put : (x : ℕ) → findEntry x (entriesOf kind (putListed kind id list o)) ≡ orElse (findEntry x (listedEntries kind id list)) (findEntry x (entriesOf kind o))
   found-put = all-found kind id room list used places rises o going
 
   -- the j-th listed key is found with the list's own mask and bytes, under the record's id

@@ -19,7 +19,7 @@ use Rattle.memory.proofs.Spans.{lies, of-parts, words-all}
 use Rattle.memory.proofs.Stored.{part-long}
 use Rattle.putting.specs.Listed.{lastIdsPut}
 use Rattle.putting.specs.Inner.{partsAt, KeysIn, withLastIds}
-use Rattle.putting.proofs.OneKind.{kind-kept}
+use Rattle.memory.proofs.OneKind.{kind-kept}
 use Rattle.putting.proofs.Places.{keys-ruled}
 
 span-five : (h : Holder) (kind : TableKind) → spanOf h kind .«words_end» - spanOf h kind .«words_at» ≡ 5 * spanOf h kind .room

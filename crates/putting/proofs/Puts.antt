@@ -24,11 +24,11 @@ use Rattle.overlay.proofs.Ruled.{Kept, shows}
 use Rattle.memory.specs.Parts.{Parts, spanOf, ofKind, withKind, partsKept, Takes}
 use Rattle.memory.specs.declared.span.Holder.the-variants as holder
 use Rattle.memory.proofs.Spans.{with-kept}
-use Rattle.putting.specs.Listed.{keysHeld, passes, storedAt, putPlace, putPlaces}
+use Rattle.putting.specs.Listed.{keysHeld, passes, storedAt, putPlace, putPlaces, listedEntry}
 use Rattle.putting.specs.Inner.{rowAt, placePut, listPut, RowGoes, KindGoes}
 use Rattle.putting.specs.declared.place.ListedRow.{ListedRow}
 use Rattle.change.proofs.Listed.{Placed, placed}
-use Rattle.putting.proofs.OneKind.{of-with, with-with, with-of, kind-kept, shared-room}
+use Rattle.memory.proofs.OneKind.{of-with, with-with, with-of, kind-kept, shared-room}
 use Rattle.putting.proofs.Places.{order-word, order-holds, bytes-long, bytes-fit, table-small, row-goes, row-put}
 
 -- whether a lookup finds something
@@ -69,10 +69,6 @@ counted k s t l n m e f = by (has k s) e
 pub record Going (kind : TableKind) (rows ps : List ℕ) (o : Overlay) : Type 0 where
   pub kept : overlayKept kind (spanOf holder.Shared kind .room) o ≡ true
   pub room : o .count + news (keysHeld o) (map (keyAt rows) ps) ≤ 256
-
--- what the list has of the key in place p
-abbrev pub listedEntry : TableKind → ℕ → Overlay → ℕ → Entry
-listedEntry kind id list p = record { key = keyAt (list .rows) p; id = id; mark = markAt (list .rows) p; bytes = storedAt kind list p }
 
 module _ (kind : TableKind) (list : Overlay) (ps : List ℕ) (p : ℕ) (o : Overlay) (g : Going kind (list .rows) (p ∷ ps) o) where
   abbrev key : ℕ

@@ -1,7 +1,7 @@
 -- What a list's entries do to the shared overlays and to the last ids at the end of a record (document 01, "Change lists and overlays"; log.rs
 -- lines 870 to 886).
 use mathlib.Core.Bool.{Bool, _||_}
-use mathlib.Core.List.{List, [], _∷_}
+use mathlib.Core.List.{List, [], _∷_, map}
 use Prim.Native.Nat.{ℕ, _+_, _*_}
 use lib.Dec.{ltb}
 use lib.ListN.{getD, take, drop, set}
@@ -11,9 +11,10 @@ use Rattle.directory.specs.declared.table.TableKind.the-variants.{Index, Value,
 use Rattle.directory.specs.declared.directory.Directory.{Directory}
 use Rattle.directory.specs.declared.directory.Found.{Found}
 use Rattle.directory.specs.declared.directory.Found.the-variants.{At, Nothing}
-use Rattle.keys.specs.Keys.{markAt, keysOf, news}
+use Rattle.keys.specs.Keys.{keyAt, markAt, keysOf, news}
 use Rattle.overlay.specs.Rules.{Overlay, slotSize, storedLength}
 use Rattle.overlay.specs.Overlay.{putOver}
+use Rattle.overlay.specs.Entries.{Entry}
 use Rattle.memory.specs.Parts.{Parts, ofKind, withKind}
 use Rattle.memory.specs.Overlays.{Overlays}
 
@@ -55,6 +56,14 @@ putKind kind id list shared = withKind kind shared (putListed kind id (ofKind ki
 -- all of a list: no kind touches another's
 abbrev pub putAll : ℕ → Parts → Parts → Parts
 putAll id list shared = putKind RefCount id list (putKind Value id list (putKind Index id list shared))
+
+-- what the list has of the key in place p, under the record's id
+abbrev pub listedEntry : TableKind → ℕ → Overlay → ℕ → Entry
+listedEntry kind id list p = record { key = keyAt (list .rows) p; id = id; mark = markAt (list .rows) p; bytes = storedAt kind list p }
+
+-- and of each of its keys, in their order
+abbrev pub listedEntries : TableKind → ℕ → Overlay → List Entry
+listedEntries kind id list = map (listedEntry kind id list) (take (list .count) (list .order))
 
 -- the column of a value table
 abbrev pub columnOf : Found → ℕ

@@ -1,26 +1,13 @@
 // The entries of one kind of a list, put over the shared ones: log.rs lines 874, 880 and 885.
 ghost use mathlib.Core.Path.{_≡_};
-ghost use mathlib.Core.Bool.{true};
 ghost use Prim.Native.Nat.{_+_, _*_, _<_, _≤_};
 ghost use lib.ListN.{length, getD};
-ghost use Rattle.overlay.specs.Rules.{storedLength, markRuled, overlayOf};
+ghost use Rattle.overlay.specs.Rules.{overlayOf};
 ghost use Rattle.memory.specs.declared.span.Holder.the-variants.{Shared};
 ghost use Rattle.putting.specs.Inner.{partsAt, rowAt, placePut, listPut, RowGoes, KindGoes};
 use directory::TableKind;
 use memory::Counts;
 use memory::Holder;
-
-// The bytes of an entry: a chunk's, or as many as its mark says.
-fn stored_length(kind: TableKind, mark: u64) -> usize
-    requires { ⌜ markRuled kind mark ≡ true ⌝ }
-    ensures { λ r. ⌜ (r ≡ storedLength kind mark) × (r ≤ 1024) ⌝ }
-{
-    match kind {
-        TableKind::Index => 512,
-        TableKind::Value => mark as usize,
-        TableKind::RefCount => 1024,
-    }
-}
 
 // What the list says of a place.
 pub struct ListedRow {
@@ -57,7 +44,7 @@ fn put_place(
         ≡ placePut kind id row (now (stored .entry)) p (partsAt holder counts (now (words .entry)) (now (bytes .entry))) ⌝ }
 {
     let from = overlay::slot_size(kind) * p;
-    let to = from + stored_length(kind, row.mark);
+    let to = from + overlay::stored_length(kind, row.mark);
     memory::put_in(
         holder,
         kind,

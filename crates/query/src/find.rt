@@ -2,20 +2,10 @@
 ghost use mathlib.Core.Path.{_≡_};
 ghost use mathlib.Core.Bool.{true};
 ghost use Rattle.keys.specs.Keys.{rank};
-ghost use Rattle.overlay.specs.Rules.{storedLength, overlayOf, overlayKept};
+ghost use Rattle.overlay.specs.Rules.{overlayOf, overlayKept};
 ghost use Rattle.query.specs.Inner.{foundIn};
 use directory::TableKind;
 use overlay::Seat;
-
-fn stored_length(kind: TableKind, mark: u64) -> usize
-    ensures { λ r. ⌜ r ≡ storedLength kind mark ⌝ }
-{
-    match kind {
-        TableKind::Index => 512,
-        TableKind::Value => mark as usize,
-        TableKind::RefCount => 1024,
-    }
-}
 
 pub(crate) fn find_in<'a>(
     kind: TableKind,
@@ -32,7 +22,7 @@ pub(crate) fn find_in<'a>(
     match overlay::seat_of(room, words, n, table as u64, index) {
         Seat::Over(p) => {
             let a = overlay::slot_size(kind) * p;
-            let e = a + stored_length(kind, words[4 * p + 3]);
+            let e = a + overlay::stored_length(kind, words[4 * p + 3]);
             &bytes[a..e]
         }
         Seat::Next(_) => &bytes[0..0],

@@ -25,10 +25,10 @@ use Rattle.overlay.specs.Rules.{Overlay, slotSize, storedLength}
 use Rattle.overlay.specs.Entries.{Entry, entryAt, entriesOf, findEntry}
 use Rattle.memory.specs.Parts.{ofKind}
 use Rattle.change.specs.Change.{Change, changeKept}
-use Rattle.change.specs.Insert.{markOf, planIn, inserted}
+use Rattle.change.specs.Insert.{markOf, planIn, inserted, newEntry}
 use Rattle.change.specs.declared.plans.Plan.the-variants.{Go}
 use Rattle.change.proofs.Kept.{insert-kept}
-use Rattle.change.proofs.Meaning.{newEntry, insert-lookup}
+use Rattle.change.proofs.Meaning.{insert-lookup}
 use Rattle.writer.specs.Typed.{Typed}
 use Rattle.written.specs.Tables.{placesOf, droppedOf, tableAt, indexAt, placeMark, startUnder, keyStart, imageLeft, Width, eight, sixteen}
 use Rattle.written.proofs.Lists.{has-more, not-none}
@@ -136,7 +136,7 @@ module _
     after = inserted kind d l number index sub bytes .change
 
     abbrev entry : Entry
-    entry = newEntry kind d l kept number index sub bytes old go
+    entry = newEntry kind l number index sub bytes
 
     here : findEntry (rank number index) (entriesOf kind (ofKind kind (after .parts))) ≡ some entry
     here = insert-lookup kind d l kept number index sub bytes old go (rank number index) ∙ if-true _ _ _ (eq-eqb (rank number index) (rank number index) refl)
@@ -146,8 +146,10 @@ module _
     names sixteen m = bit-set m sub
 
     -- A slot that was inserted, written and replayed stands in the tables.
-    pub inserted-slot : {w : ℕ} → Width kind w → Typed after → sub < 64 → has number (droppedOf kind after) ≡ false → (j : ℕ) → j < w
-        → getD (imageLeft d after more image) (startUnder d kind number index + sub * w + j) 0 ≡ getD bytes (sub * w + j) 0
+    pub inserted-slot : {w : ℕ} → Width kind w
+        → (let after : Change = inserted kind d l number index sub bytes .change in
+        Typed after → sub < 64 → has number (droppedOf kind after) ≡ false → (j : ℕ) → j < w
+        → getD (imageLeft d after more image) (startUnder d kind number index + sub * w + j) 0 ≡ getD bytes (sub * w + j) 0)
     inserted-slot width words low free j h =
         entry-slot d after more image (insert-kept kind d l kept number index sub bytes small) words long number index word width entry here free sub j low (names width _) h
 

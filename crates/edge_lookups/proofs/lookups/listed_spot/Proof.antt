@@ -9,37 +9,25 @@ use Rattle.edge_lookups.specs.Lookups.{listedSpot}
 use borrow.Author.Needs.{needs}
 use Rattle.edge_lookups.proofs.lookups.listed_spot.Statement.{statement}
 use Rattle.edge_lookups.proofs.lookups.listed_spot.Tie as tie
-use Rattle.edge_lookups.proofs.lookups.listed_spot.Reads as reads
-use Rattle.edge_lookups.proofs.lookups.listed_spot.Lts as lts
-use Rattle.change.proofs.change.LogChange.ruled.Reads as ruled-reads
-use Rattle.edge_lookups.proofs.lookups.listed_spot_kept.Reads as listed-spot-kept-reads
-use Rattle.edge_lookups.proofs.lookups.no_spot.Reads as no-spot-reads
-use Rattle.edge_lookups.proofs.lookups.shared_kept.Reads as shared-kept-reads
 
--- src/lookups.rt:166:9
 ruled-requires : tie.Need-ruled-requires
 ruled-requires c κs = search needs
 
--- src/lookups.rt:167:9
 no-spot-requires : tie.Need-no-spot-requires
 no-spot-requires c κs = search needs
 
--- src/lookups.rt:167:9
 returns : tie.Need-returns
 unfolding listedSpot
 returns c =
     let e = sym (c .before .before .ruled .ensures) ∙ not-true _ (c .before .if1 .taken) in
     rw e (c .no-spot .ensures)
 
--- src/lookups.rt:169:9
 shared-kept-requires : tie.Need-shared-kept-requires
 shared-kept-requires c κs = search needs
 
--- src/lookups.rt:170:9
 no-spot-requires-2 : tie.Need-no-spot-requires-2
 no-spot-requires-2 c κs = search needs
 
--- src/lookups.rt:170:9
 returns-2 : tie.Need-returns-2
 unfolding listedSpot
 returns-2 c =
@@ -47,11 +35,9 @@ returns-2 c =
     let f = sym (c .before .before .shared-kept .ensures) ∙ not-true _ (c .before .if2 .taken) in
     rw (e, f) (c .no-spot2 .ensures)
 
--- src/lookups.rt:172:5
 listed-spot-kept-requires : tie.Need-listed-spot-kept-requires
 listed-spot-kept-requires c κs = (sym (c .before .before .before .ruled .ensures) ∙ not-false _ (c .before .before .if1 .left), sym (c .before .shared-kept .ensures) ∙ not-false _ (c .if2 .left))
 
--- src/lookups.rt:153:1
 returns-3 : tie.Need-returns-3
 unfolding listedSpot
 returns-3 c =

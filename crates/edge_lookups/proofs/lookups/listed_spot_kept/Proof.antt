@@ -9,23 +9,16 @@ use Rattle.edge_lookups.proofs.Places.{Ready, all-ready}
 use borrow.Author.Needs.{needs}
 use Rattle.edge_lookups.proofs.lookups.listed_spot_kept.Statement.{statement}
 use Rattle.edge_lookups.proofs.lookups.listed_spot_kept.Tie as tie
-use Rattle.edge_lookups.proofs.lookups.listed_spot_kept.Reads as reads
-use Rattle.edge_lookups.proofs.lookups.listed_spot_kept.Lts as lts
-use Rattle.edge_lookups.proofs.lookups.shared_spot_kept.Reads as shared-spot-kept-reads
-use Rattle.edge_lookups.proofs.lookups.spot_in.Reads as spot-in-reads
 
--- src/lookups.rt:132:9
 shared-spot-kept-requires : tie.Need-shared-spot-kept-requires
 shared-spot-kept-requires c κs = c .before .before .before .before .pre .1
 
--- src/lookups.rt:134:5
 spot-in-requires : tie.Need-spot-in-requires
 spot-in-requires c κs =
     let a = c .before .before .before .before .before .before .args in
     let k = all-ready holder.List (a .kind) (a .list .counts) (a .items .now) (a .chunks .now) (ruled-parts (changeOf (a .list) (a .items .now) (a .chunks .now)) (c .before .before .before .before .before .before .pre .0)) in
     (k .words-long, k .bytes-long, k .rules)
 
--- src/lookups.rt:118:1
 returns : tie.Need-returns
 returns c =
     let a = c .before .before .before .before .before .before .before .args in

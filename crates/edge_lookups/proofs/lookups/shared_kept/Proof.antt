@@ -3,23 +3,16 @@ use Rattle.edge_lookups.proofs.Places.{shared-words, shared-bytes, shar
 use borrow.Author.Needs.{needs}
 use Rattle.edge_lookups.proofs.lookups.shared_kept.Statement.{statement}
 use Rattle.edge_lookups.proofs.lookups.shared_kept.Tie as tie
-use Rattle.edge_lookups.proofs.lookups.shared_kept.Reads as reads
-use Rattle.edge_lookups.proofs.lookups.shared_kept.Lts as lts
-use Rattle.memory.proofs.kept_in.Reads as kept-in-reads
 
--- src/lookups.rt:85:9
 returns : tie.Need-returns
 returns c = shared-words _ _ _ _ (c .if1 .taken)
 
--- src/lookups.rt:88:9
 returns-2 : tie.Need-returns-2
 returns-2 c = shared-bytes _ _ _ _ (c .before .if1 .left) (c .if2 .taken)
 
--- src/lookups.rt:90:5
 kept-in-requires : tie.Need-kept-in-requires
 kept-in-requires c κs = search needs
 
--- src/lookups.rt:81:1
 returns-3 : tie.Need-returns-3
 returns-3 c = shared-rest _ _ _ _ (c .before .before .if1 .left) (c .before .if2 .left) _ (c .kept-in .ensures)
 

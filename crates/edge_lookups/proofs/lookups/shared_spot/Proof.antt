@@ -6,30 +6,20 @@ use Rattle.edge_lookups.specs.Lookups.{sharedSpot}
 use borrow.Author.Needs.{needs}
 use Rattle.edge_lookups.proofs.lookups.shared_spot.Statement.{statement}
 use Rattle.edge_lookups.proofs.lookups.shared_spot.Tie as tie
-use Rattle.edge_lookups.proofs.lookups.shared_spot.Reads as reads
-use Rattle.edge_lookups.proofs.lookups.shared_spot.Lts as lts
-use Rattle.edge_lookups.proofs.lookups.no_spot.Reads as no-spot-reads
-use Rattle.edge_lookups.proofs.lookups.shared_kept.Reads as shared-kept-reads
-use Rattle.edge_lookups.proofs.lookups.shared_spot_kept.Reads as shared-spot-kept-reads
 
--- src/lookups.rt:147:9
 shared-kept-requires : tie.Need-shared-kept-requires
 shared-kept-requires c κs = search needs
 
--- src/lookups.rt:148:9
 no-spot-requires : tie.Need-no-spot-requires
 no-spot-requires c κs = search needs
 
--- src/lookups.rt:148:9
 returns : tie.Need-returns
 unfolding sharedSpot
 returns c = c .no-spot .ensures ∙ sym (if-false _ _ _ (sym (c .before .before .shared-kept .ensures) ∙ not-true _ (c .before .if1 .taken)))
 
--- src/lookups.rt:150:5
 shared-spot-kept-requires : tie.Need-shared-spot-kept-requires
 shared-spot-kept-requires c κs = sym (c .before .shared-kept .ensures) ∙ not-false _ (c .if1 .left)
 
--- src/lookups.rt:137:1
 returns-2 : tie.Need-returns-2
 unfolding sharedSpot
 returns-2 c = c .shared-spot-kept .ensures ∙ sym (if-true _ _ _ (sym (c .before .before .shared-kept .ensures) ∙ not-false _ (c .before .if1 .left)))

@@ -8,20 +8,13 @@ use Rattle.edge_lookups.proofs.Places.{Ready, shared-ready}
 use borrow.Author.Needs.{needs}
 use Rattle.edge_lookups.proofs.lookups.shared_spot_kept.Statement.{statement}
 use Rattle.edge_lookups.proofs.lookups.shared_spot_kept.Tie as tie
-use Rattle.edge_lookups.proofs.lookups.shared_spot_kept.Reads as reads
-use Rattle.edge_lookups.proofs.lookups.shared_spot_kept.Lts as lts
-use Rattle.edge_lookups.proofs.lookups.no_spot.Reads as no-spot-reads
-use Rattle.edge_lookups.proofs.lookups.spot_in.Reads as spot-in-reads
 
--- src/lookups.rt:105:9
 no-spot-requires : tie.Need-no-spot-requires
 no-spot-requires c κs = search needs
 
--- src/lookups.rt:106:5
 spot-in-requires : tie.Need-spot-in-requires
 spot-in-requires c κs = let k = shared-ready _ _ _ _ (c .before .before .before .pre) in (k .words-long, k .bytes-long, k .rules)
 
--- src/lookups.rt:94:1
 returns : tie.Need-returns
 returns c = c .spot-in .ensures ∙ ap (spottedIn holder.Shared (c .before .before .before .before .args .kind) (c .before .before .before .before .args .counts) (c .before .before .before .before .args .words .now) (c .before .before .before .before .args .bytes .now) (rank (c .before .before .before .before .args .table) (c .before .before .before .before .args .index))) (c .before .no-spot .ensures)
 

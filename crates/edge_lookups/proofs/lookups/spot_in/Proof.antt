@@ -10,34 +10,23 @@ use Rattle.edge_lookups.proofs.Places.{span-low, bytes-low, spot-none, 
 use borrow.Author.Needs.{needs}
 use Rattle.edge_lookups.proofs.lookups.spot_in.Statement.{statement}
 use Rattle.edge_lookups.proofs.lookups.spot_in.Tie as tie
-use Rattle.edge_lookups.proofs.lookups.spot_in.Reads as reads
-use Rattle.edge_lookups.proofs.lookups.spot_in.Lts as lts
-use Rattle.edge_lookups.proofs.lookups.memory_number.Reads as memory-number-reads
-use Rattle.edge_lookups.proofs.place.place_of.Reads as place-of-reads
-use Rattle.memory.proofs.span_of.Reads as span-of-reads
 
--- src/lookups.rt:68:9
 place-of-requires : tie.Need-place-of-requires
 place-of-requires c κs = search needs
 
--- src/lookups.rt:70:9
 returns : tie.Need-returns
 unfolding spottedIn
 returns c = spot-none (c .before .before .before .before .before .args .holder) (c .before .before .before .before .before .args .kind) (c .before .before .place-of .result) _ (c .before .before .place-of .ensures .0) (c .before .before .before .before .before .args .otherwise) (not-true _ (c .if1 .taken))
 
--- src/lookups.rt:72:9
 span-of-requires : tie.Need-span-of-requires
 span-of-requires c κs = search needs
 
--- src/lookups.rt:75:17
 memory-number-requires : tie.Need-memory-number-requires
 memory-number-requires c κs = search needs
 
--- src/lookups.rt:76:16
 add-t14 : tie.Need-add-t14
 add-t14 c = omega (arith, c .before .before .before .before .before .before .place-of .ensures .1, c .before .before .before .before .before .before .before .before .before .pre .1, bytes-low (c .before .before .before .before .before .before .before .before .before .args .holder), span-low (c .before .before .before .before .before .before .before .before .before .args .holder) (c .before .before .before .before .before .before .before .before .before .args .kind), ap (λ (s : Span). s .«bytes_at») (c .before .before .before .span-of .ensures))
 
--- src/lookups.rt:55:1
 returns-2 : tie.Need-returns-2
 unfolding spottedIn
 returns-2 c =

@@ -17,11 +17,6 @@ use Rattle.edge_lookups.proofs.Places.{place-over, place-none}
 use borrow.Author.Needs.{needs}
 use Rattle.edge_lookups.proofs.place.place_in.Statement.{statement}
 use Rattle.edge_lookups.proofs.place.place_in.Tie as tie
-use Rattle.edge_lookups.proofs.place.place_in.Reads as reads
-use Rattle.edge_lookups.proofs.place.place_in.Lts as lts
-use Rattle.edge_lookups.proofs.place.stored_length.Reads as stored-length-reads
-use Rattle.overlay.proofs.slot_size.Reads as slot-size-reads
-use Rattle.overlay.proofs.seat_of.Reads as seat-of-reads
 
 module _ (s : tie.Start) where
   abbrev over : Overlay
@@ -49,47 +44,36 @@ module _ (c : tie.After-known-told) where
   at : FoundAt (s .args .kind) (s .args .room) (over s) (s .pre) (key s) (c .before .p .given .0 .0)
   at = found (s .args .kind) (s .args .room) (over s) (s .pre) (key s) (c .before .p .given .0 .0) seat
 
--- src/place.rt:43:11
 seat-of-requires : tie.Need-seat-of-requires
 seat-of-requires c κs = let k = known (c .before .before) in (long (c .before .before), k .fits, k .in-order)
 
--- src/place.rt:44:20
 enum-known-p : tie.Need-enum-known-p
 enum-known-p c = search needs
 
--- src/place.rt:46:17
 slot-size-requires : tie.Need-slot-size-requires
 slot-size-requires c κs = search needs
 
--- src/place.rt:46:17
 mul-t13 : tie.Need-mul-t13
 mul-t13 c = rw (c .slot-size .ensures .0) (omega (arith, at (c .before) .at .stored))
 
--- src/place.rt:47:47
 mul-stored-length : tie.Need-mul-stored-length
 mul-stored-length c = omega (arith, at (c .before) .at .low, long (c .before .before .before .before .before .before .before))
 
--- src/place.rt:47:47
 add-stored-length : tie.Need-add-stored-length
 add-stored-length c = omega (arith, at (c .before) .at .low, long (c .before .before .before .before .before .before .before))
 
--- src/place.rt:47:41
 mul-stored-length-2 : tie.Need-mul-stored-length-2
 mul-stored-length-2 c = omega (arith, at (c .before) .at .low, long (c .before .before .before .before .before .before .before))
 
--- src/place.rt:47:41
 shared-slice-read-stored-length : tie.Need-shared-slice-read-stored-length
 shared-slice-read-stored-length c = omega (arith, at (c .before .before) .at .low, long (c .before .before .before .before .before .before .before .before))
 
--- src/place.rt:47:21
 stored-length-requires : tie.Need-stored-length-requires
 stored-length-requires c κs = search needs
 
--- src/place.rt:49:26
 enum-told : tie.Need-enum-told
 enum-told c = search needs
 
--- src/place.rt:31:1
 returns : tie.Need-returns
 returns c =
     let a = c .before .before .before .before .before .before .before .before .before .args in
@@ -99,7 +83,6 @@ returns c =
       rw (c .before .before .slot-size .ensures .0) (omega (arith, f .at .stored)),
     )
 
--- src/place.rt:31:1
 returns-2 : tie.Need-returns-2
 returns-2 c =
     (place-none (c .before .before .before .before .before .args .kind) (over (c .before .before .before .before .before)) (key (c .before .before .before .before .before)) (c .enum-told .given .0 .0) (sym (c .before .before .seat-of .ensures ∙ seat-is (c .before .before .before .before .before)) ∙ c .enum-told .given .1), omega arith)

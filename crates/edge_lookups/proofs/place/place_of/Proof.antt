@@ -12,55 +12,39 @@ use Rattle.edge_lookups.proofs.Places.{part-le}
 use borrow.Author.Needs.{needs}
 use Rattle.edge_lookups.proofs.place.place_of.Statement.{statement}
 use Rattle.edge_lookups.proofs.place.place_of.Tie as tie
-use Rattle.edge_lookups.proofs.place.place_of.Reads as reads
-use Rattle.edge_lookups.proofs.place.place_of.Lts as lts
-use Rattle.edge_lookups.proofs.place.place_in.Reads as place-in-reads
-use Rattle.memory.proofs.counts.Counts.of.Reads as of-reads
-use Rattle.memory.proofs.span_of.Reads as span-of-reads
 
--- src/place.rt:70:9
 span-of-requires : tie.Need-span-of-requires
 span-of-requires c κs = search needs
 
--- src/place.rt:78:9
 mul-place-in : tie.Need-mul-place-in
 mul-place-in c = let l = fits (c .before .before .before .args .holder) (c .before .before .before .args .kind) (c .span-of .result) (c .span-of .ensures) in omega (arith, l .words-rise, l .words-in, l .words-most)
 
--- src/place.rt:78:9
 sub-place-in : tie.Need-sub-place-in
 sub-place-in c = fits (c .before .before .before .args .holder) (c .before .before .before .args .kind) (c .span-of .result) (c .span-of .ensures) .words-rise
 
--- src/place.rt:78:9
 part-place-in-start : tie.Need-part-place-in-start
 part-place-in-start c = fits (c .before .before .before .args .holder) (c .before .before .before .args .kind) (c .span-of .result) (c .span-of .ensures) .words-rise
 
--- src/place.rt:78:9
 part-place-in-end : tie.Need-part-place-in-end
 part-place-in-end c = omega (arith, fits (c .before .before .before .args .holder) (c .before .before .before .args .kind) (c .span-of .result) (c .span-of .ensures) .words-in, c .before .before .before .pre .0)
 
--- src/place.rt:79:9
 sub-place-in-2 : tie.Need-sub-place-in-2
 sub-place-in-2 c = fits (c .before .before .before .before .args .holder) (c .before .before .before .before .args .kind) (c .before .span-of .result) (c .before .span-of .ensures) .bytes-rise
 
--- src/place.rt:79:9
 part-place-in-start-2 : tie.Need-part-place-in-start-2
 part-place-in-start-2 c = fits (c .before .before .before .before .args .holder) (c .before .before .before .before .args .kind) (c .before .span-of .result) (c .before .span-of .ensures) .bytes-rise
 
--- src/place.rt:79:9
 part-place-in-end-2 : tie.Need-part-place-in-end-2
 part-place-in-end-2 c = omega (arith, fits (c .before .before .before .before .args .holder) (c .before .before .before .before .args .kind) (c .before .span-of .result) (c .before .span-of .ensures) .bytes-in, c .before .before .before .before .pre .1)
 
--- src/place.rt:80:9
 of-requires : tie.Need-of-requires
 of-requires c κs = search needs
 
--- src/place.rt:75:5
 place-in-requires : tie.Need-place-in-requires
 place-in-requires c κs =
     let a = c .before .before .before .before .before .before .args in
     kept-as (a .holder) (a .kind) (a .counts) (now (a .words)) (now (a .bytes)) (c .before .before .before .span-of .result) (c .before .before .before .span-of .ensures) (c .of .result) (c .of .ensures) ∙ c .before .before .before .before .before .before .pre .2
 
--- src/place.rt:58:1
 returns : tie.Need-returns
 returns c =
     let a = c .before .before .before .before .before .before .before .args in

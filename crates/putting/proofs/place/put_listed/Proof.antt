@@ -10,7 +10,7 @@ use Rattle.overlay.proofs.Parts.{words-long}
 use Rattle.overlay.proofs.Ruled.{shows}
 use Rattle.memory.specs.declared.span.Holder.the-variants.{Shared}
 use Rattle.putting.specs.Inner.{partsAt, listPut}
-use Rattle.putting.proofs.OneKind.{at-words, at-bytes}
+use Rattle.putting.proofs.Long.{at-words, at-bytes}
 use Rattle.putting.proofs.Puts.{Left, left-first, left-done, turn-place, turn-small, turn-goes, turn-next}
 use Rattle.putting.proofs.place.put_listed.Statement.{statement}
 use Rattle.putting.proofs.place.put_listed.Tie as tie

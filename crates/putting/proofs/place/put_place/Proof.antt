@@ -23,7 +23,7 @@ stored-length-requires : tie.Need-stored-length-requires
 stored-length-requires c κs = search needs
 
 add-to : tie.Need-add-to
-add-to c = let a = c .before .before .before .before .before .args in omega (arith, part-lies (a .holder) (a .kind) (a .row) (now (a .stored)) (a .p) (shared (c .before .before .before .before .before)) (c .before .before .before .before .before .pre) (c .before .slot-size .result) (c .stored-length .result) (c .before .slot-size .ensures .0) (c .stored-length .ensures .0))
+add-to c = let a = c .before .before .before .before .before .args in omega (arith, part-lies (a .holder) (a .kind) (a .row) (now (a .stored)) (a .p) (shared (c .before .before .before .before .before)) (c .before .before .before .before .before .pre) (c .before .slot-size .result) (c .stored-length .result) (c .before .slot-size .ensures .0) (c .stored-length .ensures))
 
 sub-put-in : tie.Need-sub-put-in
 sub-put-in c = search needs
@@ -32,13 +32,13 @@ part-put-in-start : tie.Need-part-put-in-start
 part-put-in-start c = search needs
 
 part-put-in-end : tie.Need-part-put-in-end
-part-put-in-end c = let a = c .before .before .before .before .before .before .before .args in part-lies (a .holder) (a .kind) (a .row) (now (a .stored)) (a .p) (shared (c .before .before .before .before .before .before .before)) (c .before .before .before .before .before .before .before .pre) (c .before .before .before .slot-size .result) (c .before .before .stored-length .result) (c .before .before .before .slot-size .ensures .0) (c .before .before .stored-length .ensures .0)
+part-put-in-end c = let a = c .before .before .before .before .before .before .before .args in part-lies (a .holder) (a .kind) (a .row) (now (a .stored)) (a .p) (shared (c .before .before .before .before .before .before .before)) (c .before .before .before .before .before .before .before .pre) (c .before .before .before .slot-size .result) (c .before .before .stored-length .result) (c .before .before .before .slot-size .ensures .0) (c .before .before .stored-length .ensures)
 
 put-in-requires : tie.Need-put-in-requires
 unfolding partsAt
 put-in-requires c κs =
     let a = c .before .before .before .before .before .before .before .before .args in
-    (c .before .before .before .before .before .before .before .before .pre .kept, part-fits (a .holder) (a .kind) (a .row) (now (a .stored)) (a .p) (shared (c .before .before .before .before .before .before .before .before)) (c .before .before .before .before .before .before .before .before .pre) (c .before .before .before .before .slot-size .result) (c .before .before .before .stored-length .result) (c .before .before .before .before .slot-size .ensures .0) (c .before .before .before .stored-length .ensures .0), c .before .before .before .before .before .before .before .before .pre .takes)
+    (c .before .before .before .before .before .before .before .before .pre .kept, part-fits (a .holder) (a .kind) (a .row) (now (a .stored)) (a .p) (shared (c .before .before .before .before .before .before .before .before)) (c .before .before .before .before .before .before .before .before .pre) (c .before .before .before .before .slot-size .result) (c .before .before .before .stored-length .result) (c .before .before .before .before .slot-size .ensures .0) (c .before .before .before .stored-length .ensures), c .before .before .before .before .before .before .before .before .pre .takes)
 
 same-length : tie.Need-same-length
 same-length c = search needs
@@ -50,7 +50,7 @@ returns : tie.Need-returns
 unfolding partsAt
 returns c =
     let a = c .before .before .before .before .before .before .before .before .before .before .before .before .before .args in
-    part-put (a .holder) (a .kind) (a .row) (now (a .stored)) (a .p) (shared (c .before .before .before .before .before .before .before .before .before .before .before .before .before)) (c .before .before .before .before .before .before .before .before .before .before .before .before .before .pre) (c .before .before .before .before .before .before .before .before .before .slot-size .result) (c .before .before .before .before .before .before .before .before .stored-length .result) (c .before .before .before .before .before .before .before .before .before .slot-size .ensures .0) (c .before .before .before .before .before .before .before .before .stored-length .ensures .0) (a .id) _ _ (c .before .before .before .before .put-in .ensures) refl
+    part-put (a .holder) (a .kind) (a .row) (now (a .stored)) (a .p) (shared (c .before .before .before .before .before .before .before .before .before .before .before .before .before)) (c .before .before .before .before .before .before .before .before .before .before .before .before .before .pre) (c .before .before .before .before .before .before .before .before .before .slot-size .result) (c .before .before .before .before .before .before .before .before .stored-length .result) (c .before .before .before .before .before .before .before .before .before .slot-size .ensures .0) (c .before .before .before .before .before .before .before .before .stored-length .ensures) (a .id) _ _ (c .before .before .before .before .put-in .ensures) refl
 
 pub put-place-spec : {M : Type 1} → statement M
 put-place-spec =

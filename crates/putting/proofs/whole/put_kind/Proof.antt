@@ -5,7 +5,7 @@ use Rattle.memory.specs.Parts.{Parts}
 use Rattle.putting.specs.Inner.{partsAt}
 use Rattle.memory.specs.declared.span.Holder.the-variants.{Shared, List}
 use Rattle.memory.proofs.Lent.{fits}
-use Rattle.putting.proofs.OneKind.{at-words, at-bytes}
+use Rattle.putting.proofs.Long.{at-words, at-bytes}
 use Rattle.putting.proofs.Kept.{kind-goes, kind-put}
 use borrow.Author.Needs.{needs}
 use Rattle.putting.proofs.whole.put_kind.Statement.{statement}

@@ -1,18 +1,13 @@
 -- One kind of three changed: what it then is, what the others are, and what the rules of all say of it. Assumes nothing.
 use mathlib.Core.Path.{_≡_, refl}
 use mathlib.Core.Bool.{true}
-use mathlib.Core.List.{List}
-use Prim.Native.Nat.{ℕ}
-use lib.ListN.{length}
 use Rattle.directory.specs.declared.table.TableKind.{TableKind}
 use Rattle.directory.specs.declared.table.TableKind.the-variants.{Index, Value, RefCount}
 use Rattle.overlay.specs.Rules.{Overlay, overlayKept}
-use Rattle.memory.specs.Parts.{Parts, spanOf, wordsAll, bytesAll, ofKind, withKind, partsKept}
+use Rattle.memory.specs.Parts.{Parts, spanOf, ofKind, withKind, partsKept}
 use Rattle.memory.specs.declared.span.Holder.{Holder}
 use Rattle.memory.specs.declared.span.Holder.the-variants as holder
-use Rattle.memory.specs.declared.counts.Counts.{Counts}
-use Rattle.memory.proofs.Spans.{all-shows, words-all, bytes-all}
-use Rattle.putting.specs.Inner.{partsAt}
+use Rattle.memory.proofs.Spans.{all-shows}
 
 pub of-with : (kind : TableKind) (p : Parts) (o : Overlay) → ofKind kind (withKind kind p o) ≡ o
 of-with Index p o = refl
@@ -37,11 +32,3 @@ pub shared-room : (kind : TableKind) → spanOf holder.Shared kind .room ≡ 256
 shared-room Index = refl
 shared-room Value = refl
 shared-room RefCount = refl
-
-pub at-words : (h : Holder) (c : Counts) (words bytes : List ℕ) → partsKept h (partsAt h c words bytes) ≡ true → length words ≡ wordsAll h
-unfolding partsAt
-at-words h c words bytes ok = words-all h c words bytes ok
-
-pub at-bytes : (h : Holder) (c : Counts) (words bytes : List ℕ) → partsKept h (partsAt h c words bytes) ≡ true → length bytes ≡ bytesAll h
-unfolding partsAt
-at-bytes h c words bytes ok = bytes-all h c words bytes ok
