@@ -6,4 +6,5 @@ pub use window::Outcome;
 pub use window::ROOM;
 pub use window::Stop;
 pub use window::fill;
+pub use window::move_front;
 pub use window::replay_file;

@@ -61,7 +61,7 @@ pub fn fill(file: i32, buffer: &mut [u8], from: usize) -> Filled
 }
 
 // Moves the bytes behind a place to the front. Answers how many they are.
-fn move_front(window: &mut [u8; ROOM], from: usize, held: usize) -> usize
+pub fn move_front(window: &mut [u8; ROOM], from: usize, held: usize) -> usize
     requires { ⌜ held ≤ 2097152 ⌝ }
     ensures { λ r. ⌜ r ≤ 2097152 ⌝ }
 {

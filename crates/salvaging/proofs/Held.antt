@@ -50,6 +50,18 @@ up-bytes l to = by (ltb (l .end) to) refl
     by true q = ap (λ (x : Lines). x .bytes) (if-true (ltb (l .end) to) _ _ q) ∙ with-bytes l (0 ∷ l .end ∷ (to - l .end) ∷ 0 ∷ [])
     by false q = ap (λ (x : Lines). x .bytes) (if-false (ltb (l .end) to) _ _ q)
 
+up-end : (l : Lines) (to : ℕ) → upTo l to .end ≡ l .end
+up-end l to = by (ltb (l .end) to) refl (ltb (l .count) 64) refl
+  where
+    by : (b : Bool) → ltb (l .end) to ≡ b → (c : Bool) → ltb (l .count) 64 ≡ c → upTo l to .end ≡ l .end
+    by true q true r = rw (q, r)
+    by true q false r = rw (q, r)
+    by false q c r = rw q
+
+-- what is passed over changes neither
+pub up-same : (l r : Lines) (to : ℕ) → r ≡ upTo l to → (r ≡ upTo l to) × (r .end ≡ l .end) × (r .bytes ≡ l .bytes)
+up-same l r to e = (e, ap (λ (x : Lines). x .end) e ∙ up-end l to, ap (λ (x : Lines). x .bytes) e ∙ up-bytes l to)
+
 -- the bytes of a record are added to those before it
 pub record-bytes : (l : Lines) (from end id : ℕ) → withRecord l from end id .bytes ≡ l .bytes + (end - from)
 record-bytes l from end id =

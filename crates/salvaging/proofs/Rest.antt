@@ -18,7 +18,7 @@ use Rattle.salvaging.specs.declared.search.Found.{Found}
 use Rattle.salvaging.specs.declared.search.Search.{Search}
 use Rattle.salvaging.specs.declared.search.Search.the-variants.{Record, Open, Nothing}
 use Rattle.salvaging.proofs.Held.{Held, record-bytes, up-bytes, stretch-held, record-held, held-all, held-over}
-use Rattle.salvaging.proofs.Seeking.{first-found, none-found, none-open}
+use Rattle.salvaging.proofs.Seeking.{inside-record, first-found, none-found, none-open}
 
 -- what is left out has no bytes in the output
 out-bytes : (log : List ℕ) (at to : ℕ) (ls : List Line) → keptBytes log (leftOut at to ls) ≡ keptBytes log ls
@@ -66,7 +66,7 @@ module _ (d : Directory) (log : List ℕ) where
   -- by what the search from there on answers
   module _ (l : Lines) (at : ℕ) (r : Rest l at) (s : Search) (e : s ≡ searchIn false d log at) (i : Inside s at (length log)) where
     pub record-inside : (f : Found) → s ≡ Record f → (at ≤ f .position) × (f .position < f .end) × (f .end ≤ length log)
-    record-inside f q = rw q at i
+    record-inside f q = inside-record s at (length log) i f q
 
     pub record-room : (f : Found) → s ≡ Record f → (Ruled l) × (l .end ≤ f .position) × (f .position ≤ f .end)
     record-room f q =

@@ -106,6 +106,14 @@ module _ (more : Bool) (d : Directory) (log : List ℕ) where
       seek-on : isOpen more x ≡ false → searchIn more d log at ≡ searchIn more d log (at + 1)
       seek-on b = refused ∙ if-false (isOpen more x) _ _ b
 
+-- what was seen, by what it is
+module _ (s : Search) (at room : ℕ) (i : Inside s at room) where
+  pub inside-record : (f : Found) → s ≡ Record f → (at ≤ f .position) × (f .position < f .end) × (f .end ≤ room)
+  inside-record f q = rw q at i
+
+  pub inside-open : (p : ℕ) → s ≡ Open p → (at ≤ p) × (p < room)
+  inside-open p q = rw q at i
+
 -- where a record that was found ends
 module _ (d : Directory) (log : List ℕ) (at : ℕ) where
   whole-inside : (w : WholeRecord) → Whole w ≡ here d log at → (at < w .end) × (w .end ≤ length log)

@@ -49,7 +49,7 @@ impl Lines {
 
     // What lies before a position and wasn't kept is lost.
     pub fn up_to(self, position: u64) -> Lines
-        ensures { λ r. ⌜ r ≡ upTo self position ⌝ }
+        ensures { λ r. ⌜ (r ≡ upTo self position) × (r .end ≡ self .end) × (r .bytes ≡ self .bytes) ⌝ }
     {
         if self.end < position {
             self.with(0, self.end, position - self.end, 0)
@@ -61,7 +61,7 @@ impl Lines {
     // A record is kept.
     pub fn with_record(self, position: u64, end: u64, id: u64) -> Lines
         requires { ⌜ (Ruled self) × (self .end ≤ position) × (position ≤ end) ⌝ }
-        ensures { λ r. ⌜ (r ≡ withRecord self position end id) × Ruled r ⌝ }
+        ensures { λ r. ⌜ (r ≡ withRecord self position end id) × (r .end ≡ end) × Ruled r ⌝ }
     {
         let length = end - position;
         let mut after = self.up_to(position).with(1, position, length, id);

@@ -79,7 +79,7 @@ returns-3 c =
     let a = c .before .before .before .before .before .before .before .args in
     let l = c .before .before .before .before .loop in
     let s = c .before .before .before .search-kept in
-    rest-last (a .d) (now (a .log)) (l .lines) (l .at) (l .inv) (s .result) (s .ensures .0) (s .ensures .1) (c .before .enum-told2 .given .1) (c .up-to2 .result) (c .up-to2 .ensures)
+    rest-last (a .d) (now (a .log)) (l .lines) (l .at) (l .inv) (s .result) (s .ensures .0) (s .ensures .1) (c .before .enum-told2 .given .1) (c .up-to2 .result) (c .up-to2 .ensures .0)
 
 pub lines-of-spec : {M : Type 1} → statement M
 lines-of-spec =

@@ -1,5 +1,5 @@
 -- `with_record` meets its contract. Assumes nothing.
-use mathlib.Core.Path.{_≡_, ap, _∙_}
+use mathlib.Core.Path.{_≡_, refl, ap, _∙_}
 use mathlib.Core.List.{[], _∷_}
 use Prim.Native.Nat.{_-_}
 use native.Mathlib.Omega.{arith}
@@ -25,7 +25,7 @@ added : (c : tie.After-with) → covering (c .with .result) (c .before .before .
 added c =
     let a = c .before .before .args in
     ap (λ (x : Lines). covering x (a .end) (a .end - a .position))
-    (c .with .ensures ∙ ap (λ (x : Lines). withWords x (1 ∷ a .position ∷ (a .end - a .position) ∷ a .id ∷ [])) (c .before .up-to .ensures))
+    (c .with .ensures ∙ ap (λ (x : Lines). withWords x (1 ∷ a .position ∷ (a .end - a .position) ∷ a .id ∷ [])) (c .before .up-to .ensures .0))
 
 add-after : tie.Need-add-after
 add-after c =
@@ -36,7 +36,7 @@ returns : tie.Need-returns
 returns c =
     let a = c .before .before .before .args in
     let e = added (c .before) in
-    (e, omega (arith, ap (λ (x : Lines). x .bytes) e, record-bytes (a .self) (a .position) (a .end) (a .id), c .before .before .before .pre))
+    (e, refl, omega (arith, ap (λ (x : Lines). x .bytes) e, record-bytes (a .self) (a .position) (a .end) (a .id), c .before .before .before .pre))
 
 pub with-record-spec : {M : Type 1} → statement M
 with-record-spec = tie.close (tie.spec sub-length up-to-requires with-requires add-after returns)
