@@ -124,9 +124,7 @@ impl Image {
     /// Replays the record at a position, which must have the expected id: checked to its end, then applied. The position
     /// behind it. A refusal changes no byte.
     pub fn replay(&mut self, log: &[u8], position: usize, expected: u64) -> Result<usize, Error> {
-        self.bytes
-            .replay(log, position, expected)
-            .map_err(|(answer, fault)| Error::refused_at(answer, fault))
+        self.bytes.replay(log, position, expected).map_err(|(answer, fault)| Error::refused_at(answer, fault))
     }
 
     /// Replays a record that was handed out, whatever its id.

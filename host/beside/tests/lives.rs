@@ -60,3 +60,9 @@ fn replay() {
 fn steps() {
     try_part(Part::Steps, 1, 20_000);
 }
+
+/// Where each reading is at fault.
+#[test]
+fn places() {
+    try_part(Part::Places, 1, 4_000);
+}

@@ -16,6 +16,8 @@ pub struct ByTypes {
     overlays: Option<Overlays>,
     queues: Option<Queues>,
     next: Option<NonZeroU64>,
+    /// The place of the last refusal of a call that reads, where the types made that call.
+    place: Option<Option<u64>>,
 }
 
 /// A chain of steps through one log: where it starts, whether it validates, how many steps it has.
@@ -41,6 +43,7 @@ impl ByTypes {
             overlays: Some(Overlays::new()),
             queues: Some(Queues::new()),
             next: Some(NonZeroU64::MIN),
+            place: Some(None),
         }
     }
 
@@ -48,6 +51,9 @@ impl ByTypes {
     pub fn answer(&mut self, command: &[u8]) -> Option<Vec<u8>> {
         let mut fields = Fields(&command[1..]);
         let f = &mut fields;
+        if matches!(command[0], 0x0b..=0x0e | 0x13) {
+            self.place = None;
+        }
         match command[0] {
             0x01 => {
                 self.directory = directory_of(&tables_in(command));
@@ -72,6 +78,7 @@ impl ByTypes {
             0x11..=0x13 | 0x18 | 0x1c | 0x20 => self.answer_of_log(command[0], f),
             0x14..=0x17 | 0x19 | 0x1f => self.answer_of_queues(command[0], f),
             0x1a | 0x1b | 0x1d | 0x1e | 0x22 => self.answer_of_overlays(command[0], f),
+            0x30 => Some(Row::of(self.place?.is_some().into()).number(self.place?.unwrap_or(0), 8).0),
             _ => None,
         }
     }
@@ -91,6 +98,7 @@ impl ByTypes {
         }
         let before = reader.offset();
         let step = reader.step();
+        self.place = Some(step.as_ref().err().and_then(Error::position));
         if let Err(error) = step {
             assert_eq!(error.position(), Some(before as u64));
             return Some(vec![error.number()? as u8]);
@@ -114,9 +122,11 @@ impl ByTypes {
         };
         let answer = if opcode == 0x0d {
             let replayed = image.replay(&self.log, position, expected);
+            self.place = Some(replayed.as_ref().err().and_then(Error::position));
             Row::of(number(&replayed)).number(replayed.unwrap_or(position) as u64, 8).0
         } else {
             let ran = image.run(&self.log, position, expected);
+            self.place = Some(Some(ran.fault));
             Row::of(ran.answer.number()).number(ran.position, 8).number(ran.count, 8).0
         };
         self.image = image.into_bytes();
@@ -237,6 +247,7 @@ impl ByTypes {
             return None;
         };
         let cleared = overlays.end_read(self.directory.as_ref()?, &self.log, position, next);
+        self.place = Some(cleared.as_ref().err().and_then(Error::position));
         let row = Row::of(number(&cleared));
         let (end, id) = cleared.unwrap_or((position, 0));
         Some(row.number(end as u64, 8).number(id, 8).0)

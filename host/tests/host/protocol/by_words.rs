@@ -15,6 +15,8 @@ pub struct ByWords {
     overlays: Keys,
     queues: Vec<u64>,
     next: u64,
+    /// The place of the last refusal of a call that reads; none after one that was done.
+    place: Option<u64>,
 }
 
 /// A list or the overlays: head and two memories. The counts stand at a place of the head.
@@ -73,6 +75,7 @@ impl ByWords {
             overlays: Keys::overlays(),
             queues: vec![0; QUEUES_WORDS],
             next: 1,
+            place: None,
         };
         hongsathep_reader_new(&mut words.reader, 0, false);
         hongsathep_list_new(&mut words.list.head, 1);
@@ -106,6 +109,7 @@ impl ByWords {
             0x11..=0x13 | 0x18 | 0x1c | 0x20 => self.answer_of_log(command[0], f),
             0x14..=0x17 | 0x19 | 0x1f => self.answer_of_queues(command[0], f),
             0x1a | 0x1b | 0x1d | 0x1e | 0x22 => self.answer_of_overlays(command[0], f),
+            0x30 => Row::of(self.place.is_some().into()).number(self.place.unwrap_or(0), 8).0,
             // The form in which a directory is handed on: here it is always words.
             0xf1 => vec![0],
             _ => vec![0xff],
@@ -128,11 +132,13 @@ impl ByWords {
             0x0d => {
                 let (position, expected) = (f.number(8) as usize, f.number(8));
                 let answer = hongsathep_replay(tables, log, position, expected, image, &mut end, &mut fault);
+                self.place = (answer != 0).then_some(fault);
                 Row::of(answer).number(end, 8).0
             }
             0x0e => {
                 let (position, expected) = (f.number(8) as usize, f.number(8));
                 let answer = hongsathep_run(tables, log, position, expected, image, &mut end, &mut count, &mut fault);
+                self.place = (answer != 0).then_some(fault);
                 Row::of(answer).number(end, 8).number(count, 8).0
             }
             _ => Row::default().number(image.len() as u64, 4).number(hongsathep_checksum(image).into(), 4).0,
@@ -143,6 +149,7 @@ impl ByWords {
         let [mut tag, mut table, mut index, mut start, mut length, mut fault] = [0; 6];
         let (a, b, c, d, e) = (&mut tag, &mut table, &mut index, &mut start, &mut length);
         let answer = hongsathep_next(&self.tables, &self.log, &mut self.reader, a, b, c, d, e, &mut fault);
+        self.place = (answer != 0).then_some(fault);
         if answer != 0 {
             return vec![answer as u8];
         }
@@ -255,6 +262,7 @@ impl ByWords {
                 let (h, w, b) = (&mut o.head, &mut o.words, &mut o.bytes);
                 let (e, i, at) = (&mut end, &mut id, &mut fault);
                 let answer = hongsathep_end_read(&self.tables, &self.log, position, h, w, b, next, e, i, at);
+                self.place = (answer != 0).then_some(fault);
                 Row::of(answer).number(end, 8).number(id, 8).0
             }
             0x18 => {
