@@ -2,6 +2,7 @@
 //! that forms can follow each other in any order.
 
 mod beside;
+mod checkers;
 mod directories;
 mod forging;
 mod lists;
@@ -99,6 +100,7 @@ fn forms_of(part: Part) -> (Vec<Form>, usize) {
         Part::Lists => (lists::FORMS.to_vec(), 1_000),
         Part::Queues => (queues::FORMS.to_vec(), 2_000),
         Part::Lives => (lives::FORMS.to_vec(), 400),
+        Part::Checker => (checkers::FORMS.to_vec(), 300),
         Part::Salvage => (salvages::FORMS.to_vec(), 400),
         Part::Places => ([&places::FORMS[..], &replays::FORMS, &steps::FORMS].concat(), 500),
     }

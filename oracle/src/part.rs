@@ -14,10 +14,11 @@ pub enum Part {
     Lives,
     Places,
     Salvage,
+    Checker,
 }
 
 impl Part {
-    pub const ALL: [Part; 7] = [
+    pub const ALL: [Part; 8] = [
         Part::Steps,
         Part::Replay,
         Part::Lists,
@@ -25,6 +26,7 @@ impl Part {
         Part::Lives,
         Part::Places,
         Part::Salvage,
+        Part::Checker,
     ];
 
     /// Document 01's. Those of document 02 come only by name.
@@ -40,6 +42,7 @@ impl Part {
             Part::Lives => "lives",
             Part::Places => "places",
             Part::Salvage => "salvage",
+            Part::Checker => "checker",
         }
     }
 
@@ -71,6 +74,7 @@ impl Part {
             op::END => &[Part::Lives, Part::Lists, Part::Queues],
             op::WHERE => &[Part::Places, Part::Steps, Part::Lives],
             op::SALVAGE => &[Part::Salvage],
+            op::CHECK_NEW | op::PIECE | op::CLOSE => &[Part::Checker],
             _ => &[],
         }
     }
@@ -96,6 +100,7 @@ impl Part {
         match self {
             Part::Steps => command[0] == op::STEP_AT,
             Part::Replay | Part::Places | Part::Salvage => false,
+            Part::Checker => command[0] == op::CHECK_NEW,
             Part::Lists => command[0] == op::NEWLIST,
             Part::Queues => opened || command[0] == op::FORGE_QUEUES,
             Part::Lives => opened,
@@ -112,6 +117,7 @@ impl Part {
             Part::Places => command[0] == op::DIR,
             // Nothing is kept from one to the next.
             Part::Salvage => command[0] == op::SALVAGE,
+            Part::Checker => command[0] == op::CHECK_NEW,
             Part::Lists => command[0] == op::NEWLIST,
             // An OPEN of some files may be refused, and then leaves what was before.
             Part::Queues => command[0] == op::FORGE_QUEUES || command == OPEN_NOTHING,

@@ -40,6 +40,9 @@ pub mod op {
     pub const FORGE_DROP: u8 = 0x24;
     /// From here on the calls of document 02.
     pub const WHERE: u8 = 0x30;
+    pub const CHECK_NEW: u8 = 0x36;
+    pub const PIECE: u8 = 0x37;
+    pub const CLOSE: u8 = 0x38;
     pub const SALVAGE: u8 = 0x39;
     /// Additions to the protocol: docs/ORACLE.md.
     pub const WRITE: u8 = 0xf0;

@@ -1,5 +1,6 @@
 //! Answers the run protocol out of log.rs: one state, and one function for each opcode.
 
+mod checker;
 mod clearing;
 mod ending;
 mod entries;
@@ -16,7 +17,9 @@ mod state;
 mod step;
 mod writing;
 
-use self::{image::Image, list::List, log_file::LogFile, state::State, step::Cursor};
+use self::{
+    checker::Checker, image::Image, list::List, log_file::LogFile, state::State, step::Cursor,
+};
 use crate::{
     directory::Directory,
     protocol::{number, op, Fields, NOT_DRIVEN},
@@ -32,6 +35,7 @@ pub struct Driver {
     state: State,
     /// Where the last reading is at fault, if it was refused.
     fault_at: Option<u64>,
+    checker: Checker,
 }
 
 impl Driver {
@@ -44,6 +48,7 @@ impl Driver {
             list: List::new(1),
             state: State::new()?,
             fault_at: None,
+            checker: Checker::new(Directory::default(), 1)?,
         })
     }
 
@@ -87,6 +92,9 @@ impl Driver {
             op::LIST_SUM => self.list.sum(),
             op::FORGE_DROP => self.forge_drop(&mut fields),
             op::WHERE => self.place_of_the_fault(),
+            op::CHECK_NEW => self.check_new(&mut fields),
+            op::PIECE => self.piece(&mut fields),
+            op::CLOSE => self.close(),
             op::SALVAGE => self.salvage(&mut fields),
             op::WRITE => self.write(&mut fields),
             // The Rust has no directory, and so no form of one.

@@ -97,6 +97,19 @@ fn salvage() {
 }
 
 #[test]
+fn checker() {
+    let faults = [
+        Fault::DecidesOnTheTableAlone,
+        Fault::CutsBeforeTheClose,
+        Fault::EachPieceByItself,
+        Fault::TakesBehindTheClose,
+        Fault::DirectoryOfTheHost,
+        Fault::LooksBehindTheDecision,
+    ];
+    try_part(Part::Checker, &faults);
+}
+
+#[test]
 fn queues() {
     let faults = [
         Fault::NumbersBeforeRoom,

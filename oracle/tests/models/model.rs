@@ -1,6 +1,7 @@
 //! A stand-in for the port, written from document 01 and the run protocol without a look at log.rs
 //! or the driver. It can be given a fault, to see that a comparison finds it.
 
+mod checker;
 mod directory;
 mod ends;
 mod lists;
@@ -11,6 +12,7 @@ mod salvage;
 mod steps;
 mod writer;
 
+use checker::Checker;
 use directory::Table;
 use lists::List;
 use overlays::Overlays;
@@ -88,6 +90,12 @@ pub enum Fault {
     SalvagesUnchecked,
     IdsMustRise,
     SalvagesWhatFits,
+    DecidesOnTheTableAlone,
+    CutsBeforeTheClose,
+    EachPieceByItself,
+    TakesBehindTheClose,
+    DirectoryOfTheHost,
+    LooksBehindTheDecision,
 }
 
 pub struct Model {
@@ -101,6 +109,7 @@ pub struct Model {
     cursor: Cursor,
     /// Where the last reading is at fault, if it was refused.
     fault_at: Option<u64>,
+    checker: Checker,
 }
 
 impl Model {
@@ -115,6 +124,7 @@ impl Model {
             queues: Queues::new(),
             cursor: Cursor::default(),
             fault_at: None,
+            checker: Checker::new(Vec::new(), 1),
         }
     }
 
@@ -150,6 +160,7 @@ impl Model {
             0x11..=0x13 | 0x20 => self.answer_of_records(command[0], &mut take),
             0x1a | 0x1b | 0x1d | 0x1e | 0x22 => self.answer_of_overlays(command[0], &mut take),
             0x0b | 0x0c => self.step(command[0], &mut take),
+            0x36..=0x38 => self.answer_of_checker(command[0], &mut take),
             0x39 => self.salvage(take.number(4) as usize),
             0x30 => {
                 let mut answer = vec![u8::from(self.fault_at.is_some())];

@@ -2,6 +2,7 @@
 
 use super::Take;
 
+#[derive(Clone)]
 pub struct Table {
     /// 0 index, 1 value, 2 reference count.
     pub kind: u8,

@@ -1,6 +1,6 @@
 //! 01, "The opening of a record" and "Replay".
 
-use super::{checksum, directory, number, Fault, Model};
+use super::{checksum, directory, directory::Table, number, Fault, Model};
 use std::ops::Range;
 
 /// What is read of a record, up to its end or to what refuses it.
@@ -116,7 +116,7 @@ impl Model {
                 let behind = u64::from(self.has(Fault::BehindTheTag));
                 record.fault_at = position + at as u64 + behind;
             }
-            let action = self.action(log, at)?;
+            let action = self.action(&self.directory, log, at)?;
             if action.tag == 4 {
                 if number(&log[action.payload.clone()]) != u64::from(checksum(&log[..=at])) {
                     return Err(8);
@@ -131,7 +131,7 @@ impl Model {
 
     /// The action whose tag stands at a place inside a record. What its checksum should be is the
     /// caller's to test.
-    pub fn action(&self, log: &[u8], at: usize) -> Result<Action, u8> {
+    pub fn action(&self, tables: &[Table], log: &[u8], at: usize) -> Result<Action, u8> {
         // So many bytes from a place on, or 2.
         let part = |at: usize, length: usize| log.get(at..at + length).ok_or(2);
         let tag = part(at, 1)?[0];
@@ -151,7 +151,7 @@ impl Model {
         };
         let key = part(at + 1, fixed)?;
         let start = at + 1 + fixed;
-        let (_, table) = directory::find(&self.directory, kind, number(&key[..2])).ok_or(6)?;
+        let (_, table) = directory::find(tables, kind, number(&key[..2])).ok_or(6)?;
         let (kind, number_of_table) = (kind as usize, table.number);
         if fixed == 2 {
             let payload = start..start;

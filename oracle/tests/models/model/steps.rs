@@ -46,7 +46,7 @@ impl Model {
             let answer = told(1, [0, 0, id, 0, 0, position + 9]);
             return Ok((answer, self.moved(&rest[..9], validate, true)));
         }
-        let action = self.action(rest, 0)?;
+        let action = self.action(&self.directory, rest, 0)?;
         let read = &rest[..action.behind()];
         let behind = position + read.len() as u64;
         if action.tag == 4 {
