@@ -25,7 +25,7 @@ pub struct Setting {
     folder: String,
 }
 
-/// MB, how many rounds, a folder that is made and removed, and which sections by their digits: all if none are named.
+/// MB, how many rounds, a folder that is made and removed, and which sections: all if none are named.
 pub fn run(args: &[String]) {
     crate::table_id::INDEX.register(1, 0);
     crate::table_id::VALUE.register(2, 1);
@@ -33,26 +33,25 @@ pub fn run(args: &[String]) {
     let [mb, rounds, folder] = &args[..3] else { panic!("MB, ROUNDS and FOLDER") };
     let setting =
         Setting { bytes: mb.parse::<usize>().unwrap() * 1_000_000, folder: folder.clone() };
-    let sections: [(&str, fn(&Setting, &mut Figures)); 9] = [
-        ("1. checksum, MB/s", checksums::rows),
-        ("2. reading, MB/s", reading::rows),
-        ("3. replay into an image, MB/s", replaying::rows),
-        ("4. inserts, ns each", inserting::rows),
-        ("5. flush_to_file, a list of 17 inserts, ns", writing::rows),
-        ("6. end_record, end_read and lookups, ns", |setting, f| {
-            ending::rows(setting, f);
-            clearing::rows(setting, f);
-            looking::rows(setting, f);
-        }),
-        ("7. a file's life (taken, flushed, read, ended, cleaned), ns", files::rows),
-        ("8. growth", growing::rows),
-        ("9. through the exported functions, states as words, ns", exported::rows),
+    let sections: [(&str, fn(&Setting, &mut Figures)); 11] = [
+        ("checksum, MB/s", checksums::rows),
+        ("reading, MB/s", reading::rows),
+        ("replay into an image, MB/s", replaying::rows),
+        ("inserts, ns each", inserting::rows),
+        ("flush_to_file, a list of 17 inserts, ns", writing::rows),
+        ("end_record, ns", ending::rows),
+        ("end_read, ns", clearing::rows),
+        ("lookups, ns", looking::rows),
+        ("a file's life (taken, flushed, read, ended, cleaned), ns", files::rows),
+        ("growth", growing::rows),
+        ("through the exported functions, states as words, ns", exported::rows),
     ];
     let mut figures = Figures::default();
     for _ in 0..rounds.parse().unwrap() {
-        for (name, rows) in sections {
-            if args.get(3).map_or(true, |wanted| wanted.contains(&name[..1])) {
-                figures.section(name);
+        for (n, (name, rows)) in (1..).zip(sections) {
+            let number = n.to_string();
+            if args.get(3).map_or(true, |wanted| wanted.split(',').any(|w| w == number)) {
+                figures.section(&format!("{number}. {name}"));
                 rows(&setting, &mut figures);
             }
         }

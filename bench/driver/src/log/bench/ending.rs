@@ -9,24 +9,30 @@ use super::{host, Setting};
 
 const TIMES: u64 = 1000;
 
-/// Seconds of one `end_record` where so many keys of each kind are shared.
-pub fn ours(tables: &[u64], l: &mut Listed, keys: usize, door: Door) -> f64 {
-    let start = Shared::with(keys);
+/// Seconds of one `end_record` where so many keys of each kind are shared, and the lists have keys of those.
+pub fn ours(tables: &[u64], keys: u64, door: Door) -> f64 {
+    let mut l = Listed::over(keys);
+    let start = Shared::with(keys as usize);
     let mut s = start.clone();
     let mut out = vec![0u8; 60_000];
-    best_of(|| {
-        s.set(&start);
-        seconds(|| l.end(tables, &mut s, door, &mut out, TIMES))
-    }) / TIMES as f64
+    let mut go = |times| {
+        best_of(|| {
+            s.set(&start);
+            seconds(|| l.end(tables, &mut s, door, &mut out, times))
+        })
+    };
+    let filling = go(1);
+    (go(TIMES + 1) - filling) / TIMES as f64
 }
 
 /// The same of log.rs, into /dev/null.
-pub fn rust(setting: &Setting, keys: u64, data: &[u8]) -> f64 {
+pub fn rust(setting: &Setting, keys: u64) -> f64 {
+    let l = Listed::over(keys);
     host::place(&setting.folder, &[]);
     let log = host::open(&setting.folder);
-    host::fill_shared(&log, keys, data);
+    host::fill_shared(&log, keys, &l.data);
     best_of(|| {
-        let lists = lists(&log.overlays, 7, |_| 0, data, TIMES);
+        let lists = lists(&log.overlays, 7, &l, TIMES);
         host::append_nowhere(&log);
         seconds(|| {
             for list in lists {
@@ -38,7 +44,7 @@ pub fn rust(setting: &Setting, keys: u64, data: &[u8]) -> f64 {
 }
 
 /// Begun, 17 inserts, ended, up to 256 keys of a kind: seconds a record.
-fn whole(setting: &Setting, data: &[u8]) -> f64 {
+fn whole(setting: &Setting, l: &Listed) -> f64 {
     host::place(&setting.folder, &[]);
     let log = host::open(&setting.folder);
     best_of(|| {
@@ -48,7 +54,7 @@ fn whole(setting: &Setting, data: &[u8]) -> f64 {
         seconds(|| {
             for n in 0..TIMES {
                 let mut w = log.begin_record();
-                host::fill(&mut w, n, data);
+                host::fill(&mut w, n, l);
                 log.end_record(w.drain()).unwrap();
             }
         })
@@ -58,12 +64,12 @@ fn whole(setting: &Setting, data: &[u8]) -> f64 {
 pub fn rows(setting: &Setting, f: &mut Figures) {
     let t = Tables::three().words();
     let mut l = Listed::new();
-    let alone = rust(setting, 100, &l.data) * 1e9;
-    let begun = whole(setting, &l.data) * 1e9;
+    let alone = rust(setting, 100) * 1e9;
+    let begun = whole(setting, &l) * 1e9;
     for (door, name) in DOORS {
         f.time(
             &format!("end_record, 100 keys of each kind shared{name} (Rust: into /dev/null)"),
-            ours(&t, &mut l, 100, door) * 1e9,
+            ours(&t, 100, door) * 1e9,
             alone,
         );
     }

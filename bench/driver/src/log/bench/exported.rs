@@ -2,7 +2,8 @@
 use super::super::*;
 use super::figures::{best, best_of, seconds, Figures};
 use super::host::value_table;
-use super::made::RECORD;
+use super::looking::{keys, rust_each};
+use super::made::{key, RECORD};
 use super::port::{lent, open, Door, Listed, Shared, DOORS, S};
 use super::tables::{Tables, VALUE};
 use super::{ending, host, Setting};
@@ -138,15 +139,26 @@ fn fill(tables: &[u64], list: &mut [u64], l: &mut Listed, n: u64, door: Door) ->
     unsafe {
         hongsathep_list_new(list, n + 1);
         for k in 0..4 {
-            let i = (n * 4 + k) % 256;
+            let i = key(&l.places, n, 4 * n + k);
             answers += insert_index(tables, list, items, chunks, 1, i, (n % 64) as u8, index_data);
             answers +=
                 insert_index(tables, list, items, chunks, 1, i, ((n + 7) % 64) as u8, index_data);
         }
         for k in 0..8 {
-            answers += insert_value(tables, list, items, chunks, 2, (n * 8 + k) % 256, value);
+            answers +=
+                insert_value(tables, list, items, chunks, 2, key(&l.places, n, 8 * n + k), value);
         }
-        answers + insert_count(tables, list, items, chunks, 3, n % 256, (n % 64) as u8, count_data)
+        answers
+            + insert_count(
+                tables,
+                list,
+                items,
+                chunks,
+                3,
+                key(&l.places, n, n),
+                (n % 64) as u8,
+                count_data,
+            )
     }
 }
 
@@ -162,7 +174,7 @@ fn inserts(f: &mut Figures) {
         * best(|| {
             for n in 0..LISTS {
                 let mut w = LogWriter::new(&overlays, n + 1);
-                host::fill(&mut w, n, &l.data);
+                host::fill(&mut w, n, &l);
                 black_box(w.drain());
             }
         });
@@ -178,65 +190,52 @@ fn lookups(setting: &Setting, f: &mut Figures) {
     host::place(&setting.folder, &[]);
     let log = host::open(&setting.folder);
     host::fill_shared(&log, 255, &Listed::new().data);
-    let times = 20_000;
-    let each = 1e9 / times as f64;
-    let rust = each
-        * best(|| {
-            (0..times).for_each(|i| {
-                assert!(black_box(log.overlays().value_ref(value_table(), black_box(i * 97 % 255)))
-                    .is_some())
-            })
-        });
+    let keys = keys(0, 255);
+    let rust = rust_each(&keys, |k| {
+        assert!(black_box(log.overlays().value_ref(value_table(), k)).is_some())
+    });
+    let (head, words, bytes) = (&lent(&s.head), &lent(&s.words), &lent(&s.bytes));
     for (door, name) in DOORS {
         let lookup = if door == Door::Kept { hongsathep_lookup_kept } else { hongsathep_lookup };
-        let (head, words, bytes) = (&lent(&s.head), &lent(&s.words), &lent(&s.bytes));
-        let ours = best(|| {
-            for i in 0..times {
-                let (mut memory, mut place, mut length) = (0, 0, 0);
-                let a = unsafe {
-                    lookup(
-                        1,
-                        head,
-                        words,
-                        bytes,
-                        2,
-                        black_box(i * 97 % 255),
-                        &mut memory,
-                        &mut place,
-                        &mut length,
-                    )
-                };
-                assert_eq!((a, memory, length), (0, 2, VALUE as u64));
-            }
+        let ours = rust_each(&keys, |k| {
+            let (mut memory, mut place, mut length) = (0, 0, 0);
+            let a = unsafe {
+                lookup(1, head, words, bytes, 2, k, &mut memory, &mut place, &mut length)
+            };
+            assert_eq!((a, memory, length), (0, 2, VALUE as u64));
         });
-        f.time(&format!("lookup of a value, 255 keys shared{name}"), ours * each, rust);
+        f.time(&format!("lookup of a value, 255 keys shared{name}"), ours, rust);
     }
 }
 
 fn ends(setting: &Setting, f: &mut Figures) {
     let t = Tables::three().words();
-    let mut l = Listed::new();
+    let mut l = Listed::over(100);
     let mut list = [0u64; 38];
+    let mut items: Vec<u64> = Vec::new();
+    for n in 0..100 {
+        assert_eq!(fill(&t, &mut list, &mut l, n, Door::Kept), 0);
+        items.extend(&l.items);
+    }
     let start = Shared::with(100);
     let mut s = start.clone();
     let (mut queues, mut out) = (vec![0u64; 331], vec![0u8; 60_000]);
-    let rust = ending::rust(setting, 100, &l.data) * 1e9;
+    let rust = ending::rust(setting, 100) * 1e9;
     for (door, name) in DOORS {
-        assert_eq!(fill(&t, &mut list, &mut l, 0, Door::Kept), 0);
         let end =
             if door == Door::Kept { hongsathep_end_record_kept } else { hongsathep_end_record };
         let ours = best_of(|| {
             s.set(&start);
             unsafe { hongsathep_queues_new(&open(&mut queues)) };
-            let (items, chunks) = (&lent(&l.items), &lent(&l.chunks));
+            let chunks = &lent(&l.chunks);
             let (head, words, bytes) =
                 (&open(&mut s.head), &open(&mut s.words), &open(&mut s.bytes));
             seconds(|| {
-                for n in 0..LISTS {
+                for (n, items) in (0..LISTS).zip(items.chunks(400).cycle()) {
                     let (mut size, mut source, mut file) = (0, 0, 0);
                     list[0] = n + 7;
-                    let (t, list, queues, out) =
-                        (&lent(&t), &lent(&list), &open(&mut queues), &open(&mut out));
+                    let (t, list, items) = (&lent(&t), &lent(&list), &lent(items));
+                    let (queues, out) = (&open(&mut queues), &open(&mut out));
                     let a = unsafe {
                         end(
                             t,
@@ -258,11 +257,8 @@ fn ends(setting: &Setting, f: &mut Figures) {
                 }
             })
         });
-        f.time(
-            &format!("end_record, 100 keys of each kind shared{name}"),
-            ours * 1e9 / LISTS as f64,
-            rust,
-        );
+        let ours = ours * 1e9 / LISTS as f64;
+        f.time(&format!("end_record, 100 keys of each kind shared{name}"), ours, rust);
     }
 }
 

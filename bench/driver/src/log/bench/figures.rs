@@ -13,16 +13,16 @@ pub fn seconds(f: impl FnOnce()) -> f64 {
     now() - a
 }
 
-/// The best of at least three turns and a tenth of a second, where a turn says its own seconds.
+/// The best of at least five turns and a tenth of a second, where a turn says its own seconds. A turn of less than half the middle one's is
+/// the clock's fault.
 pub fn best_of(mut f: impl FnMut() -> f64) -> f64 {
-    let (mut best, mut sum, mut k) = (f64::MAX, 0.0, 0);
-    while k < 3 || (sum < 0.1 && k < 2000) {
-        let t = f();
-        best = best.min(t);
-        sum += t;
-        k += 1;
+    let mut turns = Vec::new();
+    while turns.len() < 5 || (turns.iter().sum::<f64>() < 0.1 && turns.len() < 2000) {
+        turns.push(f());
     }
-    best
+    turns.sort_by(f64::total_cmp);
+    let middle = turns[turns.len() / 2];
+    turns.into_iter().find(|t| middle <= 2.0 * t).unwrap()
 }
 
 pub fn best(mut f: impl FnMut()) -> f64 {

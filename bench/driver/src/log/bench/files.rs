@@ -12,12 +12,12 @@ fn rust(setting: &Setting) -> f64 {
     host::place(&setting.folder, &[]);
     let log = host::open(&setting.folder);
     let d = Tables::three();
-    let data = Listed::new().data;
+    let l = Listed::new();
     best_of(|| {
         let mut sum = 0.0;
         for n in 0..TIMES {
             let mut w = log.begin_record();
-            host::fill(&mut w, n, &data);
+            host::fill(&mut w, n, &l);
             log.end_record(w.drain()).unwrap();
             sum += seconds(|| assert!(log.flush_one(0).unwrap()));
             let mut r = log.read_next(true).unwrap().unwrap();

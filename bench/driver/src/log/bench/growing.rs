@@ -23,11 +23,10 @@ fn bytes(f: &mut Figures) {
 
 fn keys(setting: &Setting, f: &mut Figures) {
     let t = Tables::three().words();
-    let mut l = Listed::new();
-    for keys in [10usize, 100, 250] {
-        let rust = ending::rust(setting, keys as u64, &l.data);
+    for keys in [10, 100, 250] {
+        let rust = ending::rust(setting, keys);
         for (door, name) in DOORS {
-            let ours = ending::ours(&t, &mut l, keys, door);
+            let ours = ending::ours(&t, keys, door);
             f.time(
                 &format!("end_record, {keys} keys of each kind shared{name}, ns"),
                 ours * 1e9,
@@ -35,7 +34,7 @@ fn keys(setting: &Setting, f: &mut Figures) {
             );
         }
     }
-    for keys in [15usize, 63, 255] {
+    for keys in [15, 63, 255] {
         for (door, name) in DOORS {
             f.our_time(
                 &format!("value_ref, {keys} keys shared{name}, ns"),
@@ -68,7 +67,7 @@ fn tables(f: &mut Figures) {
             );
             f.our_time(
                 &format!("end_record, 100 keys, {name}{which}, ns"),
-                ending::ours(&t, &mut l, 100, door) * 1e9,
+                ending::ours(&t, 100, door) * 1e9,
             );
         }
     }

@@ -1,6 +1,8 @@
 //! What a host of log.rs does.
 use super::super::*;
 use super::by_hand::put_slots;
+use super::made::key;
+use super::port::Listed;
 use super::tables::{Tables, VALUE};
 
 pub const INDEX_CHUNK: IndexChunk = IndexChunk([7; 512]);
@@ -97,17 +99,17 @@ pub fn append_nowhere(log: &Log) {
     *log.appending.write() = Some(Appending { id: 0, size: 0, file: nowhere() });
 }
 
-/// The 17 inserts of a record of 789 bytes.
-pub fn fill(w: &mut LogWriter, n: u64, data: &[u8]) {
+/// The 17 inserts of list n.
+pub fn fill(w: &mut LogWriter, n: u64, l: &Listed) {
     for k in 0..4 {
-        let i = (n * 4 + k) % 256;
+        let i = key(&l.places, n, 4 * n + k);
         w.insert_index(index_table(), i, (n % 64) as u8, INDEX_CHUNK.clone());
         w.insert_index(index_table(), i, ((n + 7) % 64) as u8, INDEX_CHUNK.clone());
     }
     for k in 0..8 {
-        w.insert_value(value_table(), (n * 8 + k) % 256, data[..VALUE].to_vec());
+        w.insert_value(value_table(), key(&l.places, n, 8 * n + k), l.data[..VALUE].to_vec());
     }
-    w.insert_ref_count(count_table(), n % 256, (n % 64) as u8, COUNT_CHUNK.clone());
+    w.insert_ref_count(count_table(), key(&l.places, n, n), (n % 64) as u8, COUNT_CHUNK.clone());
 }
 
 /// So many keys of each kind in the shared overlays.

@@ -25,7 +25,7 @@ pub fn rows(_: &Setting, f: &mut Figures) {
     let rust = best(|| {
         for n in 0..LISTS {
             let mut w = LogWriter::new(&overlays, n + 1);
-            fill(&mut w, n, &l.data);
+            fill(&mut w, n, &l);
             black_box(w.drain());
         }
     });

@@ -2,42 +2,36 @@
 use super::super::*;
 use super::figures::{best, Figures};
 use super::host::{index_table, value_table};
-use super::port::{self, Door, Listed, Look, Shared, What, DOORS};
+use super::made::at_random;
+use super::port::{self, Door, Listed, Shared, What, DOORS};
 use super::tables::{Tables, VALUE};
 use super::{host, Setting};
 use std::hint::black_box;
 
-const TIMES: u64 = 20_000;
-
-/// ns of one lookup, the calls before the loop taken off.
-fn each(mut look: impl FnMut(u64)) -> f64 {
-    let base = best(|| look(1));
-    (best(|| look(TIMES + 1)) - base) * 1e9 / TIMES as f64
+/// Keys of a span at random, more than a processor can learn by heart.
+pub fn keys(from: u64, span: u64) -> Vec<u64> {
+    at_random(from, span, 20_000)
 }
 
-fn rust_each(mut look: impl FnMut(u64)) -> f64 {
-    best(|| {
-        for i in 0..TIMES {
-            look(black_box(i * 97));
-        }
-    }) * 1e9
-        / TIMES as f64
+/// ns of one lookup, what comes before the loop taken off.
+fn each(keys: &[u64], mut look: impl FnMut(&[u64])) -> f64 {
+    let base = best(|| look(&keys[..1]));
+    (best(|| look(keys)) - base) * 1e9 / (keys.len() - 1) as f64
+}
+
+pub fn rust_each(keys: &[u64], mut look: impl FnMut(u64)) -> f64 {
+    best(|| keys.iter().for_each(|&k| look(black_box(k)))) * 1e9 / keys.len() as f64
 }
 
 /// ns of one lookup where so many keys are shared.
-pub fn shared(keys: usize, what: What, door: Door) -> f64 {
-    let mut s = Shared::with(keys);
+pub fn shared(most: u64, what: What, door: Door) -> f64 {
+    let mut s = Shared::with(most as usize);
     let found = match what {
         What::WithIndex => 512,
         What::Value => 1,
         What::ValueRef => VALUE as u64,
     };
-    each(|n| {
-        assert_eq!(
-            port::look(&mut s, door, Look { what, from: 0, span: keys as u64 }, n),
-            n * found
-        )
-    })
+    each(&keys(0, most), |k| assert_eq!(port::look(&mut s, door, what, k), k.len() as u64 * found))
 }
 
 pub fn rows(setting: &Setting, f: &mut Figures) {
@@ -49,14 +43,12 @@ pub fn rows(setting: &Setting, f: &mut Figures) {
     for (what, name) in
         [(What::WithIndex, "with_index"), (What::Value, "value"), (What::ValueRef, "value_ref")]
     {
-        let rust = rust_each(|i| {
+        let rust = rust_each(&keys(0, 255), |i| {
             assert!(match what {
                 What::WithIndex =>
-                    black_box(log.overlays().with_index(index_table(), i % 255, |c| c.0[0]))
-                        .is_some(),
-                What::Value => black_box(log.overlays().value(value_table(), i % 255, &mut dest)),
-                What::ValueRef =>
-                    black_box(log.overlays().value_ref(value_table(), i % 255)).is_some(),
+                    black_box(log.overlays().with_index(index_table(), i, |c| c.0[0])).is_some(),
+                What::Value => black_box(log.overlays().value(value_table(), i, &mut dest)),
+                What::ValueRef => black_box(log.overlays().value_ref(value_table(), i)).is_some(),
             })
         });
         for (door, which) in DOORS {
@@ -79,13 +71,14 @@ fn listed(f: &mut Figures, log: &Log, mut l: Listed) {
         ("found in the list", 223, 32, true),
         ("not found", 1000, 255, false),
     ] {
-        let rust = rust_each(|i| {
-            assert_eq!(black_box(w.value(value_table(), from + i % span, &mut dest)), found)
+        let keys = keys(from, span);
+        let rust = rust_each(&keys, |i| {
+            assert_eq!(black_box(w.value(value_table(), i, &mut dest)), found)
         });
         for (door, which) in DOORS {
-            let look = Look { what: What::Value, from, span };
-            let ours =
-                each(|n| assert_eq!(l.look(&t, &mut s, door, look, n), if found { n } else { 0 }));
+            let ours = each(&keys, |k| {
+                assert_eq!(l.look(&t, &mut s, door, k), if found { k.len() as u64 } else { 0 })
+            });
             f.time(&format!("value, a list of 32 first, {name}{which}"), ours, rust);
         }
     }

@@ -87,3 +87,39 @@ pub fn log_of(mix: Mix, bytes: usize) -> (Vec<u8>, u64) {
     }
     (o, n)
 }
+
+/// 16 orders of the keys below a number, 256 positions each: list n has the positions from 8n on of one of them for its values, and from 4n on
+/// for its chunks. No processor learns them by heart.
+pub fn places(keys: u64) -> Vec<u64> {
+    let mut random = Random(12345);
+    let mut places = Vec::new();
+    for _ in 0..16 {
+        let mut order: Vec<u64> = (0..keys).collect();
+        for i in (1..keys as usize).rev() {
+            order.swap(i, random.below(i as u64 + 1) as usize);
+        }
+        places.extend(order.iter().cycle().take(256));
+    }
+    places
+}
+
+/// The key of list n at a position.
+pub fn key(places: &[u64], n: u64, position: u64) -> u64 {
+    let order = n / 32 % (places.len() as u64 / 256);
+    places[(256 * order + position % 256) as usize]
+}
+
+struct Random(u64);
+
+impl Random {
+    fn below(&mut self, most: u64) -> u64 {
+        self.0 = self.0.wrapping_mul(6364136223846793005).wrapping_add(1442695040888963407);
+        (self.0 >> 33) % most
+    }
+}
+
+/// So many numbers of a span at random.
+pub fn at_random(from: u64, span: u64, count: usize) -> Vec<u64> {
+    let mut random = Random(12345);
+    (0..count).map(|_| from + random.below(span)).collect()
+}

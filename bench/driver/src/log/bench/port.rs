@@ -1,6 +1,6 @@
 //! The functions of ../../../../calls.rt.txt, as the compiler of `rt try` leaves them: a slice goes as the address of its address and length.
 //! Each wrapper compares what is answered.
-use super::made::RECORD;
+use super::made::{places, RECORD};
 
 #[repr(C)]
 pub struct Slice(*const u8, usize);
@@ -20,7 +20,7 @@ extern "C" {
     fn bench_next(tables: S, log: S, validate: u64, kept: u64, r: S);
     fn bench_run(tables: S, log: S, expected: u64, image: S, r: S);
     fn bench_check(tables: S, log: S, r: S);
-    fn bench_fill(tables: S, items: S, chunks: S, data: S, kept: u64, times: u64, r: S);
+    fn bench_fill(tables: S, items: S, chunks: S, places: S, data: S, kept: u64, times: u64, r: S);
     fn bench_insert(
         tables: S,
         items: S,
@@ -33,11 +33,22 @@ extern "C" {
         times: u64,
         r: S,
     );
-    fn bench_flush(tables: S, items: S, chunks: S, data: S, kept: u64, out: S, times: u64, r: S);
+    fn bench_flush(
+        tables: S,
+        items: S,
+        chunks: S,
+        places: S,
+        data: S,
+        kept: u64,
+        out: S,
+        times: u64,
+        r: S,
+    );
     fn bench_write(
         tables: S,
         items: S,
         chunks: S,
+        places: S,
         data: S,
         head: S,
         words: S,
@@ -51,6 +62,7 @@ extern "C" {
         tables: S,
         items: S,
         chunks: S,
+        places: S,
         data: S,
         head: S,
         words: S,
@@ -78,9 +90,8 @@ extern "C" {
         kept: u64,
         what: u64,
         last: usize,
-        from: u64,
-        span: u64,
-        times: u64,
+        table: u16,
+        keys: S,
         dest: S,
         r: S,
     );
@@ -93,11 +104,9 @@ extern "C" {
         words: S,
         bytes: S,
         kept: u64,
-        what: u64,
         last: usize,
-        from: u64,
-        span: u64,
-        times: u64,
+        table: u16,
+        keys: S,
         dest: S,
         r: S,
     );
@@ -152,31 +161,37 @@ impl Shared {
     }
 }
 
-/// The memories of a list, and the bytes that are put in.
+/// The memories of a list, the keys of lists (`made::places`), and the bytes that are put in.
 pub struct Listed {
     pub items: Vec<u64>,
     pub chunks: Vec<u8>,
+    pub places: Vec<u64>,
     pub data: Vec<u8>,
 }
 
 impl Listed {
     pub fn new() -> Listed {
-        Listed {
-            items: vec![0; 400],
-            chunks: vec![0; 49152],
-            data: (0..1024).map(|i| (i * 7) as u8).collect(),
-        }
+        Listed::over(256)
+    }
+
+    /// Lists of the keys below a number.
+    pub fn over(keys: u64) -> Listed {
+        let data = (0..1024).map(|i| (i * 7) as u8).collect();
+        Listed { items: vec![0; 400], chunks: vec![0; 49152], places: places(keys), data }
     }
 
     /// Lists of 17 inserts.
     pub fn fill(&mut self, tables: &[u64], door: Door, times: u64) {
         let mut r = [0u64; 4];
+        let (items, chunks) = (&open(&mut self.items), &open(&mut self.chunks));
+        let (places, data) = (&lent(&self.places), &lent(&self.data));
         unsafe {
             bench_fill(
                 &lent(tables),
-                &open(&mut self.items),
-                &open(&mut self.chunks),
-                &lent(&self.data),
+                items,
+                chunks,
+                places,
+                data,
                 door as u64,
                 times,
                 &open(&mut r),
@@ -218,13 +233,14 @@ impl Listed {
     /// A list of 17 inserts written again and again.
     pub fn flush(&mut self, tables: &[u64], door: Door, out: &mut [u8], times: u64) {
         let mut r = [0u64; 4];
-        let (items, chunks, data) =
-            (&open(&mut self.items), &open(&mut self.chunks), &lent(&self.data));
+        let (items, chunks) = (&open(&mut self.items), &open(&mut self.chunks));
+        let (places, data) = (&lent(&self.places), &lent(&self.data));
         unsafe {
             bench_flush(
                 &lent(tables),
                 items,
                 chunks,
+                places,
                 data,
                 door as u64,
                 &open(out),
@@ -245,14 +261,15 @@ impl Listed {
         count: u64,
     ) {
         let mut r = [0u64; 4];
-        let (items, chunks, data) =
-            (&open(&mut self.items), &open(&mut self.chunks), &lent(&self.data));
+        let (items, chunks) = (&open(&mut self.items), &open(&mut self.chunks));
+        let (places, data) = (&lent(&self.places), &lent(&self.data));
         let (head, words, bytes) = (&open(&mut s.head), &open(&mut s.words), &open(&mut s.bytes));
         unsafe {
             bench_write(
                 &lent(tables),
                 items,
                 chunks,
+                places,
                 data,
                 head,
                 words,
@@ -266,17 +283,19 @@ impl Listed {
         assert_eq!(r[..2], [0, RECORD as u64 * count], "answers and bytes of end_record");
     }
 
-    /// A list of 17 inserts ended again and again.
+    /// 100 lists of 17 inserts filled, and then ended in turn, so many times.
     pub fn end(&mut self, tables: &[u64], s: &mut Shared, door: Door, out: &mut [u8], times: u64) {
         let mut r = [0u64; 4];
-        let (items, chunks, data) =
-            (&open(&mut self.items), &open(&mut self.chunks), &lent(&self.data));
+        let mut items = vec![0u64; 100 * 400];
+        let (items, chunks) = (&open(&mut items), &open(&mut self.chunks));
+        let (places, data) = (&lent(&self.places), &lent(&self.data));
         let (head, words, bytes) = (&open(&mut s.head), &open(&mut s.words), &open(&mut s.bytes));
         unsafe {
             bench_end(
                 &lent(tables),
                 items,
                 chunks,
+                places,
                 data,
                 head,
                 words,
@@ -290,36 +309,26 @@ impl Listed {
         assert_eq!(r[..2], [0, RECORD as u64 * times], "answers and bytes of end_record");
     }
 
-    /// Lookups through a list of 32 values, keys 223 to 254.
-    pub fn look(
-        &mut self,
-        tables: &[u64],
-        s: &mut Shared,
-        door: Door,
-        look: Look,
-        times: u64,
-    ) -> u64 {
+    /// Lookups of values through a list of 32, keys 223 to 254: how many are found.
+    pub fn look(&mut self, tables: &[u64], s: &mut Shared, door: Door, keys: &[u64]) -> u64 {
         let (mut r, mut dest) = ([0u64; 4], [0u8; super::tables::VALUE]);
         let (items, chunks, data) =
             (&open(&mut self.items), &open(&mut self.chunks), &lent(&self.data));
         let (words, bytes) = (&open(&mut s.words[1280..2560]), &lent(&s.bytes[131072..262144]));
-        let (what, last) = (look.what as u64, 1023);
-        let dest = &open(&mut dest);
+        let (head, dest) = (&lent(&s.head), &open(&mut dest));
         unsafe {
             bench_listed(
                 &lent(tables),
                 items,
                 chunks,
                 data,
-                &lent(&s.head),
+                head,
                 words,
                 bytes,
                 door as u64,
-                what,
-                last,
-                look.from,
-                look.span,
-                times,
+                UNUSED,
+                2,
+                &lent(keys),
                 dest,
                 &open(&mut r),
             )
@@ -335,34 +344,26 @@ pub enum What {
     ValueRef = 2,
 }
 
-/// Keys `from` to `from + span - 1`, in a scattered order.
-#[derive(Clone, Copy)]
-pub struct Look {
-    pub what: What,
-    pub from: u64,
-    pub span: u64,
-}
+/// A word of the last row of a kind, where 255 keys at most are in use.
+const UNUSED: usize = 1023;
 
 /// Lookups in the shared overlays: values found, or bytes.
-pub fn look(s: &mut Shared, door: Door, look: Look, times: u64) -> u64 {
+pub fn look(s: &mut Shared, door: Door, what: What, keys: &[u64]) -> u64 {
     let (mut r, mut dest) = ([0u64; 4], [0u8; super::tables::VALUE]);
-    let kind = if let What::WithIndex = look.what { 0 } else { 1 };
-    let (words, bytes) = (
-        &open(&mut s.words[1280 * kind..1280 * (kind + 1)]),
-        &lent(&s.bytes[131072 * kind..131072 * (kind + 1)]),
-    );
-    let (what, last, dest) = (look.what as u64, 1023, &open(&mut dest));
+    let kind = if let What::WithIndex = what { 0 } else { 1 };
+    let words = &open(&mut s.words[1280 * kind..1280 * (kind + 1)]);
+    let bytes = &lent(&s.bytes[131072 * kind..131072 * (kind + 1)]);
+    let (head, dest, table) = (&lent(&s.head), &open(&mut dest), kind as u16 + 1);
     unsafe {
         bench_shared(
-            &lent(&s.head),
+            head,
             words,
             bytes,
             door as u64,
-            what,
-            last,
-            look.from,
-            look.span,
-            times,
+            what as u64,
+            UNUSED,
+            table,
+            &lent(keys),
             dest,
             &open(&mut r),
         )

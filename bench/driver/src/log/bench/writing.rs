@@ -8,17 +8,11 @@ use super::{host, Setting};
 
 const TIMES: u64 = 1000;
 
-/// So many lists of 17 inserts.
-pub fn lists(
-    overlays: &RwLock<LogOverlays>,
-    first: u64,
-    n: impl Fn(u64) -> u64,
-    data: &[u8],
-    times: u64,
-) -> Vec<LogChange> {
-    let list = |k| {
-        let mut w = LogWriter::new(overlays, first + k);
-        host::fill(&mut w, n(k), data);
+/// Lists of 17 inserts.
+pub fn lists(overlays: &RwLock<LogOverlays>, first: u64, l: &Listed, times: u64) -> Vec<LogChange> {
+    let list = |n| {
+        let mut w = LogWriter::new(overlays, first + n);
+        host::fill(&mut w, n, l);
         w.drain()
     };
     (0..times).map(list).collect()
@@ -30,7 +24,7 @@ pub fn rows(_: &Setting, f: &mut Figures) {
     let mut l = Listed::new();
     let overlays = RwLock::new(LogOverlays::with_columns(8));
     let rust = best_of(|| {
-        let lists = lists(&overlays, 1, |_| 3, &l.data, TIMES);
+        let lists = lists(&overlays, 1, &l, TIMES);
         let mut file = host::nowhere();
         let mut kept = Vec::with_capacity(TIMES as usize);
         seconds(|| {
