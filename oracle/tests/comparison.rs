@@ -55,7 +55,8 @@ fn every_other_answer_is_a_difference() {
         let mut run = Run::of(Generator::sample(2, &[part]));
         // Each command would take long.
         for at in (0..run.script.len()).step_by(5) {
-            let right = std::mem::replace(&mut run.port[at], "05".into());
+            let wrong = if run.port[at] == "05" { "06" } else { "05" };
+            let right = std::mem::replace(&mut run.port[at], wrong.into());
             assert_eq!(run.differs_at(), Some(at));
             run.port[at] = right;
         }
