@@ -10,7 +10,7 @@ use native.Mathlib.Omega.{arith}
 use borrow.Author.Tests.{leb-true, eq-eqb, ne-eqb}
 use lib.Dec.{eqb, leb}
 use lib.ListN.{length, take, drop, getD, set, length-set}
-use lib.Seq.{getD-set-same, getD-set-other, take-suc, take-take, ext-getD}
+use lib.Seq.{getD-set-same, getD-set-other, length-take-le, take-suc, take-take, ext-getD}
 use Rattle.directory.specs.Table.{isTable, sizeOf, description}
 use Rattle.directory.specs.Directory.{tablesOf, findFrom, findTable, eachKept, apart, sizesOf, startOf, directoryKept}
 use Rattle.directory.specs.Inner.{nameOf, rowIn, rowsIn, directoryIn, Flat, Row, Rows}
@@ -19,7 +19,7 @@ use Rattle.directory.specs.declared.table.TableDescription.{TableDescrip
 use Rattle.directory.specs.declared.directory.Directory.{Directory}
 use Rattle.directory.specs.declared.directory.Found.the-variants.{At, Nothing}
 use Rattle.directory.proofs.Named.{is-named, named-kind, named-number, named-small, renamed}
-use Rattle.directory.proofs.Tables.{noTable, hit, miss, past}
+use Rattle.directory.proofs.Tables.{noTable, hit, miss, past, found-within}
 
 -- ---- the rows that are read
 
@@ -246,3 +246,10 @@ module _ (t : List ℕ) (f : Flat t) (kind : TableKind) (number : ℕ) (small : 
 pub plain-whole : (t : List ℕ) (kind : TableKind) (number : ℕ) → findFrom 0 (take (getD t 80 0) (rowsIn t 0 16)) kind number ≡ findTable (directoryIn t) kind number
 unfolding findTable directoryIn
 plain-whole t kind number = refl
+
+-- a table that was found is in use
+pub plain-found : (t : List ℕ) (f : Flat t) (kind : TableKind) (number row : ℕ) (x : TableDescription) → findTable (directoryIn t) kind number ≡ At row x
+    → row < getD t 80 0
+plain-found t f kind number row x e =
+    let l : length (take (getD t 80 0) (rowsIn t 0 16)) ≡ getD t 80 0 = length-take-le (getD t 80 0) (rowsIn t 0 16) (omega (arith, f .few, rows-length t 0 16)) in
+    omega (arith, found-within 0 (take (getD t 80 0) (rowsIn t 0 16)) kind number row x (plain-whole t kind number ∙ e))

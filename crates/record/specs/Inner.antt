@@ -1,5 +1,17 @@
 -- What the reader's inner functions answer, seen as what a format reads. Nothing here has to be believed: `Next` says what `next` answers.
+use mathlib.Core.Path.{_≡_}
+use mathlib.Core.List.{List}
 use Prim.Native.Nat.{ℕ, _+_}
+use lib.Dec.{eqb}
+use lib.ListN.{getD}
+use Rattle.words.specs.Choice.{if_then_else_}
+use Rattle.words.specs.Words.{littleAt}
+use Rattle.directory.specs.Directory.{findTable}
+use Rattle.directory.specs.declared.table.TableKind.{TableKind}
+use Rattle.directory.specs.declared.table.TableKind.the-variants.{Index, Value, RefCount}
+use Rattle.directory.specs.declared.directory.Directory.{Directory}
+use Rattle.directory.specs.declared.directory.Found.{Found}
+use Rattle.directory.specs.declared.directory.Found.the-variants as found
 use Rattle.record.specs.Format.{Got, stopped, got}
 use Rattle.record.specs.Record.{Item}
 use Rattle.record.specs.declared.item.Key.{Key}
@@ -9,6 +21,8 @@ use Rattle.record.specs.declared.item.ItemAnswer.{ItemAnswer}
 use Rattle.record.specs.declared.item.ItemAnswer.the-variants.{Read, NoItem}
 use Rattle.record.specs.declared.item.TableAnswer.{TableAnswer}
 use Rattle.record.specs.declared.item.TableAnswer.the-variants.{Table, NoTable}
+use Rattle.record.specs.declared.search.Named.{Named}
+use Rattle.record.specs.declared.search.Named.the-variants as named
 use Rattle.record.specs.declared.opening.IdAnswer.{IdAnswer}
 use Rattle.record.specs.declared.opening.IdAnswer.the-variants.{Opened, NotOpened}
 
@@ -27,3 +41,38 @@ gotItem (Read i) = got (record { action = i .action; payload = i .length }) (i .
 abbrev pub gotId : IdAnswer → ℕ → Got ℕ
 gotId (NotOpened answer) end = stopped answer
 gotId (Opened id) end = got id end
+
+-- ---- the table that an action names, looked up before the action is read
+
+-- by its tag
+unfoldable pub namedBy : ℕ → ℕ → Named
+namedBy tag number =
+    if eqb tag 2 then named.Table Index number else
+    if eqb tag 3 then named.Table Value number else
+    if eqb tag 5 then named.Table Index number else
+    if eqb tag 6 then named.Table RefCount number else
+    if eqb tag 7 then named.Table RefCount number else
+    named.Nothing
+
+-- of the action at a place
+abbrev pub namedIn : List ℕ → ℕ → Named
+namedIn log at = namedBy (getD log at 0) (littleAt 2 log (at + 1))
+
+-- what the search for it finds
+abbrev pub lookedUp : Directory → Named → Found
+lookedUp d named.Nothing = found.Nothing
+lookedUp d (named.Table kind number) = findTable d kind number
+
+-- the same of the action at a place
+abbrev pub soughtIn : Directory → List ℕ → ℕ → Found
+soughtIn d log at = lookedUp d (namedIn log at)
+
+-- some directory's search found that
+pub record FoundBy (f : Found) (kind : TableKind) (number : ℕ) : Type 0 where
+  pub directory : Directory
+  pub same : f ≡ findTable directory kind number
+
+-- some directory's search for the table that the action at a place names
+pub record Sought (f : Found) (log : List ℕ) (at : ℕ) : Type 0 where
+  pub directory : Directory
+  pub same : f ≡ soughtIn directory log at

@@ -2,13 +2,17 @@
 ghost use mathlib.Core.Path.{_≡_};
 ghost use Prim.Native.Nat.{_+_, _≤_, _<_};
 ghost use lib.ListN.{length};
+ghost use Rattle.words.specs.Words.{littleAt};
+ghost use Rattle.directory.specs.Directory.{findTable};
+ghost use Rattle.directory.specs.declared.directory.Directory.{Directory};
+ghost use Rattle.directory.specs.declared.table.TableKind.{TableKind};
+ghost use Rattle.directory.specs.declared.table.TableKind.the-variants.{Index, Value, RefCount};
 ghost use Rattle.record.specs.Format.{readAt};
-ghost use Rattle.record.specs.Inner.{gotKey, gotTable, gotItem};
+ghost use Rattle.record.specs.Inner.{gotKey, gotTable, gotItem, FoundBy, Sought, soughtIn};
 ghost use Rattle.record.specs.Record.{key, chunk, maskedItem, valueLength, value, valuedItem, table, droppedItem, dropIndex, dropRefCount, sumHolds, endedItem, inside};
 use super::action::LogAction;
 use super::mask::entries_length;
 use answer::Answer;
-use directory::Directory;
 use directory::Found;
 use directory::IndexTableId;
 use directory::RefCountTableId;
@@ -44,17 +48,17 @@ pub enum ItemAnswer {
     NoItem(Answer),
 }
 
-// Table and index, behind the tag of an insertion.
-fn key_at(d: Directory, log: &[u8], body: usize, kind: TableKind) -> KeyAnswer
+// Table and index, behind the tag of an insertion. Here and below `f` is what the search for the table that is named there has found.
+fn key_at(f: Found, log: &[u8], body: usize) -> KeyAnswer
     requires { ⌜ body ≤ length (now log) ⌝ }
-    ensures { λ r. ⌜ gotKey r (body + 10) ≡ readAt (key d kind) body (now (log .entry)) ⌝ }
+    ensures { λ r. ⌜ ((d : Directory) (kind : TableKind) → f ≡ findTable d kind (littleAt 2 (now (log .entry)) body) → gotKey r (body + 10) ≡ readAt (key d kind) body (now (log .entry))) ⌝ }
 {
     if log.len() - body < 10 {
         return KeyAnswer::NoKey(Answer::Cut);
     }
     let table = words::u16_at(log, body);
     let index = words::u64_at(log, body + 2);
-    match d.find(kind, table) {
+    match f {
         Found::Nothing => KeyAnswer::NoKey(Answer::NoTable),
         Found::At(_, t) => {
             let count = t.count as u64;
@@ -92,11 +96,11 @@ fn chunk_at(log: &[u8], start: usize, kind: TableKind, width: usize, k: Key) -> 
 }
 
 // Tags 2 and 6.
-fn masked_at(d: Directory, log: &[u8], body: usize, kind: TableKind, width: usize) -> ItemAnswer
-    requires { ⌜ (width ≤ 16) × (body ≤ length (now log)) ⌝ }
-    ensures { λ r. ⌜ gotItem r ≡ readAt (maskedItem d kind width) body (now (log .entry)) ⌝ }
+fn masked_at(f: Found, log: &[u8], body: usize, kind: TableKind, width: usize) -> ItemAnswer
+    requires { ⌜ (width ≤ 16) × (body ≤ length (now log)) × FoundBy f kind (littleAt 2 (now log) body) ⌝ }
+    ensures { λ r. ⌜ ((d : Directory) → f ≡ findTable d kind (littleAt 2 (now (log .entry)) body) → gotItem r ≡ readAt (maskedItem d kind width) body (now (log .entry))) ⌝ }
 {
-    match key_at(d, log, body, kind) {
+    match key_at(f, log, body) {
         KeyAnswer::NoKey(a) => ItemAnswer::NoItem(a),
         KeyAnswer::Known(k) => chunk_at(log, body + 10, kind, width, k),
     }
@@ -126,11 +130,11 @@ fn value_at(log: &[u8], start: usize, k: Key) -> ItemAnswer
 }
 
 // Tag 3.
-fn valued_at(d: Directory, log: &[u8], body: usize) -> ItemAnswer
-    requires { ⌜ body ≤ length (now log) ⌝ }
-    ensures { λ r. ⌜ gotItem r ≡ readAt (valuedItem d) body (now (log .entry)) ⌝ }
+fn valued_at(f: Found, log: &[u8], body: usize) -> ItemAnswer
+    requires { ⌜ (body ≤ length (now log)) × FoundBy f Value (littleAt 2 (now log) body) ⌝ }
+    ensures { λ r. ⌜ ((d : Directory) → f ≡ findTable d Value (littleAt 2 (now (log .entry)) body) → gotItem r ≡ readAt (valuedItem d) body (now (log .entry))) ⌝ }
 {
-    match key_at(d, log, body, TableKind::Value) {
+    match key_at(f, log, body) {
         KeyAnswer::NoKey(a) => ItemAnswer::NoItem(a),
         KeyAnswer::Known(k) => value_at(log, body + 10, k),
     }
@@ -167,26 +171,26 @@ fn ended_at(log: &[u8], body: usize, validate: bool, register: u32) -> ItemAnswe
 }
 
 // A table's number, behind the tag of a drop.
-fn table_at(d: Directory, log: &[u8], body: usize, kind: TableKind) -> TableAnswer
+fn table_at(f: Found, log: &[u8], body: usize) -> TableAnswer
     requires { ⌜ body ≤ length (now log) ⌝ }
-    ensures { λ r. ⌜ gotTable r (body + 2) ≡ readAt (table d kind) body (now (log .entry)) ⌝ }
+    ensures { λ r. ⌜ ((d : Directory) (kind : TableKind) → f ≡ findTable d kind (littleAt 2 (now (log .entry)) body) → gotTable r (body + 2) ≡ readAt (table d kind) body (now (log .entry))) ⌝ }
 {
     if log.len() - body < 2 {
         return TableAnswer::NoTable(Answer::Cut);
     }
     let number = words::u16_at(log, body);
-    match d.find(kind, number) {
+    match f {
         Found::Nothing => TableAnswer::NoTable(Answer::NoTable),
         Found::At(_, _) => TableAnswer::Table(number),
     }
 }
 
 // Tag 5.
-fn dropped_index_at(d: Directory, log: &[u8], body: usize) -> ItemAnswer
+fn dropped_index_at(f: Found, log: &[u8], body: usize) -> ItemAnswer
     requires { ⌜ body ≤ length (now log) ⌝ }
-    ensures { λ r. ⌜ gotItem r ≡ readAt (droppedItem d TableKind.Index dropIndex) body (now (log .entry)) ⌝ }
+    ensures { λ r. ⌜ ((d : Directory) → f ≡ findTable d Index (littleAt 2 (now (log .entry)) body) → gotItem r ≡ readAt (droppedItem d Index dropIndex) body (now (log .entry))) ⌝ }
 {
-    match table_at(d, log, body, TableKind::Index) {
+    match table_at(f, log, body) {
         TableAnswer::NoTable(a) => ItemAnswer::NoItem(a),
         TableAnswer::Table(number) => ItemAnswer::Read(ReadItem {
             action: LogAction::DropTable(IndexTableId(number)),
@@ -197,11 +201,11 @@ fn dropped_index_at(d: Directory, log: &[u8], body: usize) -> ItemAnswer
 }
 
 // Tag 7.
-fn dropped_ref_count_at(d: Directory, log: &[u8], body: usize) -> ItemAnswer
+fn dropped_ref_count_at(f: Found, log: &[u8], body: usize) -> ItemAnswer
     requires { ⌜ body ≤ length (now log) ⌝ }
-    ensures { λ r. ⌜ gotItem r ≡ readAt (droppedItem d TableKind.RefCount dropRefCount) body (now (log .entry)) ⌝ }
+    ensures { λ r. ⌜ ((d : Directory) → f ≡ findTable d RefCount (littleAt 2 (now (log .entry)) body) → gotItem r ≡ readAt (droppedItem d RefCount dropRefCount) body (now (log .entry))) ⌝ }
 {
-    match table_at(d, log, body, TableKind::RefCount) {
+    match table_at(f, log, body) {
         TableAnswer::NoTable(a) => ItemAnswer::NoItem(a),
         TableAnswer::Table(number) => ItemAnswer::Read(ReadItem {
             action: LogAction::DropRefCountTable(RefCountTableId(number)),
@@ -212,9 +216,9 @@ fn dropped_ref_count_at(d: Directory, log: &[u8], body: usize) -> ItemAnswer
 }
 
 // The decision on the tag, inside a record.
-pub fn item_at(d: Directory, log: &[u8], at: usize, validate: bool, register: u32) -> ItemAnswer
-    requires { ⌜ at ≤ length (now log) ⌝ }
-    ensures { λ r. ⌜ gotItem r ≡ readAt (inside d validate register) at (now (log .entry)) ⌝ }
+pub fn item_at(f: Found, log: &[u8], at: usize, validate: bool, register: u32) -> ItemAnswer
+    requires { ⌜ (at ≤ length (now log)) × Sought f (now log) at ⌝ }
+    ensures { λ r. ⌜ ((d : Directory) → f ≡ soughtIn d (now (log .entry)) at → gotItem r ≡ readAt (inside d validate register) at (now (log .entry))) ⌝ }
 {
     if log.len() - at < 1 {
         return ItemAnswer::NoItem(Answer::Cut);
@@ -223,12 +227,12 @@ pub fn item_at(d: Directory, log: &[u8], at: usize, validate: bool, register: u3
     let body = at + 1;
     match tag {
         1 => ItemAnswer::NoItem(Answer::OutOfPlace),
-        2 => masked_at(d, log, body, TableKind::Index, 8),
-        3 => valued_at(d, log, body),
+        2 => masked_at(f, log, body, TableKind::Index, 8),
+        3 => valued_at(f, log, body),
         4 => ended_at(log, body, validate, register),
-        5 => dropped_index_at(d, log, body),
-        6 => masked_at(d, log, body, TableKind::RefCount, 16),
-        7 => dropped_ref_count_at(d, log, body),
+        5 => dropped_index_at(f, log, body),
+        6 => masked_at(f, log, body, TableKind::RefCount, 16),
+        7 => dropped_ref_count_at(f, log, body),
         0 | 8..=255 => ItemAnswer::NoItem(Answer::UnknownTag),
     }
 }

@@ -4,7 +4,9 @@ ghost use mathlib.Core.Bool.{true, false};
 ghost use Prim.Native.Nat.{_+_, _≤_};
 ghost use lib.ListN.{length};
 ghost use Rattle.directory.specs.Directory.{directoryKept};
+ghost use Rattle.directory.specs.declared.directory.Directory.{Directory};
 ghost use Rattle.record.specs.Format.{readAt};
+ghost use Rattle.record.specs.Inner.{Sought, soughtIn};
 ghost use Rattle.record.specs.Next.{refused, readerAt, plain, forwardTo, readerAfter, stepped, opened, openingOf, stepOf, nextOf};
 ghost use Rattle.record.specs.Record.{inside, opening};
 use super::action::LogAction;
@@ -12,9 +14,11 @@ use super::item::ItemAnswer;
 use super::item::item_at;
 use super::opening::IdAnswer;
 use super::opening::opening_at;
+use super::search::sought;
 use answer::Answer;
 use answer::Refusal;
 use directory::Directory;
+use directory::Found;
 
 // `inside` says whether a record was begun and not ended; then `record_id` is its id and, if validating, `crc32` the checksum's register
 // over its bytes so far.
@@ -109,11 +113,12 @@ impl LogReader {
     }
 
     // Inside a record.
-    fn step_inside(self, directory: Directory, log: &[u8]) -> Step
-        requires { ⌜ self .position ≤ length (now log) ⌝ }
-        ensures { λ r. ⌜ r ≡ stepped (now (log .entry)) self (readAt (inside directory (self .validate) (self .crc32)) (self .position) (now (log .entry))) ⌝ }
+    fn step_inside(self, f: Found, log: &[u8]) -> Step
+        requires { ⌜ (self .position ≤ length (now log)) × Sought f (now log) (self .position) ⌝ }
+        ensures { λ r. ⌜ ((d : Directory) → f ≡ soughtIn d (now (log .entry)) (self .position)
+            → r ≡ stepped (now (log .entry)) self (readAt (inside d (self .validate) (self .crc32)) (self .position) (now (log .entry)))) ⌝ }
     {
-        match item_at(directory, log, self.position, self.validate, self.crc32) {
+        match item_at(f, log, self.position, self.validate, self.crc32) {
             ItemAnswer::NoItem(a) => refuse(a, self.position),
             ItemAnswer::Read(i) => {
                 let action = i.action;
@@ -165,7 +170,7 @@ impl LogReader {
         self.step_opening(log)
     }
 
-    // The next action under a directory that was tested already: a walk over many actions tests it once.
+    // The next action under a directory that was tested already.
     pub fn next_kept(self, directory: Directory, log: &[u8]) -> Step
         requires { ⌜ directoryKept directory ≡ true ⌝ }
         ensures { λ r. ⌜ r ≡ stepOf directory (now (log .entry)) self ⌝ }
@@ -174,7 +179,8 @@ impl LogReader {
             return refuse(Answer::BadArgument, self.position);
         }
         if self.inside {
-            self.step_inside(directory, log)
+            let f = sought(directory, log, self.position);
+            self.step_inside(f, log)
         } else {
             self.step_opening(log)
         }

@@ -4,11 +4,6 @@ use Rattle.record.proofs.Parts.{chunk-short, chunk-cut, chunk-met}
 use borrow.Author.Needs.{needs}
 use Rattle.record.proofs.item.chunk_at.Statement.{statement}
 use Rattle.record.proofs.item.chunk_at.Tie as tie
-use Rattle.record.proofs.item.chunk_at.Reads as reads
-use Rattle.record.proofs.item.chunk_at.Lts as lts
-use Rattle.record.proofs.action.LogAction.insert.Reads as insert-reads
-use Rattle.record.proofs.mask.entries_length.Reads as entries-length-reads
-use Rattle.words.proofs.u64_at.Reads as u64-at-reads
 
 sub-if1 : tie.Need-sub-if1
 sub-if1 c = search needs

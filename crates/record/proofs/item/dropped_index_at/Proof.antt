@@ -9,9 +9,6 @@ use Rattle.record.proofs.Parts.{dropped-stop, dropped-met}
 use borrow.Author.Needs.{needs}
 use Rattle.record.proofs.item.dropped_index_at.Statement.{statement}
 use Rattle.record.proofs.item.dropped_index_at.Tie as tie
-use Rattle.record.proofs.item.dropped_index_at.Reads as reads
-use Rattle.record.proofs.item.dropped_index_at.Lts as lts
-use Rattle.record.proofs.item.table_at.Reads as table-at-reads
 
 table-at-requires : tie.Need-table-at-requires
 table-at-requires c κs = search needs
@@ -22,15 +19,15 @@ enum-known-a c = search needs
 enum-known-number : tie.Need-enum-known-number
 enum-known-number c = search needs
 
-add-t11 : tie.Need-add-t11
-add-t11 c = search needs
+add-t10 : tie.Need-add-t10
+add-t10 c = search needs
 
 returns : tie.Need-returns
-returns c = dropped-stop _ _ _ Index dropIndex _ (sym (ap (λ (x : TableAnswer). gotTable x (c .before .before .before .before .before .args .body + 2)) (c .before .a .given .1)) ∙ c .before .before .before .table-at .ensures)
+returns c = λ d e. dropped-stop _ _ d Index dropIndex _ (sym (ap (λ (x : TableAnswer). gotTable x (c .before .before .before .before .before .args .body + 2)) (c .before .a .given .1)) ∙ c .before .before .before .table-at .ensures d Index e)
 
 returns-2 : tie.Need-returns-2
-returns-2 c = dropped-met _ _ _ Index dropIndex _ (sym (ap (λ (x : TableAnswer). gotTable x (c .before .before .before .before .before .args .body + 2)) (c .before .number .given .1)) ∙ c .before .before .before .table-at .ensures)
+returns-2 c = λ d e. dropped-met _ _ d Index dropIndex _ (sym (ap (λ (x : TableAnswer). gotTable x (c .before .before .before .before .before .args .body + 2)) (c .before .number .given .1)) ∙ c .before .before .before .table-at .ensures d Index e)
 
 pub dropped-index-at-spec : {M : Type 1} → statement M
 dropped-index-at-spec =
-    tie.close (tie.spec table-at-requires enum-known-a enum-known-number add-t11 returns returns-2)
+    tie.close (tie.spec table-at-requires enum-known-a enum-known-number add-t10 returns returns-2)

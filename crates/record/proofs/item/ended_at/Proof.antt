@@ -5,10 +5,6 @@ use Rattle.record.proofs.Parts.{ended-short, ended-met}
 use borrow.Author.Needs.{needs}
 use Rattle.record.proofs.item.ended_at.Statement.{statement}
 use Rattle.record.proofs.item.ended_at.Tie as tie
-use Rattle.record.proofs.item.ended_at.Reads as reads
-use Rattle.record.proofs.item.ended_at.Lts as lts
-use Rattle.record.proofs.item.sum_holds.Reads as sum-holds-reads
-use Rattle.words.proofs.u32_at.Reads as u32-at-reads
 
 sub-if1 : tie.Need-sub-if1
 sub-if1 c = search needs

@@ -8,10 +8,6 @@ use Rattle.record.proofs.Formats.{within, then-stop, then-got}
 use borrow.Author.Needs.{needs}
 use Rattle.record.proofs.item.masked_at.Statement.{statement}
 use Rattle.record.proofs.item.masked_at.Tie as tie
-use Rattle.record.proofs.item.masked_at.Reads as reads
-use Rattle.record.proofs.item.masked_at.Lts as lts
-use Rattle.record.proofs.item.chunk_at.Reads as chunk-at-reads
-use Rattle.record.proofs.item.key_at.Reads as key-at-reads
 
 key-at-requires : tie.Need-key-at-requires
 key-at-requires c κs = search needs
@@ -27,20 +23,21 @@ add-chunk-at c = search needs
 
 chunk-at-requires : tie.Need-chunk-at-requires
 chunk-at-requires c κs =
-    let a = c .before .before .before .before .before .args in
-    (c .before .before .before .before .before .pre .0, within (key (a .d) (a .kind)) _ _ _ _ (c .before .before .before .before .before .pre .1) (sym (c .before .before .before .key-at .ensures) ∙ ap (λ (x : KeyAnswer). gotKey x (c .before .before .before .before .before .args .body + 10)) (c .before .k .given .1)) .inside)
+    let s = c .before .before .before .before .before in
+    let p = s .pre .2 in
+    (s .pre .0, within (key (p .directory) (s .args .kind)) _ _ _ _ (s .pre .1) (sym (c .before .before .before .key-at .ensures (p .directory) (s .args .kind) (p .same)) ∙ ap (λ (x : KeyAnswer). gotKey x (s .args .body + 10)) (c .before .k .given .1)) .inside)
 
 returns : tie.Need-returns
 unfolding maskedItem
-returns c =
+returns c = λ d e.
     let a = c .before .before .before .before .before .args in
-    then-stop (key (a .d) (a .kind)) (chunk (a .kind) (a .width)) _ _ _ (sym (ap (λ (x : KeyAnswer). gotKey x (c .before .before .before .before .before .args .body + 10)) (c .before .a .given .1)) ∙ c .before .before .before .key-at .ensures)
+    then-stop (key d (a .kind)) (chunk (a .kind) (a .width)) _ _ _ (sym (ap (λ (x : KeyAnswer). gotKey x (a .body + 10)) (c .before .a .given .1)) ∙ c .before .before .before .key-at .ensures d (a .kind) e)
 
 returns-2 : tie.Need-returns-2
 unfolding maskedItem
-returns-2 c =
+returns-2 c = λ d e.
     let a = c .before .before .before .before .before .before .args in
-    c .chunk-at .ensures ∙ then-got (key (a .d) (a .kind)) (chunk (a .kind) (a .width)) _ _ _ _ (sym (ap (λ (x : KeyAnswer). gotKey x (c .before .before .before .before .before .before .args .body + 10)) (c .before .before .k .given .1)) ∙ c .before .before .before .before .key-at .ensures)
+    c .chunk-at .ensures ∙ then-got (key d (a .kind)) (chunk (a .kind) (a .width)) _ _ _ _ (sym (ap (λ (x : KeyAnswer). gotKey x (a .body + 10)) (c .before .before .k .given .1)) ∙ c .before .before .before .before .key-at .ensures d (a .kind) e)
 
 pub masked-at-spec : {M : Type 1} → statement M
 masked-at-spec =

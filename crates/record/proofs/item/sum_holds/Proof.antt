@@ -4,10 +4,6 @@ use Rattle.record.specs.Record.{sumHolds}
 use borrow.Author.Needs.{needs}
 use Rattle.record.proofs.item.sum_holds.Statement.{statement}
 use Rattle.record.proofs.item.sum_holds.Tie as tie
-use Rattle.record.proofs.item.sum_holds.Reads as reads
-use Rattle.record.proofs.item.sum_holds.Lts as lts
-use Rattle.checksum.proofs.finish.Reads as finish-reads
-use Rattle.checksum.proofs.update.Reads as update-reads
 
 returns : tie.Need-returns
 unfolding sumHolds

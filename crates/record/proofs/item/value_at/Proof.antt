@@ -4,10 +4,6 @@ use Rattle.record.proofs.Parts.{value-short, value-met}
 use borrow.Author.Needs.{needs}
 use Rattle.record.proofs.item.value_at.Statement.{statement}
 use Rattle.record.proofs.item.value_at.Tie as tie
-use Rattle.record.proofs.item.value_at.Reads as reads
-use Rattle.record.proofs.item.value_at.Lts as lts
-use Rattle.record.proofs.action.LogAction.insert.Reads as insert-reads
-use Rattle.record.proofs.item.value_length.Reads as value-length-reads
 
 value-length-requires : tie.Need-value-length-requires
 value-length-requires c κs = search needs

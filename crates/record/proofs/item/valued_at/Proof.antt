@@ -9,10 +9,6 @@ use Rattle.record.proofs.Formats.{within, then-stop, then-got}
 use borrow.Author.Needs.{needs}
 use Rattle.record.proofs.item.valued_at.Statement.{statement}
 use Rattle.record.proofs.item.valued_at.Tie as tie
-use Rattle.record.proofs.item.valued_at.Reads as reads
-use Rattle.record.proofs.item.valued_at.Lts as lts
-use Rattle.record.proofs.item.key_at.Reads as key-at-reads
-use Rattle.record.proofs.item.value_at.Reads as value-at-reads
 
 key-at-requires : tie.Need-key-at-requires
 key-at-requires c κs = search needs
@@ -28,20 +24,21 @@ add-value-at c = search needs
 
 value-at-requires : tie.Need-value-at-requires
 value-at-requires c κs =
-    let a = c .before .before .before .before .before .args in
-    within (key (a .d) Value) _ _ _ _ (c .before .before .before .before .before .pre) (sym (c .before .before .before .key-at .ensures) ∙ ap (λ (x : KeyAnswer). gotKey x (c .before .before .before .before .before .args .body + 10)) (c .before .k .given .1)) .inside
+    let s = c .before .before .before .before .before in
+    let p = s .pre .1 in
+    within (key (p .directory) Value) _ _ _ _ (s .pre .0) (sym (c .before .before .before .key-at .ensures (p .directory) Value (p .same)) ∙ ap (λ (x : KeyAnswer). gotKey x (s .args .body + 10)) (c .before .k .given .1)) .inside
 
 returns : tie.Need-returns
 unfolding valuedItem
-returns c =
+returns c = λ d e.
     let a = c .before .before .before .before .before .args in
-    then-stop (key (a .d) Value) value _ _ _ (sym (ap (λ (x : KeyAnswer). gotKey x (c .before .before .before .before .before .args .body + 10)) (c .before .a .given .1)) ∙ c .before .before .before .key-at .ensures)
+    then-stop (key d Value) value _ _ _ (sym (ap (λ (x : KeyAnswer). gotKey x (a .body + 10)) (c .before .a .given .1)) ∙ c .before .before .before .key-at .ensures d Value e)
 
 returns-2 : tie.Need-returns-2
 unfolding valuedItem
-returns-2 c =
+returns-2 c = λ d e.
     let a = c .before .before .before .before .before .before .args in
-    c .value-at .ensures ∙ then-got (key (a .d) Value) value _ _ _ _ (sym (ap (λ (x : KeyAnswer). gotKey x (c .before .before .before .before .before .before .args .body + 10)) (c .before .before .k .given .1)) ∙ c .before .before .before .before .key-at .ensures)
+    c .value-at .ensures ∙ then-got (key d Value) value _ _ _ _ (sym (ap (λ (x : KeyAnswer). gotKey x (a .body + 10)) (c .before .before .k .given .1)) ∙ c .before .before .before .before .key-at .ensures d Value e)
 
 pub valued-at-spec : {M : Type 1} → statement M
 valued-at-spec =

@@ -11,11 +11,6 @@ use Rattle.record.proofs.Formats.{within}
 use borrow.Author.Needs.{needs}
 use Rattle.record.proofs.reader.LogReader.step_inside.Statement.{statement}
 use Rattle.record.proofs.reader.LogReader.step_inside.Tie as tie
-use Rattle.record.proofs.reader.LogReader.step_inside.Reads as reads
-use Rattle.record.proofs.reader.LogReader.step_inside.Lts as lts
-use Rattle.record.proofs.item.item_at.Reads as item-at-reads
-use Rattle.record.proofs.reader.LogReader.after.Reads as after-reads
-use Rattle.record.proofs.reader.refuse.Reads as refuse-reads
 
 item-at-requires : tie.Need-item-at-requires
 item-at-requires c κs = search needs
@@ -31,21 +26,27 @@ enum-known-i c = search needs
 
 add-after : tie.Need-add-after
 add-after c =
-    let a = c .before .before .before .before .before .before .args in
-    let w = within (inside (a .directory) (a .self .validate) (a .self .crc32)) _ _ _ _ (c .before .before .before .before .before .before .pre) (sym (c .before .before .before .before .item-at .ensures) ∙ ap gotItem (c .before .before .i .given .1)) in
+    let s = c .before .before .before .before .before .before in
+    let a = s .args in
+    let p = s .pre .1 in
+    let w = within (inside (p .directory) (a .self .validate) (a .self .crc32)) _ _ _ _ (s .pre .0) (sym (c .before .before .before .before .item-at .ensures (p .directory) (p .same)) ∙ ap gotItem (c .before .before .i .given .1)) in
     omega (arith, w .inside)
 
 after-requires : tie.Need-after-requires
 after-requires c κs =
-    let a = c .before .before .before .before .before .before .args in
-    let w = within (inside (a .directory) (a .self .validate) (a .self .crc32)) _ _ _ _ (c .before .before .before .before .before .before .pre) (sym (c .before .before .before .before .item-at .ensures) ∙ ap gotItem (c .before .before .i .given .1)) in
+    let s = c .before .before .before .before .before .before in
+    let a = s .args in
+    let p = s .pre .1 in
+    let w = within (inside (p .directory) (a .self .validate) (a .self .crc32)) _ _ _ _ (s .pre .0) (sym (c .before .before .before .before .item-at .ensures (p .directory) (p .same)) ∙ ap gotItem (c .before .before .i .given .1)) in
     (w .behind, w .inside)
 
 returns : tie.Need-returns
-returns c = let a = c .before .before .before .before .before .before .args in c .refuse .ensures ∙ ap (λ (g : Got Item). stepped (now (a .log)) (a .self) g) (sym (ap gotItem (c .before .before .a .given .1)) ∙ c .before .before .before .before .item-at .ensures)
+returns c = λ d e.
+    let a = c .before .before .before .before .before .before .args in
+    c .refuse .ensures ∙ ap (λ (g : Got Item). stepped (now (a .log)) (a .self) g) (sym (ap gotItem (c .before .before .a .given .1)) ∙ c .before .before .before .before .item-at .ensures d e)
 
 returns-2 : tie.Need-returns-2
-returns-2 c = item-step _ _ _ _ _ (sym (ap gotItem (c .before .before .before .i .given .1)) ∙ c .before .before .before .before .before .item-at .ensures) (c .after .ensures)
+returns-2 c = λ d e. item-step _ _ _ _ _ (sym (ap gotItem (c .before .before .before .i .given .1)) ∙ c .before .before .before .before .before .item-at .ensures d e) (c .after .ensures)
 
 pub step-inside-spec : {M : Type 1} → statement M
 step-inside-spec =
