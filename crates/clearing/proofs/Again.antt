@@ -109,6 +109,7 @@ module _ (d : Directory) (log : List ℕ) (at : ℕ) where
     -- a record to be cleared: its actions, and where it ends, also for a reader that doesn't validate
     pub record Clears : Type 0 where
       pub actions : List Written
+      pub opened : Opened log at (w .opened)
       pub plainly : restIn d log (plain (w .opened)) ≡ walked actions (w .end)
       pub again : clearable (recordAgain d log at) ≡ walked (record { id = w .opened .record_id; actions = actions }) (w .end)
 
@@ -117,6 +118,7 @@ module _ (d : Directory) (log : List ℕ) (at : ℕ) where
         let o : Opened log at (w .opened) = rw (k .reader) (opening.opening d log at (k .s) (k .opens)) in
         record {
           actions = k .actions;
+          opened = o;
           plainly = plain-walked d log at (suc (length log)) (w .opened) (k .actions) (w .end) o (k .behind);
           again = ap clearable (again-by d log at ∙ k .again) ∙ if-false (eqb (w .opened .record_id) lastRecordId) _ _ (ne-eqb (w .opened .record_id) lastRecordId t);
         }

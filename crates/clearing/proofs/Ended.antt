@@ -78,3 +78,8 @@ module _ (d : Directory) (log : List ℕ) (at : ℕ) (s : Overlays) (next : ℕ)
 
       pub tested-ends : (next ≡ 0 → ⊥) → (x : Ending) → x ≡ endReadBy at s next (clearable (recordAgain d log at)) → x ≡ endRead d log at s next
       tested-ends n x e = e ∙ sym (ap (endReadBy at s next) (rules false (ne-eqb next 0 n)))
+
+-- under another directory that is the same
+pub same-directory : (e d : Directory) (log : List ℕ) (at next : ℕ) (s : Overlays) (x : Ending) → e ≡ d → x ≡ endReadBy at s next (clearable (recordAgain e log at))
+    → x ≡ endReadBy at s next (clearable (recordAgain d log at))
+same-directory e d log at next s x q h = h ∙ ap (λ (y : Directory). endReadBy at s next (clearable (recordAgain y log at))) q

@@ -1,20 +1,19 @@
 // The shared overlays, action by action.
 ghost use mathlib.Core.Path.{_≡_};
 ghost use mathlib.Core.Bool.{true};
-ghost use Rattle.directory.specs.Directory.{directoryKept};
+ghost use Rattle.directory.specs.Inner.{directoryIn, Flat};
 ghost use Rattle.memory.specs.declared.span.Holder.the-variants.{Shared};
 ghost use Rattle.memory.specs.Parts.{partsOf, partsKept};
-ghost use Rattle.replay.specs.Inner.{isWalked};
+ghost use Rattle.replay.specs.Inner.{isWalked, Walker};
 ghost use Rattle.replay.specs.Replay.{restIn};
 ghost use Rattle.clearing.specs.Clear.{namedBy, clearedKey};
 ghost use Rattle.clearing.specs.Inner.{clearedWalk};
-use directory::Directory;
 use directory::TableKind;
 use memory::Counts;
 use memory::Holder;
+use record::ItemAnswer;
 use record::LogAction;
 use record::LogReader;
-use record::Step;
 
 // The key that an action names, in a table of a kind.
 pub enum NamedKey {
@@ -74,32 +73,32 @@ fn clear_action(
 
 // The entries that a record names, from inside it to its end. It meets no refusal, since the record was checked.
 pub fn clear_rest(
-    d: Directory,
+    t: &[u64; 81],
     log: &[u8],
     r: LogReader,
     counts: Counts,
     words: &mut [u64],
     bytes: &mut [u8],
 ) -> Counts
-    requires { ⌜ (directoryKept d ≡ true) × (partsKept Shared (partsOf Shared counts (now words) (now bytes)) ≡ true)
-        × (isWalked (restIn d (now log) r) ≡ true) ⌝ }
+    requires { ⌜ Flat (now t) × Walker (now log) r × (partsKept Shared (partsOf Shared counts (now words) (now bytes)) ≡ true)
+        × (isWalked (restIn (directoryIn (now t)) (now log) r) ≡ true) ⌝ }
     ensures { λ c. ⌜ partsOf Shared c (now (words .exit)) (now (bytes .exit))
-        ≡ clearedWalk (r .record_id) (restIn d (now (log .entry)) r) (partsOf Shared counts (now (words .entry)) (now (bytes .entry))) ⌝ }
+        ≡ clearedWalk (r .record_id) (restIn (directoryIn (now (t .entry))) (now (log .entry)) r) (partsOf Shared counts (now (words .entry)) (now (bytes .entry))) ⌝ }
 {
     let id = r.record_id;
-    let mut cur = r;
+    let mut at = r.position;
     let mut left = counts;
     loop {
-        match cur.next_kept(d, log) {
-            Step::Refused(_) => return left,
-            Step::Took(s) => {
-                let action = s.action;
-                let next = s.reader;
+        let f = record::sought_in(t, log, at);
+        match record::item_at(f, log, at, r.validate, r.crc32) {
+            ItemAnswer::NoItem(_) => return left,
+            ItemAnswer::Read(i) => {
+                let action = i.action;
                 if action.is_end() {
                     return left;
                 }
                 left = clear_action(action, left, words, bytes, id);
-                cur = next;
+                at = i.start + i.length;
             }
         }
     }

@@ -3,6 +3,7 @@ ghost use mathlib.Core.Path.{_≡_};
 ghost use mathlib.Core.Bool.{true};
 ghost use Rattle.answer.specs.Answer.{lastRecordId};
 ghost use Rattle.directory.specs.Directory.{directoryKept};
+ghost use Rattle.directory.specs.Inner.{directoryIn, Flat};
 ghost use Rattle.memory.specs.declared.span.Holder.the-variants.{Shared};
 ghost use Rattle.memory.specs.Parts.{partsOf, partsKept};
 ghost use Rattle.memory.specs.Overlays.{overlaysOf};
@@ -52,9 +53,9 @@ fn raised(next: u64, id: u64) -> u64
     if id < next { next } else { id + 1 }
 }
 
-// Reads the record at a position again and takes its entries out of the overlays, all of which were tested already.
-pub fn end_read_kept(
-    directory: Directory,
+// Reads the record at a position again and takes its entries out of the overlays, under a directory in numbers.
+fn end_read_in(
+    t: &[u64; 81],
     log: &[u8],
     position: usize,
     overlays: LogOverlays,
@@ -62,11 +63,11 @@ pub fn end_read_kept(
     bytes: &mut [u8],
     next: u64,
 ) -> EndRead
-    requires { ⌜ (directoryKept directory ≡ true) × (partsKept Shared (partsOf Shared (overlays .counts) (now words) (now bytes)) ≡ true) × (next ≡ 0 → ⊥) ⌝ }
+    requires { ⌜ Flat (now t) × (partsKept Shared (partsOf Shared (overlays .counts) (now words) (now bytes)) ≡ true) ⌝ }
     ensures { λ r. ⌜ endReadOf r (now (words .exit)) (now (bytes .exit))
-        ≡ endReadBy position (overlaysOf overlays (now (words .entry)) (now (bytes .entry))) next (clearable (recordAgain directory (now (log .entry)) position)) ⌝ }
+        ≡ endReadBy position (overlaysOf overlays (now (words .entry)) (now (bytes .entry))) next (clearable (recordAgain (directoryIn (now (t .entry))) (now (log .entry)) position)) ⌝ }
 {
-    match replay::check_record_kept(directory, log, position) {
+    match replay::check_record_in(t, log, position) {
         WholeAnswer::NotWhole(x) => {
             let a = x.answer;
             nothing_read(a, x.position, position, overlays, next)
@@ -78,7 +79,7 @@ pub fn end_read_kept(
                 return nothing_read(Answer::UsedUp, w.end, position, overlays, next);
             }
             let before = overlays.counts;
-            let counts = clear_rest(directory, log, opened.unvalidated(), before, words, bytes);
+            let counts = clear_rest(t, log, opened.unvalidated(), before, words, bytes);
             let last_record_ids = overlays.last_record_ids;
             let overlays = LogOverlays {
                 counts,
@@ -94,6 +95,24 @@ pub fn end_read_kept(
             }
         }
     }
+}
+
+// The same where all of it was tested already.
+pub fn end_read_kept(
+    directory: Directory,
+    log: &[u8],
+    position: usize,
+    overlays: LogOverlays,
+    words: &mut [u64],
+    bytes: &mut [u8],
+    next: u64,
+) -> EndRead
+    requires { ⌜ (directoryKept directory ≡ true) × (partsKept Shared (partsOf Shared (overlays .counts) (now words) (now bytes)) ≡ true) × (next ≡ 0 → ⊥) ⌝ }
+    ensures { λ r. ⌜ endReadOf r (now (words .exit)) (now (bytes .exit))
+        ≡ endReadBy position (overlaysOf overlays (now (words .entry)) (now (bytes .entry))) next (clearable (recordAgain directory (now (log .entry)) position)) ⌝ }
+{
+    let t = directory::flat(directory);
+    end_read_in(&t, log, position, overlays, words, bytes, next)
 }
 
 // The same, tested: 13 before anything is read.

@@ -1,5 +1,5 @@
 -- The first pass: the end of the record read plainly, and then the checksum over all its bytes. Assumes nothing.
-use mathlib.Core.Path.{_≡_, refl, sym, ap, _∙_}
+use mathlib.Core.Path.{_≡_, refl, sym, ap, _∙_, subst}
 use mathlib.Core.Bool.{Bool, true, false, and-eq-true-iff}
 use mathlib.Core.List.{List, []}
 use Prim.Native.Nat.{ℕ, suc, _-_}
@@ -11,6 +11,7 @@ use Rattle.words.specs.Words.{littleAt}
 use Rattle.words.proofs.Choices.{if-true, if-false}
 use Rattle.checksum.specs.Checksum.{checksumOf}
 use Rattle.directory.specs.Directory.{directoryKept, imageLength}
+use Rattle.directory.specs.Inner.{directoryIn, Flat}
 use Rattle.directory.specs.declared.directory.Directory.{Directory}
 use Rattle.answer.specs.declared.answer.Answer.the-variants.{Done, WrongSum, BadState}
 use Rattle.record.specs.declared.reader.LogReader.{LogReader}
@@ -18,7 +19,7 @@ use Rattle.effect.specs.Effect.{Written}
 use Rattle.record.specs.Next.{plain}
 use Rattle.answer.specs.declared.answer.Refusal.{Refusal}
 use Rattle.answer.specs.Answer.{refusal}
-use Rattle.replay.specs.Inner.{isWalked, Opened}
+use Rattle.replay.specs.Inner.{isWalked, Opened, Walker, FlatFor}
 use Rattle.replay.specs.Replay.{Walked, fault, walked, recordAt, tablesKept, judged, replayedAs, imageAfter, endIn}
 use Rattle.replay.specs.declared.check.EndAnswer.the-variants.{Ended, NotEnded}
 use Rattle.replay.proofs.Places.{EndsIn, ends-in}
@@ -67,6 +68,10 @@ module _ (d : Directory) (log : List ℕ) (at : ℕ) (r : LogReader) (o : Opened
   pub checked-wrong : (end : ℕ) → Ended end ≡ endIn (whole d log (plain r)) → fits end ≡ false → NotEnded (refusal WrongSum (end - 5)) ≡ endIn (whole d log r)
   checked-wrong end e q = sym (by-sum end e false q)
 
+  -- a reader that leaves the checksum out walks on
+  pub plain-walker : (p : LogReader) → p ≡ plain r → Walker log p
+  plain-walker p e = subst (Walker log) (sym e) (record { inside = o .inside; plainly = refl; within = o .within })
+
   -- the second pass reads what the first one read, and no checksum
   pub second-walks : (end : ℕ) → Ended end ≡ endIn (whole d log r) → isWalked (whole d log (plain r)) ≡ true
   second-walks end e =
@@ -113,7 +118,6 @@ module _ (d : Directory) (image : List ℕ) (e : tablesKept d image ≡ true) wh
   unfolding tablesKept
   kept-length = eqb-true (length image) (imageLength d) (and-eq-true-iff (directoryKept d) (eqb (length image) (imageLength d)) .0 e .1)
 
-  -- an image of the same length keeps it
-  pub kept-still : (after : List ℕ) → length after ≡ length image → tablesKept d after ≡ true
-  unfolding tablesKept
-  kept-still after l = rw l e
+-- written out as numbers, they are the same
+pub flat-for : (t : List ℕ) (d : Directory) (image : List ℕ) → directoryIn t ≡ d → Flat t → tablesKept d image ≡ true → FlatFor t image
+flat-for t d image e f k = record { flat = f; long = kept-length d image k ∙ ap imageLength (sym e) }

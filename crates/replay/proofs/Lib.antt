@@ -6,6 +6,7 @@ pub mod CutLog
 pub mod Demands
 pub mod Ends
 pub mod Fault
+pub mod Items
 pub mod Opening
 pub mod Places
 pub mod Records

@@ -86,7 +86,7 @@ abbrev pub endIn : Walked (List Written) → EndAnswer
 endIn (fault x) = NotEnded x
 endIn (walked ws end) = Ended end
 
--- what `check_record_kept` answers, whatever the record's id: the reader behind its opening, and the place behind its end
+-- what `check_record_in` answers, whatever the record's id: the reader behind its opening, and the place behind its end
 abbrev pub wholeBy : LogReader → Walked (List Written) → WholeAnswer
 wholeBy r (fault x) = NotWhole x
 wholeBy r (walked ws end) = Whole (record { opened = r; end = end })

@@ -14,4 +14,4 @@ pub use one_record::replay;
 pub use one_record::replay_kept;
 pub use whole::WholeAnswer;
 pub use whole::WholeRecord;
-pub use whole::check_record_kept;
+pub use whole::check_record_in;

@@ -1,10 +1,12 @@
 // Records one behind the other.
 ghost use mathlib.Core.Path.{_≡_};
 ghost use mathlib.Core.Bool.{true};
+ghost use Rattle.directory.specs.Inner.{directoryIn};
+ghost use Rattle.replay.specs.Inner.{FlatFor};
 ghost use Rattle.replay.specs.Replay.{tablesKept};
 ghost use Rattle.replay.specs.Run.{runIn, runOf};
 use super::check::EndAnswer;
-use super::one_record::replay_kept;
+use super::one_record::replay_in;
 use super::one_record::tables_kept;
 use answer::Answer;
 use directory::Directory;
@@ -17,16 +19,16 @@ pub struct Ran {
     pub fault_at: usize,
 }
 
-// A run under a directory and an image that were tested already.
-pub fn run_kept(d: Directory, log: &[u8], at: usize, expected: u64, image: &mut [u8]) -> Ran
-    requires { ⌜ tablesKept d (now image) ≡ true ⌝ }
-    ensures { λ r. ⌜ (r ≡ runIn d (now (log .entry)) at expected 0 (now (image .entry)) .ran) × (now (image .exit) ≡ runIn d (now (log .entry)) at expected 0 (now (image .entry)) .image) ⌝ }
+// A run under a directory in numbers.
+fn run_in(t: &[u64; 81], log: &[u8], at: usize, expected: u64, image: &mut [u8]) -> Ran
+    requires { ⌜ FlatFor (now t) (now image) ⌝ }
+    ensures { λ r. ⌜ (r ≡ runIn (directoryIn (now (t .entry))) (now (log .entry)) at expected 0 (now (image .entry)) .ran) × (now (image .exit) ≡ runIn (directoryIn (now (t .entry))) (now (log .entry)) at expected 0 (now (image .entry)) .image) ⌝ }
 {
     let mut position = at;
     let mut id = expected;
     let mut count = 0;
     loop {
-        match replay_kept(d, log, position, id, image) {
+        match replay_in(t, log, position, id, image) {
             EndAnswer::NotEnded(x) => {
                 let a = x.answer;
                 return Ran {
@@ -51,6 +53,15 @@ pub fn run_kept(d: Directory, log: &[u8], at: usize, expected: u64, image: &mut 
             }
         }
     }
+}
+
+// A run under a directory and an image that were tested already.
+pub fn run_kept(d: Directory, log: &[u8], at: usize, expected: u64, image: &mut [u8]) -> Ran
+    requires { ⌜ tablesKept d (now image) ≡ true ⌝ }
+    ensures { λ r. ⌜ (r ≡ runIn d (now (log .entry)) at expected 0 (now (image .entry)) .ran) × (now (image .exit) ≡ runIn d (now (log .entry)) at expected 0 (now (image .entry)) .image) ⌝ }
+{
+    let t = directory::flat(d);
+    run_in(&t, log, at, expected, image)
 }
 
 // Replays from a position, the expected id rising by 1, up to the first answer other than 0.

@@ -1,7 +1,8 @@
 // One record, in two passes over its bytes: checked, then applied.
 ghost use mathlib.Core.Path.{_≡_};
 ghost use mathlib.Core.Bool.{true};
-ghost use Rattle.replay.specs.Inner.{Opened};
+ghost use Rattle.directory.specs.Inner.{directoryIn};
+ghost use Rattle.replay.specs.Inner.{Opened, FlatFor};
 ghost use Rattle.replay.specs.Replay.{restIn, recordAt, tablesKept, judged, replayedAs, imageAfter, endIn};
 use super::apply::apply_rest;
 use super::check::EndAnswer;
@@ -21,25 +22,43 @@ pub struct Replayed {
 
 // The record behind its opening: checked to its end, then applied. The second pass leaves the checksum out: it was found right.
 fn replay_opened(
-    d: Directory,
+    t: &[u64; 81],
     log: &[u8],
     at: usize,
     opened: LogReader,
     image: &mut [u8],
 ) -> EndAnswer
-    requires { ⌜ (tablesKept d (now image) ≡ true) × Opened (now log) at opened ⌝ }
-    ensures { λ e. ⌜ (e ≡ endIn (restIn d (now (log .entry)) opened)) × (now (image .exit) ≡ imageAfter d (now (image .entry)) (restIn d (now (log .entry)) opened)) ⌝ }
+    requires { ⌜ FlatFor (now t) (now image) × Opened (now log) at opened ⌝ }
+    ensures { λ e. ⌜ (e ≡ endIn (restIn (directoryIn (now (t .entry))) (now (log .entry)) opened)) × (now (image .exit) ≡ imageAfter (directoryIn (now (t .entry))) (now (image .entry)) (restIn (directoryIn (now (t .entry))) (now (log .entry)) opened)) ⌝ }
 {
-    match checked_rest(d, log, at, opened) {
+    match checked_rest(t, log, at, opened) {
         EndAnswer::NotEnded(x) => EndAnswer::NotEnded(x),
         EndAnswer::Ended(end) => {
-            apply_rest(d, log, opened.unvalidated(), image);
+            apply_rest(t, log, opened.unvalidated(), image);
             EndAnswer::Ended(end)
         }
     }
 }
 
-// A record under a directory and an image that were tested already: a run tests them once.
+// A record under a directory in numbers: a run writes it once.
+pub fn replay_in(t: &[u64; 81], log: &[u8], at: usize, expected: u64, image: &mut [u8]) -> EndAnswer
+    requires { ⌜ FlatFor (now t) (now image) ⌝ }
+    ensures { λ e. ⌜ (e ≡ endIn (recordAt (directoryIn (now (t .entry))) (now (log .entry)) at expected)) × (now (image .exit) ≡ imageAfter (directoryIn (now (t .entry))) (now (image .entry)) (recordAt (directoryIn (now (t .entry))) (now (log .entry)) at expected)) ⌝ }
+{
+    match LogReader::new(at, true).open(log) {
+        Step::Refused(x) => EndAnswer::NotEnded(x),
+        Step::Took(s) => {
+            let opened = s.reader;
+            if opened.record_id == expected {
+                replay_opened(t, log, at, opened, image)
+            } else {
+                EndAnswer::NotEnded(Refusal::new(Answer::WrongId, at))
+            }
+        }
+    }
+}
+
+// A record under a directory and an image that were tested already.
 pub fn replay_kept(
     d: Directory,
     log: &[u8],
@@ -50,17 +69,8 @@ pub fn replay_kept(
     requires { ⌜ tablesKept d (now image) ≡ true ⌝ }
     ensures { λ e. ⌜ (e ≡ endIn (recordAt d (now (log .entry)) at expected)) × (now (image .exit) ≡ imageAfter d (now (image .entry)) (recordAt d (now (log .entry)) at expected)) ⌝ }
 {
-    match LogReader::new(at, true).next_kept(d, log) {
-        Step::Refused(x) => EndAnswer::NotEnded(x),
-        Step::Took(s) => {
-            let opened = s.reader;
-            if opened.record_id == expected {
-                replay_opened(d, log, at, opened, image)
-            } else {
-                EndAnswer::NotEnded(Refusal::new(Answer::WrongId, at))
-            }
-        }
-    }
+    let t = directory::flat(d);
+    replay_in(&t, log, at, expected, image)
 }
 
 // Whether the directory keeps its rules and the image is its.

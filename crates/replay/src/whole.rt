@@ -1,13 +1,12 @@
 // A record checked to its end, whatever its id: what clearing reads again.
 ghost use mathlib.Core.Path.{_≡_};
 ghost use mathlib.Core.Bool.{true};
-ghost use Rattle.directory.specs.Directory.{directoryKept};
+ghost use Rattle.directory.specs.Inner.{directoryIn, Flat};
 ghost use Rattle.record.specs.Next.{readerAt, stepOf};
 ghost use Rattle.replay.specs.Replay.{restIn, wholeOf};
 use super::check::EndAnswer;
 use super::check::checked_rest;
 use answer::Refusal;
-use directory::Directory;
 use record::LogReader;
 use record::Step;
 
@@ -22,16 +21,16 @@ pub enum WholeAnswer {
     NotWhole(Refusal),
 }
 
-// Under a directory that was tested already.
-pub fn check_record_kept(d: Directory, log: &[u8], at: usize) -> WholeAnswer
-    requires { ⌜ directoryKept d ≡ true ⌝ }
-    ensures { λ r. ⌜ r ≡ wholeOf (restIn d (now (log .entry))) (stepOf d (now (log .entry)) (readerAt at true)) ⌝ }
+// Under a directory in numbers.
+pub fn check_record_in(t: &[u64; 81], log: &[u8], at: usize) -> WholeAnswer
+    requires { ⌜ Flat (now t) ⌝ }
+    ensures { λ r. ⌜ r ≡ wholeOf (restIn (directoryIn (now (t .entry))) (now (log .entry))) (stepOf (directoryIn (now (t .entry))) (now (log .entry)) (readerAt at true)) ⌝ }
 {
-    match LogReader::new(at, true).next_kept(d, log) {
+    match LogReader::new(at, true).open(log) {
         Step::Refused(x) => WholeAnswer::NotWhole(x),
         Step::Took(s) => {
             let opened = s.reader;
-            match checked_rest(d, log, at, opened) {
+            match checked_rest(t, log, at, opened) {
                 EndAnswer::NotEnded(x) => WholeAnswer::NotWhole(x),
                 EndAnswer::Ended(end) => WholeAnswer::Whole(WholeRecord { opened, end }),
             }

@@ -48,7 +48,8 @@ pub fn salvage_kept(d: Directory, log: &[u8], out: &mut [u8], list: &mut [u64]) 
     requires { ⌜ (directoryKept d ≡ true) × (length (now list) ≡ 256) ⌝ }
     ensures { λ r. ⌜ leftOf r (now (out .exit)) (now (list .exit)) ≡ salvageBy (now (log .entry)) (linesOf d (now (log .entry))) (now (out .entry)) (now (list .entry)) ⌝ }
 {
-    let lines = lines_of(d, log);
+    let t = directory::flat(d);
+    let lines = lines_of(&t, log);
     if 64 < lines.count {
         return refused(Answer::NoRoom);
     }

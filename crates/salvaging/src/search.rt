@@ -3,6 +3,7 @@ ghost use mathlib.Core.Path.{_≡_};
 ghost use mathlib.Core.Bool.{true};
 ghost use lib.ListN.{length};
 ghost use Rattle.directory.specs.Directory.{directoryKept};
+ghost use Rattle.directory.specs.Inner.{directoryIn, Flat};
 ghost use Rattle.salvaging.specs.Inner.{NextBegin, isOpen, searchIn, Inside};
 use answer::Refusal;
 use directory::Directory;
@@ -44,13 +45,13 @@ fn is_open(more: bool, x: Refusal) -> bool
 }
 
 // Where more bytes may follow, a record that they could make whole isn't passed over.
-pub fn search_kept(d: Directory, log: &[u8], from: usize, more: bool) -> Search
-    requires { ⌜ directoryKept d ≡ true ⌝ }
-    ensures { λ r. ⌜ (r ≡ searchIn more d (now (log .entry)) from) × Inside r from (length (now (log .entry))) ⌝ }
+pub fn search_in(t: &[u64; 81], log: &[u8], from: usize, more: bool) -> Search
+    requires { ⌜ Flat (now t) ⌝ }
+    ensures { λ r. ⌜ (r ≡ searchIn more (directoryIn (now (t .entry))) (now (log .entry)) from) × Inside r from (length (now (log .entry))) ⌝ }
 {
     let mut at = next_begin(log, from);
     while at < log.len() {
-        match replay::check_record_kept(d, log, at) {
+        match replay::check_record_in(t, log, at) {
             WholeAnswer::Whole(w) => {
                 let opened = w.opened;
                 return Search::Record(Found {
@@ -68,4 +69,13 @@ pub fn search_kept(d: Directory, log: &[u8], from: usize, more: bool) -> Search
         at = next_begin(log, at + 1);
     }
     Search::Nothing
+}
+
+// Under a directory that was tested already.
+pub fn search_kept(d: Directory, log: &[u8], from: usize, more: bool) -> Search
+    requires { ⌜ directoryKept d ≡ true ⌝ }
+    ensures { λ r. ⌜ (r ≡ searchIn more d (now (log .entry)) from) × Inside r from (length (now (log .entry))) ⌝ }
+{
+    let t = directory::flat(d);
+    search_in(&t, log, from, more)
 }

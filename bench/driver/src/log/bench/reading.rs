@@ -36,7 +36,7 @@ fn records(setting: &Setting, f: &mut Figures) {
     f.speed("next, the same, validating, 16 tables", ours(&wide, true, Door::Tested), rust);
     let check = mb / best(|| port::check(&t, &log, records));
     let slices = mb / best(|| assert_eq!(by_hand::run(&log, &d, None), (1, log.len(), records)));
-    f.speed("check_record_kept, the same (Rust: by hand on slices, crc32fast)", check, slices);
+    f.speed("check_record_in, the same (Rust: by hand on slices, crc32fast)", check, slices);
 }
 
 fn masks(setting: &Setting, f: &mut Figures) {

@@ -1,74 +1,18 @@
--- `end_read_kept` meets its contract: nothing is touched on a refusal, and else the record goes out of the overlays. Assumes nothing.
-use mathlib.Core.Path.{_≡_, sym, _∙_}
-use mathlib.Core.Bool.{true}
+-- `end_read_kept` meets its contract: the directory is written out as numbers first. Assumes nothing.
 use denote.Ref.{now}
-use Rattle.answer.specs.Answer.{refusal}
-use Rattle.answer.specs.declared.answer.Answer.the-variants.{UsedUp}
-use Rattle.record.specs.Next.{readerAt, stepOf}
-use Rattle.replay.specs.Replay.{restIn, wholeOf}
-use Rattle.replay.specs.declared.whole.WholeRecord.{WholeRecord}
-use Rattle.replay.specs.declared.whole.WholeAnswer.the-variants.{Whole}
-use Rattle.clearing.proofs.Again.{Clears, not-again, used-up, clears}
-use Rattle.clearing.proofs.Ended.{refused-ends, plain-walks, cleared-ends}
+use Rattle.directory.specs.Inner.{directoryIn}
+use Rattle.memory.specs.Overlays.{overlaysOf}
+use Rattle.clearing.specs.EndRead.{endReadOf}
+use Rattle.clearing.proofs.Ended.{same-directory}
 use borrow.Author.Needs.{needs}
 use Rattle.clearing.proofs.end_of_reading.end_read_kept.Statement.{statement}
 use Rattle.clearing.proofs.end_of_reading.end_read_kept.Tie as tie
 
--- the record that was found whole
-module _ (u : tie.After-w) where
-  abbrev s : tie.Start
-  s = u .before .before .before .before .before .before
+flat-requires : tie.Need-flat-requires
+flat-requires c κs = search needs
 
-  abbrev w : WholeRecord
-  w = u .w .given .0 .0
-
-  found : Whole w ≡ wholeOf (restIn (s .args .directory) (now (s .args .log))) (stepOf (s .args .directory) (now (s .args .log)) (readerAt (s .args .position) true))
-  found = sym (u .w .given .1) ∙ u .before .before .check-record-kept .ensures
-
--- and is to be cleared
-module _ (e : tie.Else1) where
-  abbrev u : tie.After-w
-  u = e .before .before .before
-
-  known : Clears (s u .args .directory) (now (s u .args .log)) (s u .args .position) (w u) (found u)
-  known = clears (s u .args .directory) (now (s u .args .log)) (s u .args .position) (w u) (found u) (e .if1 .left)
-
-check-record-kept-requires : tie.Need-check-record-kept-requires
-check-record-kept-requires c κs = search needs
-
-enum-known-x : tie.Need-enum-known-x
-enum-known-x c = search needs
-
-nothing-read-requires : tie.Need-nothing-read-requires
-nothing-read-requires c κs = search needs
-
-enum-known-w : tie.Need-enum-known-w
-enum-known-w c = search needs
-
-nothing-read-requires-2 : tie.Need-nothing-read-requires-2
-nothing-read-requires-2 c κs = search needs
-
-returns : tie.Need-returns
-returns c =
-    let a = c .before .before .before .before .before .before .before .before .before .before .args in
-    refused-ends (a .position) (a .next) (a .overlays) (now (a .words)) (now (a .bytes)) (c .nothing-read2 .result) (refusal UsedUp (w (c .before .before .before .before) .end)) (c .nothing-read2 .ensures) _ (used-up (a .directory) (now (a .log)) (a .position) (w (c .before .before .before .before)) (found (c .before .before .before .before)) (c .before .if1 .taken))
-
-unvalidated-requires : tie.Need-unvalidated-requires
-unvalidated-requires c κs = search needs
-
-clear-rest-requires : tie.Need-clear-rest-requires
-clear-rest-requires c κs =
-    let k = known (c .before .before .before .before) in
-    let a = c .before .before .before .before .before .before .before .before .before .before .before .before .before .args in
-    (c .before .before .before .before .before .before .before .before .before .before .before .before .before .pre .0, c .before .before .before .before .before .before .before .before .before .before .before .before .before .pre .1, plain-walks (a .directory) (now (a .log)) (c .before .before .unvalidated .result) (w (c .before .before .before .before .before .before .before) .opened) (c .before .before .unvalidated .ensures) (k .actions) (w (c .before .before .before .before .before .before .before) .end) (k .plainly))
-
-raised-requires : tie.Need-raised-requires
-raised-requires c κs = search needs
-
-returns-2 : tie.Need-returns-2
-returns-2 c =
-    let a = c .before .before .before .before .before .before .before .before .args in
-    refused-ends (a .position) (a .next) (a .overlays) (now (a .words)) (now (a .bytes)) (c .nothing-read .result) (c .before .before .x .given .0 .0) (c .nothing-read .ensures) _ (not-again (a .directory) (now (a .log)) (a .position) (c .before .before .x .given .0 .0) (sym (c .before .before .x .given .1) ∙ c .before .before .before .before .check-record-kept .ensures))
+end-read-in-requires : tie.Need-end-read-in-requires
+end-read-in-requires c κs = search needs
 
 same-length : tie.Need-same-length
 same-length c = search needs
@@ -76,27 +20,14 @@ same-length c = search needs
 same-length-2 : tie.Need-same-length-2
 same-length-2 c = search needs
 
-returns-3 : tie.Need-returns-3
-returns-3 c =
-    let k = known (c .before .before .before .before .before .before .before .before .before .before .before) in
-    let a = c .before .before .before .before .before .before .before .before .before .before .before .before .before .before .before .before .before .before .before .before .args in
-    let l = c .before .before .before .before .before .before .clear-rest in
-    cleared-ends (a .directory) (now (a .log)) (c .before .before .before .before .before .before .before .before .before .unvalidated .result) (w (c .before .before .before .before .before .before .before .before .before .before .before .before .before .before) .opened) (c .before .before .before .before .before .before .before .before .before .unvalidated .ensures) (k .actions) (w (c .before .before .before .before .before .before .before .before .before .before .before .before .before .before) .end) (k .plainly) (a .position) (a .next) (a .overlays) (now (a .words)) (now (a .bytes)) (l .last .1 .1 .1 .1 .0) (l .last .1 .1 .1 .1 .1 .0) (l .result) (c .raised .result) (c .raised .ensures) (l .ensures) _ (k .again)
+returns : tie.Need-returns
+returns c =
+    let k = c .before .before .before .before in
+    let f = k .before .before .before .before in
+    let a = f .before .before .before .before .args in
+    let l = k .end-read-in in
+    same-directory (directoryIn (f .flat .result)) (a .directory) (now (a .log)) (a .position) (a .next) (overlaysOf (a .overlays) (now (a .words)) (now (a .bytes))) (endReadOf (l .result) (l .last .1 .1 .1 .1 .0) (l .last .1 .1 .1 .1 .1 .0)) (f .flat .ensures .0) (l .ensures)
 
 pub end-read-kept-spec : {M : Type 1} → statement M
 end-read-kept-spec =
-    tie.close
-    (tie.spec
-    check-record-kept-requires
-    enum-known-x
-    nothing-read-requires
-    enum-known-w
-    nothing-read-requires-2
-    returns
-    unvalidated-requires
-    clear-rest-requires
-    raised-requires
-    returns-2
-    same-length
-    same-length-2
-    returns-3)
+    tie.close (tie.spec flat-requires end-read-in-requires same-length same-length-2 returns)

@@ -1,105 +1,32 @@
--- `run_kept` meets its contract. The invariant: the run from where it stands, with the image as it stands, is the run from where it began;
--- and no more records are counted than bytes are behind. Assumes nothing.
-use borrow.Author.Needs.{needs}
-use mathlib.Core.Path.{_≡_, refl, sym, ap, _∙_}
-use Prim.Native.Nat.{suc, _-_, _≤_}
-use native.Mathlib.Omega.{arith}
+-- `run_kept` meets its contract: the directory is written out as numbers first. Assumes nothing.
+use mathlib.Core.Path.{ap, _∙_}
 use denote.Ref.{now}
-use borrow.Author.Tests.{eq-eqb, ne-eqb}
-use lib.ListN.{length}
-use Rattle.answer.specs.Answer.{lastRecordId}
-use Rattle.replay.specs.Run.{Outcome, runFrom}
-use Rattle.replay.proofs.Checked.{kept-still}
-use Rattle.replay.proofs.Records.{turn-stop, turn-last, turn-more, turn-on}
+use Rattle.directory.specs.declared.directory.Directory.{Directory}
+use Rattle.replay.specs.Run.{runIn}
+use Rattle.replay.proofs.Checked.{kept-directory, flat-for}
+use borrow.Author.Needs.{needs}
 use Rattle.replay.proofs.many_records.run_kept.Statement.{statement}
 use Rattle.replay.proofs.many_records.run_kept.Tie as tie
-use Rattle.replay.proofs.many_records.run_kept.Reads as reads
-use Rattle.replay.proofs.many_records.run_kept.Lts as lts
-use Rattle.replay.proofs.one_record.replay_kept.Reads as replay-kept-reads
 
-abbrev Inv-loop : tie.InvT-loop
-Inv-loop d log at expected image₀ position₀ id₀ count₀ image position id count =
-    (length image ≡ length image₀) × (count ≤ position) × (id ≤ lastRecordId)
-    × (runFrom (suc (length log)) d log position id count image ≡ runFrom (suc (length log)) d log position₀ id₀ count₀ image₀)
+flat-requires : tie.Need-flat-requires
+flat-requires c κs = kept-directory _ _ (c .before .before .pre)
 
-abbrev μ-loop : tie.MeasureT-loop
-μ-loop d log at expected image₀ position₀ id₀ count₀ image position id count = length log - position
+run-in-requires : tie.Need-run-in-requires
+run-in-requires c κs =
+    let f = c .before .before in
+    flat-for _ _ _ (f .flat .ensures .0) (f .flat .ensures .1) (f .before .before .before .pre)
 
-loop-holds : tie.Need-loop-holds Inv-loop μ-loop
-loop-holds c = (refl, omega arith, omega arith, refl)
+same-length : tie.Need-same-length
+same-length c = search needs
 
-replay-kept-requires : tie.Need-replay-kept-requires Inv-loop μ-loop
-replay-kept-requires c κs = kept-still _ _ (c .before .before .before .before .pre) _ (c .before .loop .inv .0)
-
-enum-known-x : tie.Need-enum-known-x Inv-loop μ-loop
-enum-known-x c = search needs
-
-same-length : tie.Need-same-length Inv-loop μ-loop
-same-length c = c .before .before .before .before .before .replay-kept .kept .1 .1 .1 .1 .0 ∙ c .before .before .before .before .before .before .before .loop .inv .0
-
-returns : tie.Need-returns Inv-loop μ-loop
+returns : tie.Need-returns
 returns c =
-    let l = c .before .before .before .before .before .before .before .loop in
-    let a = c .before .before .before .before .before .before .before .before .before .before .args in
-    let e = sym (turn-stop (a .d) (now (a .log)) (l .position) (l .id) (l .count) (l .image) _ (c .before .before .before .before .before .replay-kept .ensures .1) _ (sym (c .before .x .given .1) ∙ c .before .before .before .before .before .replay-kept .ensures .0)) ∙ l .inv .3 in
-    (ap (λ (o : Outcome). o .ran) e, ap (λ (o : Outcome). o .image) e)
-
-enum-known-end : tie.Need-enum-known-end Inv-loop μ-loop
-enum-known-end c = search needs
-
-add-count : tie.Need-add-count Inv-loop μ-loop
-add-count c =
-    let l = c .before .before .before .before .before .before .before .loop in
-    let a = c .before .before .before .before .before .before .before .before .before .before .args in
-    let o = turn-on (a .d) (now (a .log)) (l .position) (l .id) (l .count) (l .image) _ (c .before .before .before .before .before .replay-kept .ensures .1) _ (sym (c .before .end .given .1) ∙ c .before .before .before .before .before .replay-kept .ensures .0) in
-    omega (arith, o .forward, o .inside, l .inv .1)
-
-same-length-2 : tie.Need-same-length-2 Inv-loop μ-loop
-same-length-2 c = c .before .before .before .before .before .before .replay-kept .kept .1 .1 .1 .1 .0 ∙ c .before .before .before .before .before .before .before .before .loop .inv .0
-
-returns-2 : tie.Need-returns-2 Inv-loop μ-loop
-returns-2 c =
-    let l = c .before .before .before .before .before .before .before .before .loop in
-    let a = c .before .before .before .before .before .before .before .before .before .before .before .args in
-    let e = sym (turn-last (a .d) (now (a .log)) (l .position) (l .id) (l .count) (l .image) _ (c .before .before .before .before .before .before .replay-kept .ensures .1) _ (sym (c .before .before .end .given .1) ∙ c .before .before .before .before .before .before .replay-kept .ensures .0) (eq-eqb _ _ (c .if1 .taken))) ∙ l .inv .3 in
-    (ap (λ (o : Outcome). o .ran) e, ap (λ (o : Outcome). o .image) e)
-
-add-id : tie.Need-add-id Inv-loop μ-loop
-add-id c = omega (arith, c .before .before .before .before .before .before .before .before .loop .inv .2)
-
-loop-less : tie.Need-loop-less Inv-loop μ-loop
-loop-less c =
-    let l = c .before .before .before .before .before .before .before .before .loop in
-    let a = c .before .before .before .before .before .before .before .before .before .before .before .args in
-    let o = turn-on (a .d) (now (a .log)) (l .position) (l .id) (l .count) (l .image) _ (c .before .before .before .before .before .before .replay-kept .ensures .1) _ (sym (c .before .before .end .given .1) ∙ c .before .before .before .before .before .before .replay-kept .ensures .0) in
-    omega (arith, o .forward, o .inside)
-
-loop-again : tie.Need-loop-again Inv-loop μ-loop
-loop-again c =
-    let l = c .before .before .before .before .before .before .before .before .loop in
-    let a = c .before .before .before .before .before .before .before .before .before .before .before .args in
-    let o = turn-on (a .d) (now (a .log)) (l .position) (l .id) (l .count) (l .image) _ (c .before .before .before .before .before .before .replay-kept .ensures .1) _ (sym (c .before .before .end .given .1) ∙ c .before .before .before .before .before .before .replay-kept .ensures .0) in (
-      c .before .before .before .before .before .before .replay-kept .kept .1 .1 .1 .1 .0 ∙ l .inv .0,
-      omega (arith, o .forward, l .inv .1),
-      omega (arith, l .inv .2),
-      sym (turn-more (a .d) (now (a .log)) (l .position) (l .id) (l .count) (l .image) _ (c .before .before .before .before .before .before .replay-kept .ensures .1) _ (sym (c .before .before .end .given .1) ∙ c .before .before .before .before .before .before .replay-kept .ensures .0) (ne-eqb _ _ (c .if1 .left))) ∙ l .inv .3,
+    let k = c .before .before in
+    let f = k .before .before .before in
+    let a = f .before .before .before .args in (
+      k .run-in .ensures .0 ∙ ap (λ (d : Directory). runIn d (now (a .log)) (a .at) (a .expected) 0 (now (a .image)) .ran) (f .flat .ensures .0),
+      k .run-in .ensures .1 ∙ ap (λ (d : Directory). runIn d (now (a .log)) (a .at) (a .expected) 0 (now (a .image)) .image) (f .flat .ensures .0),
     )
 
 pub run-kept-spec : {M : Type 1} → statement M
-run-kept-spec =
-    tie.close
-    (tie.spec
-    Inv-loop
-    μ-loop
-    loop-holds
-    replay-kept-requires
-    enum-known-x
-    same-length
-    returns
-    enum-known-end
-    add-count
-    same-length-2
-    returns-2
-    add-id
-    loop-less
-    loop-again)
+run-kept-spec = tie.close (tie.spec flat-requires run-in-requires same-length returns)

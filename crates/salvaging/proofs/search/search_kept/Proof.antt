@@ -1,89 +1,24 @@
--- `search_kept` meets its contract. The invariant: what is seen from here on is what is to be answered. Assumes nothing.
-use mathlib.Core.Path.{_≡_, sym, _∙_}
-use Prim.Native.Nat.{_+_, _-_}
-use native.Mathlib.Omega.{arith}
+-- `search_kept` meets its contract: the directory is written out as numbers first. Assumes nothing.
+use mathlib.Core.Path.{ap, _∙_}
 use denote.Ref.{now}
-use lib.ListN.{length}
+use Rattle.directory.specs.declared.directory.Directory.{Directory}
+use Rattle.salvaging.specs.Inner.{searchIn}
 use borrow.Author.Needs.{needs}
-use Rattle.salvaging.proofs.Seeking.{Seeks, seeks-first, seeks-nothing, seeks-record, seeks-open, seeks-on}
 use Rattle.salvaging.proofs.search.search_kept.Statement.{statement}
 use Rattle.salvaging.proofs.search.search_kept.Tie as tie
 
-abbrev Inv-loop : tie.InvT-loop
-Inv-loop d log from more at₀ at = Seeks more d log from at
+flat-requires : tie.Need-flat-requires
+flat-requires c κs = search needs
 
-abbrev μ-loop : tie.MeasureT-loop
-μ-loop d log from more at₀ at = length log - at
+search-in-requires : tie.Need-search-in-requires
+search-in-requires c κs = c .before .flat .ensures .1
 
-next-begin-requires : tie.Need-next-begin-requires Inv-loop μ-loop
-next-begin-requires c κs = search needs
-
-loop-holds : tie.Need-loop-holds Inv-loop μ-loop
-loop-holds c =
-    let a = c .before .before .args in
-    seeks-first (a .more) (a .d) (now (a .log)) (a .from) (c .next-begin .result) (c .next-begin .ensures)
-
-check-record-kept-requires : tie.Need-check-record-kept-requires Inv-loop μ-loop
-check-record-kept-requires c κs = search needs
-
-enum-known-w : tie.Need-enum-known-w Inv-loop μ-loop
-enum-known-w c = search needs
-
-returns : tie.Need-returns Inv-loop μ-loop
+returns : tie.Need-returns
 returns c =
-    let a = c .before .before .before .before .before .before .before .before .before .args in
-    let l = c .before .before .before .before .before .before .loop in
-    seeks-record (a .more) (a .d) (now (a .log)) (a .from) (l .at) (l .inv) (c .before .before .before .before .before .loop-test .taken) _ (sym (c .before .before .w .given .1) ∙ c .before .before .before .before .check-record-kept .ensures)
-
-enum-known-x : tie.Need-enum-known-x Inv-loop μ-loop
-enum-known-x c = search needs
-
-is-open-requires : tie.Need-is-open-requires Inv-loop μ-loop
-is-open-requires c κs = search needs
-
-returns-2 : tie.Need-returns-2 Inv-loop μ-loop
-returns-2 c =
-    let a = c .before .before .before .before .before .before .before .before .before .before .args in
-    let l = c .before .before .before .before .before .before .before .loop in
-    seeks-open (a .more) (a .d) (now (a .log)) (a .from) (l .at) (l .inv) (c .before .before .before .before .before .before .loop-test .taken) _ (sym (c .before .before .before .x .given .1) ∙ c .before .before .before .before .before .check-record-kept .ensures) (sym (c .before .is-open .ensures) ∙ c .if1 .taken)
-
-add-next-begin : tie.Need-add-next-begin Inv-loop μ-loop
-add-next-begin c = search needs
-
-next-begin-requires-2 : tie.Need-next-begin-requires-2 Inv-loop μ-loop
-next-begin-requires-2 c κs = search needs
-
-loop-less : tie.Need-loop-less Inv-loop μ-loop
-loop-less c =
-    omega (arith, c .next-begin2 .ensures .behind, c .before .before .before .before .before .before .before .loop-test .taken)
-
-loop-again : tie.Need-loop-again Inv-loop μ-loop
-loop-again c =
-    let a = c .before .before .before .before .before .before .before .before .before .before .before .args in
-    let l = c .before .before .before .before .before .before .before .before .loop in
-    seeks-on (a .more) (a .d) (now (a .log)) (a .from) (l .at) (l .inv) (c .before .before .before .before .before .before .before .loop-test .taken) _ (sym (c .before .before .before .before .x .given .1) ∙ c .before .before .before .before .before .before .check-record-kept .ensures) (sym (c .before .before .is-open .ensures) ∙ c .before .if1 .left) (c .next-begin2 .result) (c .next-begin2 .ensures)
-
-returns-3 : tie.Need-returns-3 Inv-loop μ-loop
-returns-3 c =
-    let a = c .before .before .before .before .args in
-    seeks-nothing (a .more) (a .d) (now (a .log)) (a .from) (c .before .loop .at) (c .before .loop .inv) (c .loop-test .left)
+    let k = c .search-in in
+    let f = c .before .before in
+    let a = f .before .before .args in
+    (k .ensures .0 ∙ ap (λ (d : Directory). searchIn (a .more) d (now (a .log)) (a .from)) (f .flat .ensures .0), k .ensures .1)
 
 pub search-kept-spec : {M : Type 1} → statement M
-search-kept-spec =
-    tie.close
-    (tie.spec
-    Inv-loop
-    μ-loop
-    next-begin-requires
-    loop-holds
-    check-record-kept-requires
-    enum-known-w
-    returns
-    enum-known-x
-    is-open-requires
-    returns-2
-    add-next-begin
-    next-begin-requires-2
-    loop-less
-    loop-again
-    returns-3)
+search-kept-spec = tie.close (tie.spec flat-requires search-in-requires returns)
