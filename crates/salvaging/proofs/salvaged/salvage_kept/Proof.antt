@@ -26,7 +26,7 @@ refused-requires c κs = search needs
 
 returns : tie.Need-returns
 returns c =
-    let u = c .before .before .before in
+    let u = c .before .before in
     let a = s u .args in
     over-64 (a .d) (now (a .log)) (u .lines-of .result) (listed u) (now (a .out)) (now (a .list)) (c .refused .result) (c .before .if1 .taken) (c .refused .ensures)
 
@@ -35,13 +35,13 @@ refused-requires-2 c κs = search needs
 
 returns-2 : tie.Need-returns-2
 returns-2 c =
-    let u = c .before .before .before .before in
+    let u = c .before .before .before in
     let a = s u .args in
     short-output (a .d) (now (a .log)) (u .lines-of .result) (listed u) (now (a .out)) (now (a .list)) (c .before .before .if1 .left) (c .refused2 .result) (c .before .if2 .taken) (c .refused2 .ensures)
 
 put-all-requires : tie.Need-put-all-requires
 put-all-requires c κs =
-    let u = c .before .before .before .before .before in
+    let u = c .before .before .before .before in
     let a = s u .args in (
       c .before .before .before .if1 .left,
       s u .pre .1,
@@ -57,7 +57,7 @@ same-length-2 c = search needs
 
 returns-3 : tie.Need-returns-3
 returns-3 c =
-    let u = c .before .before .before .before .before .before .before .before .before .before in
+    let u = c .before .before .before .before .before .before .before .before .before in
     let a = s u .args in
     let p = c .before .before .before .before .put-all .ensures in
     all-put (a .d) (now (a .log)) (u .lines-of .result) (listed u) (now (a .out)) (now (a .list)) (c .before .before .before .before .before .before .before .before .if1 .left) (c .before .before .before .before .before .before .before .if2 .left) _ _ (p .0) (p .1)
