@@ -1,0 +1,4 @@
+-- What the contracts cite.
+pub mod Check
+pub mod Checker
+pub mod Inner
