@@ -46,6 +46,10 @@ extern "C" {
 /* A reader: position, record id, the checksum's register, validate (0 or 1), inside (0 or 1). */
 #define HONGSATHEP_READER_WORDS 5
 
+/* The list of a damaged log (`list` of hongsathep_salvage): room for 64 lines of four words: 1 kept or 0 lost, position, length, the record's id, 0
+   where it is lost. */
+#define HONGSATHEP_SALVAGE_WORDS 256
+
 /* A change list: its head (`list`: the record's id; how many index, value and reference count keys; how many index drops and 16 table numbers; the
    same of the reference count drops), and two memories of its own, `items` and `chunks`. Head and memories go together. */
 #define HONGSATHEP_LIST_HEAD_WORDS 38
@@ -113,6 +117,17 @@ uint64_t hongsathep_run(
 uint64_t hongsathep_run_kept(
     const uint64_t *tables, size_t tables_length, const uint8_t *log, size_t log_length, size_t position,
     uint64_t expected, uint8_t *image, size_t image_length, uint64_t *end, uint64_t *count, uint64_t *fault);
+
+/* Copies the whole records of a damaged log that are acceptable under the directory, whatever their ids, to the front of `out`, and lists them and
+   the stretches between them, which cover the log once and in order, at the front of `list`; the rest of both stays. `lines`: how many lines there
+   are; `written`: how many bytes. It applies nothing. Answers 0, 13 (a directory that breaks a rule, a `list` that isn't 256 words), 9 (more than
+   64 lines), 10, in that order. Kept: the directory keeps its rules and `list` is 256 words. */
+uint64_t hongsathep_salvage(
+    const uint64_t *tables, size_t tables_length, const uint8_t *log, size_t log_length, uint8_t *out,
+    size_t out_length, uint64_t *list, size_t list_length, uint64_t *lines, uint64_t *written);
+uint64_t hongsathep_salvage_kept(
+    const uint64_t *tables, size_t tables_length, const uint8_t *log, size_t log_length, uint8_t *out,
+    size_t out_length, uint64_t *list, size_t list_length, uint64_t *lines, uint64_t *written);
 
 /* ---- a change list */
 

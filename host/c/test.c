@@ -125,6 +125,21 @@ static void refusals(void) {
     expect("flush_one, a word short", hongsathep_flush_one(queues, HONGSATHEP_QUEUES_WORDS - 1, 0, &moved, &number), 13);
 }
 
+/* a record whose value is damaged is left out, and the one behind it is copied */
+static void salvage(void) {
+    uint64_t lines[HONGSATHEP_SALVAGE_WORDS], due[] = {0, 0, 45, 0, 1, 45, 45, 2}, count, written;
+    uint8_t out[90] = {0};
+    log_bytes[30] ^= 1;
+    expect("salvage", hongsathep_salvage(TABLES, log_bytes, log_length, out, sizeof out, lines, HONGSATHEP_SALVAGE_WORDS, &count, &written), 0);
+    expect("salvage, lines", count, 2);
+    expect("salvage, the list", memcmp(lines, due, sizeof due), 0);
+    expect("salvage, bytes", written, 45);
+    expect("salvage, the record", memcmp(out, log_bytes + 45, 45), 0);
+    expect("salvage, no room", hongsathep_salvage(TABLES, log_bytes, log_length, out, 44, lines, HONGSATHEP_SALVAGE_WORDS, &count, &written), 10);
+    expect("salvage, a word short", hongsathep_salvage(TABLES, log_bytes, log_length, out, 90, lines, HONGSATHEP_SALVAGE_WORDS - 1, &count, &written), 13);
+    log_bytes[30] ^= 1;
+}
+
 int main(void) {
     uint64_t end, id, fault;
     expect("checksum", hongsathep_checksum((const uint8_t *)"123456789", 9), 0xCBF43926);
@@ -149,6 +164,7 @@ int main(void) {
     log_bytes[80] ^= 1;
     recover(log_bytes, log_length, 8, 1, 85);
     log_bytes[80] ^= 1;
+    salvage();
     files();
     next = 1;
     expect("end_read", hongsathep_end_read(TABLES, log_bytes, log_length, 0, OVERLAYS, WORDS, BYTES, &next, &end, &id, &fault), 0);

@@ -8,6 +8,7 @@
 //! - [`Directory`] says which tables there are; [`Image`] is the tables' bytes. [`Image::replay`] and [`Image::run`]
 //!   replay records: a record is checked to its end before a byte of the tables is written.
 //! - [`LogReader`] and [`Records`] go through a log's bytes.
+//! - [`salvage`] finds what is whole of a damaged log, and lists what is lost.
 //! - [`ChangeList`] gathers what a record is to change; [`Overlays`] answer for what the tables don't have yet;
 //!   [`Queues`] are the numbers of the files.
 //! - [`Log`] is all of these and real files: recover, append, sync, apply, clean.
@@ -27,6 +28,7 @@ mod log;
 mod overlays;
 mod queues;
 mod reader;
+mod salvage;
 #[allow(unsafe_code)]
 mod sys;
 
@@ -43,6 +45,7 @@ pub use self::{
     overlays::{Ended, FileSource, Overlays, WithList},
     queues::{Cleaned, Found, Opening, Queues},
     reader::{Action, Entries, LogReader, Record, Records},
+    salvage::{salvage, salvage_into, Line, Salvaged},
     sys::raw,
 };
 

@@ -2,4 +2,5 @@
 // back; it has no rules of its own. include/hongsathep.h says what each wants.
 mod reading;
 mod replaying;
+mod salvage;
 mod tables;

@@ -49,17 +49,18 @@ pub fn salvage_kept(d: Directory, log: &[u8], out: &mut [u8], list: &mut [u64]) 
     ensures { λ r. ⌜ leftOf r (now (out .exit)) (now (list .exit)) ≡ salvageBy (now (log .entry)) (linesOf d (now (log .entry))) (now (out .entry)) (now (list .entry)) ⌝ }
 {
     let lines = lines_of(d, log);
-    if 64 < lines.count {
+    let count = lines.count;
+    let written = lines.bytes as usize;
+    if 64 < count {
         return refused(Answer::NoRoom);
     }
-    let written = lines.bytes as usize;
     if out.len() < written {
         return refused(Answer::ShortOutput);
     }
     put_all(lines, log, out, list);
     Salvaged {
         answer: Answer::Done,
-        lines: lines.count,
+        lines: count,
         written: written,
     }
 }

@@ -14,6 +14,8 @@ calls! { kept
     fn hongsathep_run_kept(
         tables: &[u64], log: &[u8], position: usize, expected: u64, image: &mut [u8], end: &mut u64,
         count: &mut u64, fault: &mut u64) -> u64;
+    fn hongsathep_salvage_kept(
+        tables: &[u64], log: &[u8], out: &mut [u8], list: &mut [u64], lines: &mut u64, written: &mut u64) -> u64;
     fn hongsathep_insert_index_kept(
         tables: &[u64], list: &mut [u64], items: &mut [u64], chunks: &mut [u8], table: u16, index: u64, sub: u8,
         data: &[u8]) -> u64;
@@ -144,6 +146,15 @@ impl Bytes {
         let number = unsafe { hongsathep_run_kept(tables, log, position, expected, image, e, c, f) };
         ((Answer::of(number).unwrap_or(Answer::Other(number)), fault as usize), end as usize, count)
     }
+}
+
+/// Salvages a damaged log into an output; the words of the list's lines, and how many bytes are written.
+pub(crate) fn salvage(tables: &Tables, log: &[u8], out: &mut [u8]) -> Result<(Vec<[u64; 4]>, usize), Answer> {
+    let (mut list, mut lines, mut written) = ([0; SALVAGE_WORDS], 0, 0);
+    let (l, w) = (&mut lines, &mut written);
+    done(unsafe { hongsathep_salvage_kept(&tables.0, log, out, &mut list, l, w) })?;
+    let words = list.chunks_exact(4).take(lines as usize).filter_map(|line| line.try_into().ok());
+    Ok((words.collect(), written as usize))
 }
 
 /// A reader of a log.

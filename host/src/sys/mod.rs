@@ -59,8 +59,8 @@ mod kept;
 pub mod raw;
 
 pub(crate) use self::kept::{
-    begin_record, clear_replay_logs, end_read, end_record, Bytes, FoundFiles, List, Overlays, Queues, Reader, Stepped,
-    Tables,
+    begin_record, clear_replay_logs, end_read, end_record, salvage, Bytes, FoundFiles, List, Overlays, Queues, Reader,
+    Stepped, Tables,
 };
 
 use std::{fs::File, io, os::fd::AsRawFd, os::raw::c_int};

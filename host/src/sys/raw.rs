@@ -19,6 +19,8 @@ pub const TABLE_WORDS: usize = 6;
 pub const MOST_TABLES: usize = 16;
 /// The words of a reader.
 pub const READER_WORDS: usize = 5;
+/// The words of a damaged log's list: 64 lines of kept or lost (1 or 0), position, length, id.
+pub const SALVAGE_WORDS: usize = 256;
 /// The words of a change list's head.
 pub const LIST_HEAD_WORDS: usize = 38;
 /// The words of a change list's `items`.
@@ -64,6 +66,11 @@ calls! { tested
     fn hongsathep_run(
         tables: &[u64], log: &[u8], position: usize, expected: u64, image: &mut [u8], end: &mut u64,
         count: &mut u64, fault: &mut u64) -> u64;
+
+    /// Copies the whole records of a damaged log to the front of `out` and lists them and what lies between at the front
+    /// of `list`, 256 words. Answers 0, 9, 10, 13.
+    fn hongsathep_salvage(
+        tables: &[u64], log: &[u8], out: &mut [u8], list: &mut [u64], lines: &mut u64, written: &mut u64) -> u64;
 
     /// Makes an empty list of an id. 13 if `list` isn't 38 words.
     fn hongsathep_list_new(list: &mut [u64], id: u64) -> u64;

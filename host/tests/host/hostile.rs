@@ -41,6 +41,7 @@ struct World {
     queues: Lent<u64>,
     lengths: Lent<u64>,
     remove: Lent<u64>,
+    listed: Lent<u64>,
     chunks: Lent<u8>,
     bytes: Lent<u8>,
     log: Lent<u8>,
@@ -128,13 +129,14 @@ impl World {
             lengths: words(random, &[20, 3, 4, 9]),
             heads: bytes(random, &[1; 36]),
             remove: words(random, &[0; 4]),
+            listed: words(random, &[7; SALVAGE_WORDS]),
             next: [next.get(), hostile_number(random)][random.below(2) as usize],
         }
     }
 
     fn margins_stand(&self) -> bool {
         let words = [&self.tables, &self.reader, &self.list, &self.items, &self.overlays, &self.words, &self.queues];
-        let more = [&self.lengths, &self.remove];
+        let more = [&self.lengths, &self.remove, &self.listed];
         let bytes = [&self.chunks, &self.bytes, &self.log, &self.image, &self.data, &self.names, &self.heads];
         words.iter().chain(&more).all(|lent| lent.margins_stand()) && bytes.iter().all(|lent| lent.margins_stand())
     }
@@ -142,7 +144,7 @@ impl World {
     /// One call of them all; its answer, and whether any other number than 0 leaves everything as it was.
     fn call(&mut self, which: u64, random: &mut Random) -> (u64, bool) {
         let World { tables, reader, list, items, overlays, words, queues, lengths, remove, .. } = self;
-        let World { chunks, bytes, log, image, data, names, heads, name_lengths, next, .. } = self;
+        let World { chunks, bytes, log, image, data, names, heads, name_lengths, next, listed, .. } = self;
         let (t, r, l, i) = (tables.lend(), reader.lend(), list.lend(), items.lend());
         let (o, w, q, c, b) = (overlays.lend(), words.lend(), queues.lend(), chunks.lend(), bytes.lend());
         let (log, image, data) = (log.lend(), image.lend(), data.lend());
@@ -197,7 +199,8 @@ impl World {
             36 => hongsathep_kill_logs(q, &mut gone, &mut y),
             37 => told(hongsathep_replay_record_id(q, &mut x)),
             38 => told(hongsathep_num_dirty_logs(q)),
-            _ => told(hongsathep_has_log_files_to_read(q)),
+            39 => told(hongsathep_has_log_files_to_read(q)),
+            _ => hongsathep_salvage(t, log, image, listed.lend(), &mut x, &mut y),
         };
         (answer, true)
     }
@@ -215,7 +218,7 @@ fn words_and_lengths_of_all_sorts() {
     let mut answers = [0u64; 15];
     for round in 0..rounds {
         let mut world = World::new(&mut random);
-        for which in 0..40 {
+        for which in 0..41 {
             let before = world.clone();
             let (answer, is_leaving) = world.call(which, &mut random);
             assert!(answer <= 14, "round {round}, call {which}: {answer}");
@@ -227,7 +230,7 @@ fn words_and_lengths_of_all_sorts() {
             answers[answer as usize] += 1;
         }
     }
-    println!("{rounds} rounds of 40 calls; how often each number was answered: {answers:?}");
+    println!("{rounds} rounds of 41 calls; how often each number was answered: {answers:?}");
     assert!(answers[0] > rounds && answers[13] > rounds);
 }
 
@@ -253,6 +256,7 @@ fn arguments_of_all_sorts() {
         let _ = (image.index(IndexTableId(table), id), image.value(ValueTableId(table), id));
         let _ = LogReader::at(&directory, log, place, true).count();
         let _ = Records::at(&directory, log, place).expecting(id).count();
+        let _ = (salvage(&directory, log), salvage_into(&directory, log, &mut data.clone()));
         let _ = Records::new(&directory, log).flatten().map(|record| record.actions().count()).sum::<usize>();
         let _ = (overlays.with(&list).value(ValueTableId(table), id), overlays.last_record_id(id));
         let _ = overlays.end_record(&directory, &list, &mut queues, next, &mut data.clone());

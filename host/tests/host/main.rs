@@ -6,6 +6,7 @@ mod folder;
 mod hostile;
 mod kill;
 mod protocol;
+mod salvage;
 mod sample;
 mod script;
 mod text;

@@ -1,7 +1,7 @@
 //! Commands by the crate's types, as long as they can hold what the script makes: a forged state is none of theirs.
 
 use super::{
-    fields::{files_in, tables_in, written, Fields, Row},
+    fields::{files_in, salvaged, tables_in, written, Fields, Row},
     telling,
 };
 use hongsathep::*;
@@ -78,6 +78,7 @@ impl ByTypes {
             0x11..=0x13 | 0x18 | 0x1c | 0x20 => self.answer_of_log(command[0], f),
             0x14..=0x17 | 0x19 | 0x1f => self.answer_of_queues(command[0], f),
             0x1a | 0x1b | 0x1d | 0x1e | 0x22 => self.answer_of_overlays(command[0], f),
+            0x39 => self.salvage(f.number(4) as usize),
             0x30 => Some(Row::of(self.place?.is_some().into()).number(self.place?.unwrap_or(0), 8).0),
             _ => None,
         }
@@ -105,6 +106,18 @@ impl ByTypes {
         }
         chain.steps += 1;
         Some(stepped(&self.log, step.ok()?, reader.offset()))
+    }
+
+    fn salvage(&self, length: usize) -> Option<Vec<u8>> {
+        let mut out = vec![0x5a; length];
+        let done = salvage_into(self.directory.as_ref()?, &self.log, &mut out);
+        let answer = number(&done);
+        let (lines, size) = done.unwrap_or_default();
+        let words = |line: &Line| match *line {
+            Line::Kept { position, length, id } => [1, position, length, id],
+            Line::Lost { position, length } => [0, position, length, 0],
+        };
+        Some(salvaged(answer, &lines.iter().map(words).collect::<Vec<_>>(), &out, size))
     }
 
     fn answer_of_image(&mut self, opcode: u8, f: &mut Fields) -> Option<Vec<u8>> {

@@ -1,7 +1,7 @@
 //! Every command by the tested calls, over words that may be forged.
 
 use super::{
-    fields::{files_in, tables_in, written, Fields, Row},
+    fields::{files_in, salvaged, tables_in, written, Fields, Row},
     telling::{self, Part, LIST, SHARED},
 };
 use hongsathep::raw::*;
@@ -110,6 +110,7 @@ impl ByWords {
             0x14..=0x17 | 0x19 | 0x1f => self.answer_of_queues(command[0], f),
             0x1a | 0x1b | 0x1d | 0x1e | 0x22 => self.answer_of_overlays(command[0], f),
             0x30 => Row::of(self.place.is_some().into()).number(self.place.unwrap_or(0), 8).0,
+            0x39 => self.salvage(f.number(4) as usize),
             // The form in which a directory is handed on: here it is always words.
             0xf1 => vec![0],
             _ => vec![0xff],
@@ -143,6 +144,13 @@ impl ByWords {
             }
             _ => Row::default().number(image.len() as u64, 4).number(hongsathep_checksum(image).into(), 4).0,
         }
+    }
+
+    fn salvage(&self, length: usize) -> Vec<u8> {
+        let (mut out, mut list, mut lines, mut size) = (vec![0x5a; length], [0; SALVAGE_WORDS], 0, 0);
+        let answer = hongsathep_salvage(&self.tables, &self.log, &mut out, &mut list, &mut lines, &mut size);
+        let words: Vec<[u64; 4]> = list.chunks(4).take(lines as usize).map(|line| line.try_into().unwrap()).collect();
+        salvaged(answer, &words, &out, size as usize)
     }
 
     fn step(&mut self) -> Vec<u8> {

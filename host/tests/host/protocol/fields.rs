@@ -73,6 +73,15 @@ pub fn files_in(command: &[u8]) -> Vec<(&[u8], &[u8])> {
     (0..count).map(&mut file).collect()
 }
 
+/// The answer to SALVAGE: four words a line, then as to WRITE.
+pub fn salvaged(answer: u64, lines: &[[u64; 4]], output: &[u8], size: usize) -> Vec<u8> {
+    let row = Row::of(answer).number(lines.len() as u64, 2);
+    let line = |row: Row, [kept, position, length, id]: &[u64; 4]| {
+        row.number(*kept, 1).number(*position, 8).number(*length, 8).number(*id, 8)
+    };
+    written(lines.iter().fold(row, line).number(size as u64, 4), output, size)
+}
+
 /// The answer to END or WRITE: what was written of an output, and the checksum of all of it.
 pub fn written(row: Row, output: &[u8], size: usize) -> Vec<u8> {
     row.blob(&output[..size]).number(hongsathep::checksum(output).into(), 4).0

@@ -13,8 +13,8 @@ refused-requires c κs = search needs
 
 returns : tie.Need-returns
 returns c =
-    let a = c .before .before .before .before .before .before .before .args in
-    let l = c .before .before .before .lines-of in
+    let a = c .before .before .before .before .before .before .args in
+    let l = c .before .before .lines-of in
     over-64 (a .d) (now (a .log)) (l .result) (l .ensures) (now (a .out)) (now (a .list)) (c .refused .result) (c .before .if1 .taken) (c .refused .ensures)
 
 refused-requires-2 : tie.Need-refused-requires-2
@@ -22,14 +22,14 @@ refused-requires-2 c κs = search needs
 
 returns-2 : tie.Need-returns-2
 returns-2 c =
-    let a = c .before .before .before .before .before .before .before .before .args in
-    let l = c .before .before .before .before .lines-of in
+    let a = c .before .before .before .before .before .before .before .args in
+    let l = c .before .before .before .lines-of in
     short-output (a .d) (now (a .log)) (l .result) (l .ensures) (now (a .out)) (now (a .list)) (c .before .before .if1 .left) (c .refused2 .result) (c .before .if2 .taken) (c .refused2 .ensures)
 
 put-all-requires : tie.Need-put-all-requires
 put-all-requires c κs =
-    let s = c .before .before .before .before .before .before .before .before .before in
-    let l = c .before .before .before .before .before .lines-of in (
+    let s = c .before .before .before .before .before .before .before .before in
+    let l = c .before .before .before .before .lines-of in (
       c .before .before .before .if1 .left,
       s .pre .1,
       all-within (s .args .d) (now (s .args .log)) (l .result) (l .ensures) (now (s .args .out)) (now (s .args .list)) (c .before .before .before .if1 .left),
@@ -44,8 +44,8 @@ same-length-2 c = search needs
 
 returns-3 : tie.Need-returns-3
 returns-3 c =
-    let a = c .before .before .before .before .before .before .before .before .before .before .before .before .before .before .args in
-    let l = c .before .before .before .before .before .before .before .before .before .before .lines-of in
+    let a = c .before .before .before .before .before .before .before .before .before .before .before .before .before .args in
+    let l = c .before .before .before .before .before .before .before .before .before .lines-of in
     let p = c .before .before .before .before .put-all .ensures in
     all-put (a .d) (now (a .log)) (l .result) (l .ensures) (now (a .out)) (now (a .list)) (c .before .before .before .before .before .before .before .before .if1 .left) (c .before .before .before .before .before .before .before .if2 .left) _ _ (p .0) (p .1)
 
