@@ -9,6 +9,7 @@ pub enum Command {
     Recover(Recover),
     Dump(Dump),
     Check(Check),
+    Salvage(Salvage),
     Info(PathBuf),
 }
 
@@ -37,6 +38,12 @@ pub struct Check {
     pub first: Option<u64>,
 }
 
+pub struct Salvage {
+    pub directory: PathBuf,
+    pub log: PathBuf,
+    pub out: PathBuf,
+}
+
 const STATUS: &str =
     "Exit status: 0 when the log ended cleanly, else the answer's number (docs/TOOL.md lists them); 64 \
                       and up for usage and files.";
@@ -56,6 +63,7 @@ pub fn read(words: impl IntoIterator<Item = OsString>) -> Result<Command, ExitCo
         Some(("recover", given)) => Ok(Command::Recover(recover_of(given))),
         Some(("dump", given)) => Ok(Command::Dump(dump_of(given))),
         Some(("check", given)) => Ok(Command::Check(check_of(given))),
+        Some(("salvage", given)) => Ok(Command::Salvage(salvage_of(given))),
         Some(("info", given)) => Ok(Command::Info(path_in(given, "directory"))),
         _ => Err(ExitCode::from(USAGE)),
     }
@@ -64,13 +72,14 @@ pub fn read(words: impl IntoIterator<Item = OsString>) -> Result<Command, ExitCo
 fn tool() -> Clap {
     Clap::new("hongsathep")
         .version(env!("CARGO_PKG_VERSION"))
-        .about("The write-ahead log of parity-db: recover, read and check its files")
+        .about("The write-ahead log of parity-db: recover, read, check and salvage its files")
         .after_help(STATUS)
         .subcommand_required(true)
         .arg_required_else_help(true)
         .subcommand(recover())
         .subcommand(dump())
         .subcommand(check())
+        .subcommand(salvage())
         .subcommand(info())
 }
 
@@ -129,6 +138,19 @@ fn check() -> Clap {
         .arg(number("first", "ID", "The id that the first record must have, in place of the one that stands there"))
 }
 
+fn salvage() -> Clap {
+    let about =
+        "Copies the whole records of a damaged log to a new file, whatever their ids, and lists them and what is lost";
+    let help = "Example:\n  hongsathep salvage units.directory logs/log0 whole\n\nExit status: 0 when the records are copied, 9 if there \
+                are more than 64 records and stretches; 64 and up for usage and files.";
+    Clap::new("salvage")
+        .about(about)
+        .after_help(help)
+        .arg(directory())
+        .arg(path("log", "LOG", "The damaged log file, which is only read"))
+        .arg(path("out", "OUT", "The file for the records, which must not be there yet"))
+}
+
 fn info() -> Clap {
     let about = "Prints the tables of a directory, their places in the image, and its length";
     Clap::new("info")
@@ -173,4 +195,8 @@ fn check_of(given: &ArgMatches) -> Check {
         log: given.get_one::<PathBuf>("log").cloned(),
         first: number_in(given, "first"),
     }
+}
+
+fn salvage_of(given: &ArgMatches) -> Salvage {
+    Salvage { directory: path_in(given, "directory"), log: path_in(given, "log"), out: path_in(given, "out") }
 }

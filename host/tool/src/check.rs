@@ -1,6 +1,11 @@
 //! `check`: a log read to its end, and nothing applied.
 
-use crate::{arguments::Check, failure::Failure, inputs, outcome::Outcome};
+use crate::{
+    arguments::Check,
+    failure::{say, Failure},
+    inputs,
+    outcome::Outcome,
+};
 use hongsathep::{Directory, Image, Ran};
 use std::{
     fs::File,
@@ -21,7 +26,7 @@ pub fn check(asked: &Check, out: &mut impl Write) -> Result<u8, Failure> {
     writeln!(out, "{}", outcome.line())?;
     if let Some(fault) = outcome.fault() {
         out.flush()?;
-        eprintln!("hongsathep: {fault}");
+        say(&fault);
     }
     Ok(outcome.status())
 }

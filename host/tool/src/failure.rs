@@ -1,7 +1,12 @@
 //! What ends a command before a log has ended.
 
 use hongsathep::Error;
-use std::{fmt::Display, io, path::Path, process::ExitCode};
+use std::{
+    fmt::Display,
+    io::{self, Write},
+    path::Path,
+    process::ExitCode,
+};
 
 /// How the command line was used.
 pub const USAGE: u8 = 64;
@@ -21,11 +26,12 @@ pub const BUSY: u8 = 75;
 pub struct Failure {
     status: u8,
     words: String,
+    is_quiet: bool,
 }
 
 impl Failure {
     pub fn new(status: u8, words: impl Into<String>) -> Failure {
-        Failure { status, words: words.into() }
+        Failure { status, words: words.into(), is_quiet: false }
     }
 
     /// A file that isn't as it has to be.
@@ -40,7 +46,7 @@ impl Failure {
     }
 
     /// The crate's error: the status is the answer's number if there is one.
-    pub fn from(status: u8, error: &Error) -> Failure {
+    pub fn refused(status: u8, error: &Error) -> Failure {
         let io = error.io().map(io::Error::kind);
         let status = match (error.number(), io) {
             (Some(number), _) => status_of(number),
@@ -61,20 +67,23 @@ impl Failure {
     }
 
     pub fn tell(self) -> ExitCode {
-        if !self.words.is_empty() {
-            eprintln!("hongsathep: {}", self.words);
+        if !self.is_quiet {
+            say(&self.words);
         }
         ExitCode::from(self.status)
     }
 }
 
+/// Says it on standard error. Where that can't be written the exit status is left.
+pub fn say(words: &str) {
+    let _ = writeln!(io::stderr(), "hongsathep: {words}");
+}
+
 /// Standard output can't be written. That nobody reads it any more needs no words.
 impl From<io::Error> for Failure {
     fn from(error: io::Error) -> Failure {
-        match error.kind() {
-            io::ErrorKind::BrokenPipe => Failure::new(WRITE, ""),
-            _ => Failure::new(WRITE, format!("can't write to standard output: {error}")),
-        }
+        let is_quiet = error.kind() == io::ErrorKind::BrokenPipe;
+        Failure { is_quiet, ..Failure::new(WRITE, format!("can't write to standard output: {error}")) }
     }
 }
 

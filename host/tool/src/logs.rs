@@ -27,8 +27,8 @@ impl Logs {
     }
 
     fn in_folder(folder: &Path) -> Result<Logs, Failure> {
-        let lock = FolderLock::of(folder).map_err(|error| Failure::from(INPUT, &error))?;
-        let found = LogFile::all_in(folder).map_err(|error| Failure::from(INPUT, &error))?;
+        let lock = FolderLock::of(folder).map_err(|error| Failure::refused(INPUT, &error))?;
+        let found = LogFile::all_in(folder).map_err(|error| Failure::refused(INPUT, &error))?;
         Logs::in_order(&found, lock).map_err(|answer| refused(folder, answer))
     }
 
@@ -71,7 +71,7 @@ impl Logs {
 }
 
 fn looked_at(path: &Path, from: u64) -> Result<LogFile, Failure> {
-    LogFile::at(path, from).map_err(|error| Failure::from(INPUT, &error))
+    LogFile::at(path, from).map_err(|error| Failure::refused(INPUT, &error))
 }
 
 fn refused(path: &Path, answer: Answer) -> Failure {

@@ -11,7 +11,9 @@ mod inputs;
 mod lines;
 mod logs;
 mod outcome;
+mod place;
 mod recover;
+mod salvage;
 
 use arguments::Command;
 use failure::Failure;
@@ -39,6 +41,7 @@ fn run(command: &Command, out: &mut impl Write) -> Result<u8, Failure> {
         Command::Recover(asked) => recover::recover(asked, out),
         Command::Dump(asked) => dump::dump(asked, out),
         Command::Check(asked) => check::check(asked, out),
+        Command::Salvage(asked) => salvage::salvage(asked, out),
         Command::Info(directory) => info::info(directory, out),
     }
 }

@@ -70,8 +70,12 @@ impl Outcome {
 
 /// So many bytes, in words.
 pub fn bytes(count: u64) -> String {
+    counted(count, "byte")
+}
+
+pub fn counted(count: u64, what: &str) -> String {
     match count {
-        1 => "1 byte".to_string(),
-        _ => format!("{count} bytes"),
+        1 => format!("1 {what}"),
+        _ => format!("{count} {what}s"),
     }
 }

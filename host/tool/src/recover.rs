@@ -2,61 +2,61 @@
 
 use crate::{
     arguments::Recover,
-    failure::{Failure, INPUT, OUTPUT, USAGE, WRITE},
+    failure::{say, Failure, INPUT, OUTPUT},
     inputs,
     logs::Logs,
     outcome::{bytes, Outcome},
+    place,
 };
 use hongsathep::{Directory, Image, LogFile, Replacement};
 use indicatif::ProgressBar;
 use std::{
     fs::{self, File},
     io::{self, Seek, SeekFrom, Write},
-    os::unix::fs::MetadataExt,
-    path::Path,
 };
 
-const UNTOUCHED: &str = "nothing was written";
-
 pub fn recover(asked: &Recover, out: &mut impl Write) -> Result<u8, Failure> {
-    let untouched = |failure: Failure| failure.and(UNTOUCHED);
-    let directory = inputs::directory(&asked.directory).map_err(untouched)?;
-    let logs = Logs::at(&asked.logs, asked.from).map_err(untouched)?;
-    stands_alone(asked, &logs).map_err(untouched)?;
-    look_at(asked, &directory).map_err(untouched)?;
-    let target = if asked.is_dry { None } else { Some(begun(&asked.image).map_err(untouched)?) };
-    let mut image = image_of(asked, &directory).map_err(untouched)?;
-    let ran = replay_all(asked, &logs, &mut image, out).map_err(untouched)?;
-    let image = (asked.is_new || ran.count > 0).then_some(image);
-    let kept = finish(asked, target, image, out)?;
+    let (ran, became) = recovered(asked)?;
+    // What is printed has come true: the image is on its device.
+    let lines = ran.lines.iter().chain([&became.line]);
+    let printed = lines.into_iter().try_for_each(|line| writeln!(out, "{line}")).and_then(|()| out.flush());
+    let written = if became.is_written { "the image is written" } else { "nothing was written" };
+    printed.map_err(|error| Failure::from(error).and(written))?;
     if let Some(fault) = ran.fault {
-        out.flush()?;
-        eprintln!("hongsathep: {fault}; {kept}");
+        say(&format!("{fault}; {}", became.words));
     }
     Ok(ran.status)
 }
 
 /// What the files came to.
+#[derive(Default)]
 struct Replayed {
+    lines: Vec<String>,
     status: u8,
     count: u64,
     fault: Option<String>,
 }
 
-/// The image's place, and the one beside it, must be no file that is read.
-fn stands_alone(asked: &Recover, logs: &Logs) -> Result<(), Failure> {
-    let same = |one: &Path, other: &Path| match (fs::metadata(one), fs::metadata(other)) {
-        (Ok(one), Ok(other)) => (one.dev(), one.ino()) == (other.dev(), other.ino()),
-        _ => false,
-    };
-    let beside = Replacement::place_beside(&fs::canonicalize(&asked.image).unwrap_or(asked.image.clone()));
+/// What became of the image.
+struct Became {
+    line: String,
+    words: &'static str,
+    is_written: bool,
+}
+
+fn recovered(asked: &Recover) -> Result<(Replayed, Became), Failure> {
+    let untouched = |failure: Failure| failure.and("nothing was written");
+    let directory = inputs::directory(&asked.directory).map_err(untouched)?;
+    let logs = Logs::at(&asked.logs, asked.from).map_err(untouched)?;
     let read = logs.files.iter().chain(&logs.short).map(LogFile::path).chain([asked.directory.as_path()]);
-    for path in read {
-        if same(path, &asked.image) || same(path, &beside) {
-            return Err(Failure::of(USAGE, path, "the image would be written over it"));
-        }
-    }
-    Ok(())
+    place::stands_apart(&asked.image, read).map_err(untouched)?;
+    look_at(asked, &directory).map_err(untouched)?;
+    let target = if asked.is_dry { None } else { Some(place::begin(&asked.image).map_err(untouched)?) };
+    let mut image = image_of(asked, &directory).map_err(untouched)?;
+    let ran = replay_all(asked, &logs, &mut image).map_err(untouched)?;
+    let image = (asked.is_new || ran.count > 0).then_some(image);
+    let became = put(asked, target, image)?;
+    Ok((ran, became))
 }
 
 /// Whether the image is there as it has to be.
@@ -83,10 +83,6 @@ fn look_at(asked: &Recover, directory: &Directory) -> Result<(), Failure> {
     Ok(())
 }
 
-fn begun(path: &Path) -> Result<Replacement, Failure> {
-    Replacement::begin(path).map_err(|error| Failure::from(OUTPUT, &error))
-}
-
 /// The image as it is once no other run can write it.
 fn image_of(asked: &Recover, directory: &Directory) -> Result<Image, Failure> {
     look_at(asked, directory)?;
@@ -94,30 +90,29 @@ fn image_of(asked: &Recover, directory: &Directory) -> Result<Image, Failure> {
         return Ok(Image::new(directory));
     }
     let read = fs::read(&asked.image).map_err(|error| Failure::of(INPUT, &asked.image, error))?;
-    Image::from_bytes(directory, read).map_err(|error| Failure::from(INPUT, &error))
+    Image::from_bytes(directory, read).map_err(|error| Failure::refused(INPUT, &error))
 }
 
 /// Replays file after file, up to the first that doesn't end cleanly.
-fn replay_all(asked: &Recover, logs: &Logs, image: &mut Image, out: &mut impl Write) -> Result<Replayed, Failure> {
-    for file in &logs.short {
-        writeln!(out, "{}: no records, {} are too few for one", file.path().display(), bytes(file.length()))?;
-    }
+fn replay_all(asked: &Recover, logs: &Logs, image: &mut Image) -> Result<Replayed, Failure> {
+    let mut replayed = Replayed::default();
+    let short = |file: &LogFile| format!("{}: no records, {} are too few", file.path().display(), bytes(file.length()));
+    replayed.lines.extend(logs.short.iter().map(short));
     let progress = inputs::progress(Some(logs.length()));
     let mut expected = asked.first.or(logs.first).unwrap_or_default();
-    let mut replayed = Replayed { status: 0, count: 0, fault: None };
-    for (place, file) in logs.files.iter().enumerate() {
+    let mut files = logs.files.iter();
+    for file in files.by_ref() {
         let outcome = replay(file, asked.from.unwrap_or_default(), expected, image, &progress)?;
-        progress.suspend(|| writeln!(out, "{}", outcome.line()))?;
         expected = expected.wrapping_add(outcome.ran.count);
+        replayed.lines.push(outcome.line());
         replayed.count += outcome.ran.count;
         replayed.status = outcome.status();
         replayed.fault = outcome.fault();
         if !outcome.is_clean() {
-            let left = logs.files.iter().skip(place + 1);
-            left.clone().try_for_each(|file| writeln!(out, "{}: not replayed", file.path().display()))?;
             break;
         }
     }
+    replayed.lines.extend(files.map(|file| format!("{}: not replayed", file.path().display())));
     progress.finish_and_clear();
     Ok(replayed)
 }
@@ -140,30 +135,17 @@ fn replay(
     Ok(Outcome { name, ran, first, length: Some(from + file.length()), found })
 }
 
-/// Puts the image in its place, if there is one to put there, and says what became of it.
-fn finish(
-    asked: &Recover,
-    target: Option<Replacement>,
-    image: Option<Image>,
-    out: &mut impl Write,
-) -> Result<&'static str, Failure> {
+/// Puts the image in its place, if there is one to put there.
+fn put(asked: &Recover, target: Option<Replacement>, image: Option<Image>) -> Result<Became, Failure> {
     let path = asked.image.display();
+    let untouched = |line, words| Became { line, words, is_written: false };
     match (target, image) {
-        (_, None) => {
-            writeln!(out, "{path}: not written, there is nothing new")?;
-            Ok("the image is as it was")
-        }
-        (None, Some(_)) => {
-            writeln!(out, "{path}: not written, a dry run")?;
-            Ok("a dry run, nothing was written")
-        }
+        (_, None) => Ok(untouched(format!("{path}: not written, there is nothing new"), "the image is as it was")),
+        (None, Some(_)) => Ok(untouched(format!("{path}: not written, a dry run"), "a dry run, nothing was written")),
         (Some(mut target), Some(image)) => {
-            target.put(image.bytes()).map_err(|error| Failure::from(WRITE, &error).and("the image is as it was"))?;
-            target.sync_folder().map_err(|error| {
-                Failure::from(WRITE, &error).and("the image is written and in its place, but a power cut may undo that")
-            })?;
-            writeln!(out, "{path}: written, {}", bytes(image.bytes().len() as u64))?;
-            Ok("the image has the records before it")
+            place::put(&mut target, image.bytes(), "the image is as it was")?;
+            let line = format!("{path}: written, {}", bytes(image.bytes().len() as u64));
+            Ok(Became { line, words: "the image has the records before it", is_written: true })
         }
     }
 }

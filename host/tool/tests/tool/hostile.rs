@@ -1,10 +1,13 @@
 //! Any bytes, any words: an exit status of those that are listed, words, and never a panic.
 
 use crate::{
-    running::{files, folder, log, run, Said},
+    running::{command, files, folder, log, run, Said},
     sample::Random,
 };
-use std::fs;
+use std::{
+    fs::{self, File},
+    process::Stdio,
+};
 
 /// A run ends with a status of its own, and a failure has words.
 fn is_sound(said: &Said) {
@@ -56,6 +59,8 @@ fn any_bytes() {
         is_sound(&run(scratch.path(), &["dump", "--json", "--bytes", directory, "log"]));
         is_sound(&run(scratch.path(), &["recover", directory, "image", "log"]));
         is_sound(&run(scratch.path(), &["info", directory]));
+        is_sound(&run(scratch.path(), &["salvage", directory, "log", "out"]));
+        let _ = fs::remove_file(place("out"));
         assert_eq!(files(scratch.path()).into_keys().collect::<Vec<_>>(), names);
     }
 }
@@ -69,6 +74,7 @@ fn any_words() {
         "recover",
         "dump",
         "check",
+        "salvage",
         "info",
         "directory",
         "log",
@@ -104,4 +110,24 @@ fn any_words() {
     let mut command = Command::new(crate::running::TOOL);
     let output = command.current_dir(scratch.path()).arg("info").arg(name).output().unwrap();
     assert_eq!(output.status.code(), Some(66));
+}
+
+/// Output that can't be written is told; a recovery is done first.
+#[test]
+fn full_outputs() {
+    let scratch = folder();
+    let place = |name: &str| scratch.path().join(name);
+    fs::write(place("log"), log(1..=3)).unwrap();
+    fs::write(place("cut"), &log(1..=3)[..20]).unwrap();
+    let full = || File::options().write(true).open("/dev/full").unwrap();
+    let run = |arguments: &[&str]| Said::of(command(scratch.path(), arguments).stdout(full()).output().unwrap());
+    for arguments in [&["info", "directory"][..], &["check", "directory", "log"], &["dump", "directory", "log"]] {
+        run(arguments).fails_with(74, "can't write to standard output: No space left");
+    }
+    run(&["recover", "--new", "directory", "image", "log"]).fails_with(74, "; the image is written");
+    assert!(place("image").exists());
+    run(&["salvage", "directory", "log", "out"]).fails_with(74, "; the records are written");
+    assert!(fs::read(place("out")).unwrap() == log(1..=3));
+    let mut check = command(scratch.path(), &["check", "directory", "cut"]);
+    assert_eq!(check.stdout(Stdio::null()).stderr(full()).status().unwrap().code(), Some(2));
 }

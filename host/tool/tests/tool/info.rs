@@ -69,7 +69,7 @@ fn texts_that_cannot_be_read() {
 #[test]
 fn the_command_line() {
     let scratch = folder();
-    for name in ["recover", "dump", "check", "info"] {
+    for name in ["recover", "dump", "check", "salvage", "info"] {
         let said = run(scratch.path(), &[name, "--help"]);
         assert_eq!((said.status, said.err.as_str()), (Some(0), ""));
         assert!(said.out.contains(&format!("Example:\n  hongsathep {name} ")), "{said:?}");

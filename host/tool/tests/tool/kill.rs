@@ -1,4 +1,4 @@
-//! `recover` killed at every moment leaves the old image or the new one, whole.
+//! `recover` killed at every moment leaves the old image or the new one, whole; `salvage` leaves its output whole, or none.
 
 use crate::{
     running::{behind, command, folder, log, old_image, run},
@@ -21,11 +21,12 @@ fn begin() -> (Scratch, Vec<u8>) {
 }
 
 const RECOVER: [&str; 4] = ["recover", "directory", "image", "log"];
+const SALVAGE: [&str; 4] = ["salvage", "directory", "log", "out"];
 
 /// Runs the tool up to a number of stops, one where each call of the system begins and one where it ends, and kills it
 /// there. Whether it came so far.
-fn killed_at(scratch: &Scratch, stops: usize) -> io::Result<bool> {
-    let mut run = command(scratch.path(), &RECOVER);
+fn killed_at(scratch: &Scratch, arguments: &[&str], stops: usize) -> io::Result<bool> {
+    let mut run = command(scratch.path(), arguments);
     run.stdout(Stdio::null()).stderr(Stdio::null());
     // Between fork and exec: the call is allowed there, and memory isn't touched.
     unsafe {
@@ -53,22 +54,31 @@ fn killed_at(scratch: &Scratch, stops: usize) -> io::Result<bool> {
     Ok(true)
 }
 
-/// Files change by calls of the system alone.
-#[test]
-fn at_every_call() {
-    let (scratch, new) = begin();
-    let image = scratch.path().join("image");
-    let (mut stops, mut is_new, mut left) = (1, 0, 0);
-    loop {
-        fs::write(&image, old_image()).unwrap();
-        match killed_at(&scratch, stops) {
-            Ok(true) => {}
-            Ok(false) => break,
+/// Kills a run at each of its stops in turn, and shows what it leaves; how many stops there are, none where the machine
+/// doesn't let a process be stopped.
+fn at_every_stop(scratch: &Scratch, arguments: &[&str], before: impl Fn(), mut left: impl FnMut(usize)) -> usize {
+    for stops in 1.. {
+        before();
+        match killed_at(scratch, arguments, stops) {
+            Ok(true) => left(stops),
+            Ok(false) => return stops - 1,
             Err(error) => {
-                println!("calls of the system can't be stopped at here: {error}");
-                return;
+                println!("no process can be stopped here: {error}");
+                return 0;
             }
         }
+    }
+    0
+}
+
+/// Files change by calls of the system alone.
+#[test]
+fn recover_at_every_call() {
+    let (scratch, new) = begin();
+    let image = scratch.path().join("image");
+    let (mut is_new, mut left) = (0, 0);
+    let before = || fs::write(&image, old_image()).unwrap();
+    let stops = at_every_stop(&scratch, &RECOVER, before, |stops| {
         let bytes = fs::read(&image).unwrap();
         assert!(bytes == old_image() || bytes == new, "killed at stop {stops}: {} bytes", bytes.len());
         is_new += usize::from(bytes == new);
@@ -76,10 +86,29 @@ fn at_every_call() {
         // The next run takes over what is left.
         assert_eq!(run(scratch.path(), &RECOVER).status, Some(0), "behind stop {stops}");
         assert!(fs::read(&image).unwrap() == new && !scratch.path().join("image.new").exists());
-        stops += 1;
-    }
-    println!("killed at {} stops: the new image stood after {is_new} of them, image.new was left by {left}", stops - 1);
-    assert!(is_new > 0 && left > 0 && is_new < stops - 1);
+    });
+    println!(
+        "recover killed at {stops} stops: the new image stood after {is_new} of them, image.new was left by {left}"
+    );
+    assert!(stops == 0 || is_new > 0 && left > 0 && is_new < stops);
+}
+
+#[test]
+fn salvage_at_every_call() {
+    let (scratch, _) = begin();
+    let (out, log) = (scratch.path().join("out"), fs::read(scratch.path().join("log")).unwrap());
+    let mut whole = 0;
+    let before = || drop(fs::remove_file(&out));
+    let stops = at_every_stop(&scratch, &SALVAGE, before, |stops| {
+        if let Ok(bytes) = fs::read(&out) {
+            assert!(bytes == log, "killed at stop {stops}: {} bytes", bytes.len());
+            whole += 1;
+        }
+    });
+    println!(
+        "salvage killed at {stops} stops: its output was whole after {whole} of them, and not there after the others"
+    );
+    assert!(stops == 0 || whole > 0 && whole < stops);
 }
 
 /// Inside of calls too: a large image on a device.

@@ -12,4 +12,5 @@ mod kill;
 mod papers;
 mod recover;
 mod running;
+mod salvage;
 mod two;

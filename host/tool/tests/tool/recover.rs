@@ -249,15 +249,15 @@ fn images_and_logs_that_do_not_fit() {
 fn places_that_are_taken() {
     let log = log(1..=3);
     let scratch = with(&[("image.new", log)]);
-    leaves_all(&scratch, &["directory", "image", "image.new"], 64, "image.new: the image would be written over it");
+    leaves_all(&scratch, &["directory", "image", "image.new"], 64, "image.new: image would be written over it");
     fs::write(scratch.path().join("log"), old_image()).unwrap();
-    leaves_all(&scratch, &["directory", "log", "log"], 64, "log: the image would be written over it");
+    leaves_all(&scratch, &["directory", "log", "log"], 64, "log: log would be written over it");
     fs::remove_file(scratch.path().join("image.new")).unwrap();
     fs::create_dir(scratch.path().join("image.new")).unwrap();
     leaves_all(&scratch, &["directory", "image", "log"], 73, "image.new: not a regular file");
     fs::remove_dir(scratch.path().join("image.new")).unwrap();
     symlink("directory", scratch.path().join("image.new")).unwrap();
-    leaves_all(&scratch, &["directory", "image", "log"], 64, "directory: the image would be written over it");
+    leaves_all(&scratch, &["directory", "image", "log"], 64, "directory: image would be written over it");
 }
 
 /// What a killed run left is taken over; links and permissions stay.

@@ -1,14 +1,16 @@
 //! Two runs at once.
 
 use crate::{
-    running::{behind, command, files, folder, log, old_image, Said},
-    sample::Scratch,
+    running::{behind, command, files, log, old_image, Said},
+    sample::{directory, Scratch},
 };
 use hongsathep::Replacement;
 use std::{fs, process::Stdio};
 
+/// On a device: a run takes a while there.
 fn scratch() -> (Scratch, Vec<u8>) {
-    let (scratch, log) = (folder(), log(1..=3));
+    let (scratch, log) = (Scratch::on_a_device(), log(1..=3));
+    fs::write(scratch.path().join("directory"), directory().to_string()).unwrap();
     fs::write(scratch.path().join("log"), &log).unwrap();
     (scratch, log)
 }
