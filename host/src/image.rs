@@ -4,7 +4,7 @@ use crate::{
     answer::Answer,
     directory::{Directory, IndexTableId, Kind, RefCountTableId, ValueTableId},
     error::Error,
-    files,
+    files::Replacement,
     reader::Record,
     sys,
 };
@@ -75,9 +75,9 @@ impl Image {
     }
 
     /// Writes the image to a file: whole, to a new one beside it, brought to its device, then renamed. A failure on the
-    /// way leaves the old file.
+    /// way leaves the old file. ([`Replacement`] is what it does.)
     pub fn save(&self, path: impl AsRef<Path>) -> Result<(), Error> {
-        files::replace(path.as_ref(), self.bytes())
+        Replacement::begin(path)?.finish(self.bytes())
     }
 
     /// Its directory.
@@ -139,7 +139,7 @@ impl Image {
     }
 
     /// The same over a log of any length, of which a window at a time is in memory: a megabyte, or the longest record
-    /// twice.
+    /// twice. A record of more than [`LONGEST_TAKEN`] bytes isn't taken in, and is an error of the kind `InvalidData`.
     ///
     /// ```
     /// # use hongsathep::{Answer, ChangeList, Directory, Image};
@@ -175,6 +175,10 @@ impl Image {
             if !goes_on || !matches!(ran.answer, Answer::EndOfLog | Answer::Cut) {
                 return Ok(Ran { answer: ran.answer, position: window.passed, count, fault });
             }
+            if window.bytes.len() >= LONGEST_TAKEN {
+                let words = format!("the record at byte {} has more than {LONGEST_TAKEN} bytes", window.passed);
+                return Err(io::Error::new(io::ErrorKind::InvalidData, words));
+            }
         }
     }
 }
@@ -194,6 +198,10 @@ impl fmt::Debug for Image {
 
 /// How many bytes of a long log are taken in at once.
 pub(crate) const WINDOW: usize = 1 << 20;
+
+/// The longest record that is taken in from a log of any length: a record that sets every chunk of the largest image
+/// once has 68,354,062 bytes.
+pub const LONGEST_TAKEN: usize = 1 << 27;
 
 impl<R: Read> Window<R> {
     /// Takes in so many bytes more, or as many as it has, so that a long record isn't gone through over and over. Whether

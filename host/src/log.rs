@@ -8,7 +8,7 @@ use crate::{
     answer::Answer,
     directory::{Directory, IndexTableId, RefCountTableId, ValueTableId},
     error::Error,
-    files,
+    files::{self, FolderLock},
     image::Image,
     list::ChangeList,
     overlays::{Ended, FileSource, Overlays, WithList},
@@ -65,7 +65,7 @@ use std::{
 pub struct Log {
     folder: PathBuf,
     /// Held for the lock.
-    _lock: File,
+    _lock: FolderLock,
     directory: Directory,
     overlays: Overlays,
     queues: Queues,

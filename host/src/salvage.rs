@@ -1,6 +1,6 @@
 //! A damaged log: its whole records, and a list of them and of what is lost.
 
-use crate::{directory::Directory, error::Error, files, sys};
+use crate::{directory::Directory, error::Error, files::Replacement, sys};
 use std::{fmt, path::Path};
 
 /// A line of a damaged log's list. It is shown as the program `salvage` prints it.
@@ -73,7 +73,7 @@ impl Salvaged {
     /// Writes the records to a file: whole, to a new one beside it, brought to its device, then renamed. A failure on the
     /// way leaves the old file.
     pub fn save(&self, path: impl AsRef<Path>) -> Result<(), Error> {
-        files::replace(path.as_ref(), &self.records)
+        Replacement::begin(path)?.finish(&self.records)
     }
 }
 

@@ -5,19 +5,16 @@ use crate::{
     answer::Answer,
     directory::Directory,
     error::Error,
-    files,
+    files::{self, FolderLock, LogFile},
     image::{Image, Ran, WINDOW},
     list::LONGEST_RECORD,
     overlays::Overlays,
     queues::{Found, Queues},
     reader::{Record, Records},
-    sys,
 };
 use std::{
-    fs::{self, DirEntry, File, OpenOptions},
-    io::Read,
+    fs::{self, File},
     num::NonZeroU64,
-    os::unix::ffi::OsStrExt,
     path::Path,
 };
 
@@ -47,9 +44,9 @@ pub struct Recovered {
 impl Opened {
     pub(super) fn new(folder: &Path, directory: &Directory) -> Result<Opened, Error> {
         fs::create_dir_all(folder).map_err(Error::file("make", folder))?;
-        let lock = lock(folder)?;
-        let found = found_in(folder)?;
-        let files: Vec<Found> = found.iter().map(FoundFile::lent).collect();
+        let lock = FolderLock::new(folder)?;
+        let found = LogFile::all_in(folder)?;
+        let files: Vec<Found> = found.iter().map(LogFile::found).collect();
         let (queues, remove) = Queues::open(&files)?;
         let log = Log {
             folder: folder.to_path_buf(),
@@ -193,44 +190,4 @@ impl Log {
             }
         }
     }
-}
-
-fn lock(folder: &Path) -> Result<File, Error> {
-    let path = folder.join("lock");
-    let file = OpenOptions::new().create(true).truncate(false).write(true).open(&path);
-    let file = file.map_err(Error::file("open", &path))?;
-    sys::lock(&file).map_err(Error::file("lock", &path))?;
-    Ok(file)
-}
-
-/// A file with a log's name, or what begins like one.
-struct FoundFile {
-    name: Vec<u8>,
-    length: u64,
-    head: Vec<u8>,
-}
-
-impl FoundFile {
-    fn lent(&self) -> Found<'_> {
-        Found { name: &self.name, length: self.length, head: &self.head }
-    }
-
-    fn at(entry: &DirEntry) -> std::io::Result<Option<FoundFile>> {
-        let name = entry.file_name().as_bytes().to_vec();
-        if !name.starts_with(b"log") || !entry.file_type()?.is_file() {
-            return Ok(None);
-        }
-        let mut head = Vec::new();
-        File::open(entry.path())?.take(9).read_to_end(&mut head)?;
-        Ok(Some(FoundFile { name, length: entry.metadata()?.len(), head }))
-    }
-}
-
-fn found_in(folder: &Path) -> Result<Vec<FoundFile>, Error> {
-    let mut found = Vec::new();
-    for entry in fs::read_dir(folder).map_err(Error::file("list", folder))? {
-        let entry = entry.map_err(Error::file("list", folder))?;
-        found.extend(FoundFile::at(&entry).map_err(Error::file("read", entry.path()))?);
-    }
-    Ok(found)
 }
