@@ -16,6 +16,9 @@ use directory::Directory;
 use directory::IndexTableId;
 use directory::RefCountTableId;
 use directory::TableKind;
+use directory::TableKind::Index;
+use directory::TableKind::RefCount;
+use directory::TableKind::Value;
 use directory::ValueTableId;
 use memory::Holder;
 
@@ -53,8 +56,8 @@ impl LogChange {
         )
     }
 
-    // The one path of the inserts, behind 13.
-    fn insert_kept(
+    // The one path of the inserts, behind 13. A value has no slot: it is put in as if at slot 0, which no test of it sees.
+    pub fn insert_kept(
         self,
         directory: Directory,
         words: &mut [u64],
@@ -97,7 +100,8 @@ impl LogChange {
         }
     }
 
-    fn insert(
+    // The same with the test: for a caller that has the table's kind as a value.
+    pub fn insert(
         self,
         directory: Directory,
         words: &mut [u64],
@@ -133,16 +137,7 @@ impl LogChange {
         ensures { λ r. ⌜ madeOf r (now (words .exit)) (now (bytes .exit))
             ≡ inserted Index directory (changeOf self (now (words .entry)) (now (bytes .entry))) (table .0) index sub (now («data» .entry)) ⌝ }
     {
-        self.insert(
-            directory,
-            words,
-            bytes,
-            TableKind::Index,
-            table.0,
-            index,
-            sub,
-            data,
-        )
+        self.insert(directory, words, bytes, Index, table.0, index, sub, data)
     }
 
     pub fn insert_index_kept(
@@ -159,19 +154,9 @@ impl LogChange {
         ensures { λ r. ⌜ madeOf r (now (words .exit)) (now (bytes .exit))
             ≡ insertedKept Index directory (changeOf self (now (words .entry)) (now (bytes .entry))) (table .0) index sub (now («data» .entry)) ⌝ }
     {
-        self.insert_kept(
-            directory,
-            words,
-            bytes,
-            TableKind::Index,
-            table.0,
-            index,
-            sub,
-            data,
-        )
+        self.insert_kept(directory, words, bytes, Index, table.0, index, sub, data)
     }
 
-    // A value has no slot: it is put in as if at slot 0, which no test of it sees.
     pub fn insert_value(
         self,
         directory: Directory,
@@ -184,16 +169,7 @@ impl LogChange {
         ensures { λ r. ⌜ madeOf r (now (words .exit)) (now (bytes .exit))
             ≡ inserted Value directory (changeOf self (now (words .entry)) (now (bytes .entry))) (table .0) index 0 (now («data» .entry)) ⌝ }
     {
-        self.insert(
-            directory,
-            words,
-            bytes,
-            TableKind::Value,
-            table.0,
-            index,
-            0,
-            data,
-        )
+        self.insert(directory, words, bytes, Value, table.0, index, 0, data)
     }
 
     pub fn insert_value_kept(
@@ -209,16 +185,7 @@ impl LogChange {
         ensures { λ r. ⌜ madeOf r (now (words .exit)) (now (bytes .exit))
             ≡ insertedKept Value directory (changeOf self (now (words .entry)) (now (bytes .entry))) (table .0) index 0 (now («data» .entry)) ⌝ }
     {
-        self.insert_kept(
-            directory,
-            words,
-            bytes,
-            TableKind::Value,
-            table.0,
-            index,
-            0,
-            data,
-        )
+        self.insert_kept(directory, words, bytes, Value, table.0, index, 0, data)
     }
 
     pub fn insert_ref_count(
@@ -234,16 +201,7 @@ impl LogChange {
         ensures { λ r. ⌜ madeOf r (now (words .exit)) (now (bytes .exit))
             ≡ inserted RefCount directory (changeOf self (now (words .entry)) (now (bytes .entry))) (table .0) index sub (now («data» .entry)) ⌝ }
     {
-        self.insert(
-            directory,
-            words,
-            bytes,
-            TableKind::RefCount,
-            table.0,
-            index,
-            sub,
-            data,
-        )
+        self.insert(directory, words, bytes, RefCount, table.0, index, sub, data)
     }
 
     pub fn insert_ref_count_kept(
@@ -260,15 +218,6 @@ impl LogChange {
         ensures { λ r. ⌜ madeOf r (now (words .exit)) (now (bytes .exit))
             ≡ insertedKept RefCount directory (changeOf self (now (words .entry)) (now (bytes .entry))) (table .0) index sub (now («data» .entry)) ⌝ }
     {
-        self.insert_kept(
-            directory,
-            words,
-            bytes,
-            TableKind::RefCount,
-            table.0,
-            index,
-            sub,
-            data,
-        )
+        self.insert_kept(directory, words, bytes, RefCount, table.0, index, sub, data)
     }
 }

@@ -3,19 +3,18 @@ use mathlib.Core.Path.{sym, _∙_}
 use borrow.Author.Tests.{not-true, not-false}
 use Rattle.change.specs.Change.{changeKept}
 use Rattle.change.proofs.Rules.{stops, goes-on}
-use borrow.Author.Needs.{needs}
 use Rattle.change.proofs.change.LogChange.kept.Statement.{statement}
 use Rattle.change.proofs.change.LogChange.kept.Tie as tie
 
 kept-requires : tie.Need-kept-requires
-kept-requires c κs = search needs
+kept-requires c κs = tt
 
 returns : tie.Need-returns
 unfolding changeKept
 returns c = stops _ (sym (c .before .kept .ensures) ∙ not-true _ (c .if1 .taken))
 
 ruled-requires : tie.Need-ruled-requires
-ruled-requires c κs = search needs
+ruled-requires c κs = tt
 
 returns-2 : tie.Need-returns-2
 unfolding changeKept
