@@ -90,5 +90,18 @@ module _ (d : Directory) (l : Change) where
   unfolding changeKept
   kept-makes a b f = both a (both b (fits-makes f))
 
+  -- a return at a time
+  pub kept-stops : directoryKept d ≡ false → false ≡ changeKept d l
+  unfolding changeKept
+  kept-stops a = stops _ a
+
+  pub kept-stops-ruled : directoryKept d ≡ true → changeRuled l ≡ false → false ≡ changeKept d l
+  unfolding changeKept
+  kept-stops-ruled a b = goes-on a (stops _ b)
+
+  pub kept-goes-on : (r : Bool) → directoryKept d ≡ true → changeRuled l ≡ true → r ≡ changeFits d l → r ≡ changeKept d l
+  unfolding changeKept
+  kept-goes-on r a b h = goes-on a (goes-on b h)
+
   pub kept-parts : changeKept d l ≡ true → partsKept holder.List (l .parts) ≡ true
   kept-parts e = ruled-parts l (kept-ruled e)

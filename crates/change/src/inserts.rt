@@ -1,8 +1,7 @@
-// The inserts: each takes the list by value and hands back the new one. log.rs lines 480 to 515.
+// The one path of the inserts: each takes the list by value and hands back the new one. log.rs lines 480 to 515.
 ghost use mathlib.Core.Path.{_≡_};
 ghost use mathlib.Core.Bool.{true};
 ghost use Rattle.directory.specs.Directory.{findTable};
-ghost use Rattle.directory.specs.declared.table.TableKind.the-variants.{Index, Value, RefCount};
 ghost use Rattle.memory.specs.Parts.{ofKind};
 ghost use Rattle.change.specs.Change.{changeOf, changeKept};
 ghost use Rattle.change.specs.Insert.{madeOf, planIn, insertedKept, inserted};
@@ -13,10 +12,7 @@ use super::plans::Plan;
 use super::plans::plan_for;
 use answer::Answer;
 use directory::Directory;
-use directory::IndexTableId;
-use directory::RefCountTableId;
 use directory::TableKind;
-use directory::ValueTableId;
 use memory::Holder;
 
 impl LogChange {
@@ -53,8 +49,8 @@ impl LogChange {
         )
     }
 
-    // The one path of the inserts, behind 13.
-    fn insert_kept(
+    // Behind 13. A value has no slot: it is put in as if at slot 0, which no test of it sees.
+    pub fn insert_kept(
         self,
         directory: Directory,
         words: &mut [u64],
@@ -97,7 +93,8 @@ impl LogChange {
         }
     }
 
-    fn insert(
+    // The same with the test: for a caller that has the table's kind as a value.
+    pub fn insert(
         self,
         directory: Directory,
         words: &mut [u64],
@@ -118,157 +115,5 @@ impl LogChange {
             };
         }
         self.insert_kept(directory, words, bytes, kind, number, index, sub, data)
-    }
-
-    pub fn insert_index(
-        self,
-        directory: Directory,
-        words: &mut [u64],
-        bytes: &mut [u8],
-        table: IndexTableId,
-        index: u64,
-        sub: u8,
-        data: &[u8],
-    ) -> Changed
-        ensures { λ r. ⌜ madeOf r (now (words .exit)) (now (bytes .exit))
-            ≡ inserted Index directory (changeOf self (now (words .entry)) (now (bytes .entry))) (table .0) index sub (now («data» .entry)) ⌝ }
-    {
-        self.insert(
-            directory,
-            words,
-            bytes,
-            TableKind::Index,
-            table.0,
-            index,
-            sub,
-            data,
-        )
-    }
-
-    pub fn insert_index_kept(
-        self,
-        directory: Directory,
-        words: &mut [u64],
-        bytes: &mut [u8],
-        table: IndexTableId,
-        index: u64,
-        sub: u8,
-        data: &[u8],
-    ) -> Changed
-        requires { ⌜ changeKept directory (changeOf self (now words) (now bytes)) ≡ true ⌝ }
-        ensures { λ r. ⌜ madeOf r (now (words .exit)) (now (bytes .exit))
-            ≡ insertedKept Index directory (changeOf self (now (words .entry)) (now (bytes .entry))) (table .0) index sub (now («data» .entry)) ⌝ }
-    {
-        self.insert_kept(
-            directory,
-            words,
-            bytes,
-            TableKind::Index,
-            table.0,
-            index,
-            sub,
-            data,
-        )
-    }
-
-    // A value has no slot: it is put in as if at slot 0, which no test of it sees.
-    pub fn insert_value(
-        self,
-        directory: Directory,
-        words: &mut [u64],
-        bytes: &mut [u8],
-        table: ValueTableId,
-        index: u64,
-        data: &[u8],
-    ) -> Changed
-        ensures { λ r. ⌜ madeOf r (now (words .exit)) (now (bytes .exit))
-            ≡ inserted Value directory (changeOf self (now (words .entry)) (now (bytes .entry))) (table .0) index 0 (now («data» .entry)) ⌝ }
-    {
-        self.insert(
-            directory,
-            words,
-            bytes,
-            TableKind::Value,
-            table.0,
-            index,
-            0,
-            data,
-        )
-    }
-
-    pub fn insert_value_kept(
-        self,
-        directory: Directory,
-        words: &mut [u64],
-        bytes: &mut [u8],
-        table: ValueTableId,
-        index: u64,
-        data: &[u8],
-    ) -> Changed
-        requires { ⌜ changeKept directory (changeOf self (now words) (now bytes)) ≡ true ⌝ }
-        ensures { λ r. ⌜ madeOf r (now (words .exit)) (now (bytes .exit))
-            ≡ insertedKept Value directory (changeOf self (now (words .entry)) (now (bytes .entry))) (table .0) index 0 (now («data» .entry)) ⌝ }
-    {
-        self.insert_kept(
-            directory,
-            words,
-            bytes,
-            TableKind::Value,
-            table.0,
-            index,
-            0,
-            data,
-        )
-    }
-
-    pub fn insert_ref_count(
-        self,
-        directory: Directory,
-        words: &mut [u64],
-        bytes: &mut [u8],
-        table: RefCountTableId,
-        index: u64,
-        sub: u8,
-        data: &[u8],
-    ) -> Changed
-        ensures { λ r. ⌜ madeOf r (now (words .exit)) (now (bytes .exit))
-            ≡ inserted RefCount directory (changeOf self (now (words .entry)) (now (bytes .entry))) (table .0) index sub (now («data» .entry)) ⌝ }
-    {
-        self.insert(
-            directory,
-            words,
-            bytes,
-            TableKind::RefCount,
-            table.0,
-            index,
-            sub,
-            data,
-        )
-    }
-
-    pub fn insert_ref_count_kept(
-        self,
-        directory: Directory,
-        words: &mut [u64],
-        bytes: &mut [u8],
-        table: RefCountTableId,
-        index: u64,
-        sub: u8,
-        data: &[u8],
-    ) -> Changed
-        requires { ⌜ changeKept directory (changeOf self (now words) (now bytes)) ≡ true ⌝ }
-        ensures { λ r. ⌜ madeOf r (now (words .exit)) (now (bytes .exit))
-            ≡ insertedKept RefCount directory (changeOf self (now (words .entry)) (now (bytes .entry))) (table .0) index sub (now («data» .entry)) ⌝ }
-    {
-        self.insert_kept(
-            directory,
-            words,
-            bytes,
-            TableKind::RefCount,
-            table.0,
-            index,
-            sub,
-            data,
-        )
     }
 }

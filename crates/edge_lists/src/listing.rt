@@ -3,8 +3,6 @@ ghost use mathlib.Core.Path.{_≡_};
 ghost use mathlib.Core.Bool.{true};
 ghost use Rattle.answer.specs.Answer.{numberOf};
 ghost use Rattle.directory.specs.declared.table.TableKind.the-variants.{Index, Value, RefCount};
-ghost use Rattle.memory.specs.Parts.{partsOf};
-ghost use Rattle.memory.specs.declared.span.Holder.the-variants.{List};
 ghost use Rattle.change.specs.Change.{changeOf, newList, changeRuled, changeKept};
 ghost use Rattle.change.specs.Insert.{insertedKept, inserted};
 ghost use Rattle.change.specs.Drop.{tableDroppedKept, tableDropped, countTableDroppedKept, countTableDropped};
@@ -12,17 +10,89 @@ ghost use Rattle.change.specs.Size.{sizedKept, sized};
 ghost use Rattle.change.specs.Values.{valuesOfKept, valuesOf};
 ghost use Rattle.writer.specs.Flush.{flushToFileKept, flushToFile};
 ghost use Rattle.host_words.specs.Tables.{directoryFrom};
-ghost use Rattle.host_words.specs.Head.{headRoom, headAfter};
-ghost use Rattle.host_words.specs.Change.{listSize, listFrom, listWords, countsIn, headOf};
+ghost use Rattle.host_words.specs.Head.{headRoom, headAfter, HeadLeft};
+ghost use Rattle.host_words.specs.Change.{listSize, listFrom, listWords};
+ghost use Rattle.edge_lists.specs.Listing.{DropLeft, InsertLeft, SizeLeft, ValuesLeft};
+use change::Changed;
+use change::LocalValues;
 use change::LogChange;
+use change::Sized;
 use directory::IndexTableId;
 use directory::RefCountTableId;
+use directory::TableKind;
+use directory::TableKind::Index;
+use directory::TableKind::RefCount;
+use directory::TableKind::Value;
 use directory::ValueTableId;
 use host_words::directory_of;
 use host_words::head_room;
 use host_words::keep_list;
 use host_words::list_of;
 use host_words::number;
+
+// What a call hands back, stored where the host lent room for it: one for both doors.
+fn keep_changed(list: &mut [u64], done: Changed) -> u64
+    ensures { λ r. ⌜ HeadLeft listSize (done .answer) (listWords (done .list)) (now (list .entry)) r (now (list .exit)) ⌝ }
+{
+    let answer = done.answer;
+    let left = done.list;
+    keep_list(list, answer, left)
+}
+
+fn keep_size(done: Sized, size: &mut u64) -> u64
+    ensures { λ r. ⌜ SizeLeft done r (now (size .exit)) ⌝ }
+{
+    *size = done.length as u64;
+    let answer = done.answer;
+    number(answer)
+}
+
+fn keep_values(done: LocalValues, from: &mut u64, to: &mut u64) -> u64
+    ensures { λ r. ⌜ ValuesLeft done r (now (from .exit)) (now (to .exit)) ⌝ }
+{
+    *from = done.from as u64;
+    *to = done.to as u64;
+    let answer = done.answer;
+    number(answer)
+}
+
+// The one path of the three kinds' inserts.
+fn insert(
+    tables: &[u64],
+    list: &mut [u64],
+    items: &mut [u64],
+    chunks: &mut [u8],
+    kind: TableKind,
+    table: u16,
+    index: u64,
+    sub: u8,
+    data: &[u8],
+) -> u64
+    ensures { λ r. ⌜ InsertLeft (inserted kind (directoryFrom (now (tables .entry))) (changeOf (listFrom (now (list .entry))) (now (items .entry)) (now (chunks .entry))) table index sub (now («data» .entry))) (now (list .entry)) r (now (list .exit)) (now (items .exit)) (now (chunks .exit)) ⌝ }
+{
+    let d = directory_of(tables);
+    let done = list_of(list).insert(d, items, chunks, kind, table, index, sub, data);
+    keep_changed(list, done)
+}
+
+fn insert_kept(
+    tables: &[u64],
+    list: &mut [u64],
+    items: &mut [u64],
+    chunks: &mut [u8],
+    kind: TableKind,
+    table: u16,
+    index: u64,
+    sub: u8,
+    data: &[u8],
+) -> u64
+    requires { ⌜ changeKept (directoryFrom (now tables)) (changeOf (listFrom (now list)) (now items) (now chunks)) ≡ true ⌝ }
+    ensures { λ r. ⌜ InsertLeft (insertedKept kind (directoryFrom (now (tables .entry))) (changeOf (listFrom (now (list .entry))) (now (items .entry)) (now (chunks .entry))) table index sub (now («data» .entry))) (now (list .entry)) r (now (list .exit)) (now (items .exit)) (now (chunks .exit)) ⌝ }
+{
+    let d = directory_of(tables);
+    let done = list_of(list).insert_kept(d, items, chunks, kind, table, index, sub, data);
+    keep_changed(list, done)
+}
 
 #[no_mangle]
 pub extern "C" fn hongsathep_list_new(list: &mut [u64], id: u64) -> u64
@@ -44,22 +114,9 @@ pub extern "C" fn hongsathep_insert_index(
     sub: u8,
     data: &[u8],
 ) -> u64
-    ensures answer { λ r. ⌜ r ≡ numberOf (inserted Index (directoryFrom (now (tables .entry))) (changeOf (listFrom (now (list .entry))) (now (items .entry)) (now (chunks .entry))) table index sub (now («data» .entry)) .answer) ⌝ }
-    ensures list { λ r. ⌜ now (list .exit) ≡ headAfter listSize (numberOf (inserted Index (directoryFrom (now (tables .entry))) (changeOf (listFrom (now (list .entry))) (now (items .entry)) (now (chunks .entry))) table index sub (now («data» .entry)) .answer)) (now (list .entry)) (listWords (headOf (inserted Index (directoryFrom (now (tables .entry))) (changeOf (listFrom (now (list .entry))) (now (items .entry)) (now (chunks .entry))) table index sub (now («data» .entry)) .change))) ⌝ }
-    ensures memory { λ r. ⌜ partsOf List (countsIn (inserted Index (directoryFrom (now (tables .entry))) (changeOf (listFrom (now (list .entry))) (now (items .entry)) (now (chunks .entry))) table index sub (now («data» .entry)) .change .parts)) (now (items .exit)) (now (chunks .exit)) ≡ inserted Index (directoryFrom (now (tables .entry))) (changeOf (listFrom (now (list .entry))) (now (items .entry)) (now (chunks .entry))) table index sub (now («data» .entry)) .change .parts ⌝ }
+    ensures { λ r. ⌜ InsertLeft (inserted Index (directoryFrom (now (tables .entry))) (changeOf (listFrom (now (list .entry))) (now (items .entry)) (now (chunks .entry))) table index sub (now («data» .entry))) (now (list .entry)) r (now (list .exit)) (now (items .exit)) (now (chunks .exit)) ⌝ }
 {
-    let done = list_of(list).insert_index(
-        directory_of(tables),
-        items,
-        chunks,
-        IndexTableId(table),
-        index,
-        sub,
-        data,
-    );
-    let answer = done.answer;
-    let left = done.list;
-    keep_list(list, answer, left)
+    insert(tables, list, items, chunks, Index, table, index, sub, data)
 }
 
 #[no_mangle]
@@ -74,22 +131,40 @@ pub extern "C" fn hongsathep_insert_index_kept(
     data: &[u8],
 ) -> u64
     requires { ⌜ changeKept (directoryFrom (now tables)) (changeOf (listFrom (now list)) (now items) (now chunks)) ≡ true ⌝ }
-    ensures answer { λ r. ⌜ r ≡ numberOf (insertedKept Index (directoryFrom (now (tables .entry))) (changeOf (listFrom (now (list .entry))) (now (items .entry)) (now (chunks .entry))) table index sub (now («data» .entry)) .answer) ⌝ }
-    ensures list { λ r. ⌜ now (list .exit) ≡ headAfter listSize (numberOf (insertedKept Index (directoryFrom (now (tables .entry))) (changeOf (listFrom (now (list .entry))) (now (items .entry)) (now (chunks .entry))) table index sub (now («data» .entry)) .answer)) (now (list .entry)) (listWords (headOf (insertedKept Index (directoryFrom (now (tables .entry))) (changeOf (listFrom (now (list .entry))) (now (items .entry)) (now (chunks .entry))) table index sub (now («data» .entry)) .change))) ⌝ }
-    ensures memory { λ r. ⌜ partsOf List (countsIn (insertedKept Index (directoryFrom (now (tables .entry))) (changeOf (listFrom (now (list .entry))) (now (items .entry)) (now (chunks .entry))) table index sub (now («data» .entry)) .change .parts)) (now (items .exit)) (now (chunks .exit)) ≡ insertedKept Index (directoryFrom (now (tables .entry))) (changeOf (listFrom (now (list .entry))) (now (items .entry)) (now (chunks .entry))) table index sub (now («data» .entry)) .change .parts ⌝ }
+    ensures { λ r. ⌜ InsertLeft (insertedKept Index (directoryFrom (now (tables .entry))) (changeOf (listFrom (now (list .entry))) (now (items .entry)) (now (chunks .entry))) table index sub (now («data» .entry))) (now (list .entry)) r (now (list .exit)) (now (items .exit)) (now (chunks .exit)) ⌝ }
 {
-    let done = list_of(list).insert_index_kept(
-        directory_of(tables),
-        items,
-        chunks,
-        IndexTableId(table),
-        index,
-        sub,
-        data,
-    );
-    let answer = done.answer;
-    let left = done.list;
-    keep_list(list, answer, left)
+    insert_kept(tables, list, items, chunks, Index, table, index, sub, data)
+}
+
+#[no_mangle]
+pub extern "C" fn hongsathep_drop_table(
+    tables: &[u64],
+    list: &mut [u64],
+    items: &[u64],
+    chunks: &[u8],
+    table: u16,
+) -> u64
+    ensures { λ r. ⌜ DropLeft (tableDropped (directoryFrom (now (tables .entry))) (changeOf (listFrom (now (list .entry))) (now (items .entry)) (now (chunks .entry))) table) (now (list .entry)) r (now (list .exit)) ⌝ }
+{
+    let d = directory_of(tables);
+    let done = list_of(list).drop_table(d, items, chunks, IndexTableId(table));
+    keep_changed(list, done)
+}
+
+#[no_mangle]
+pub extern "C" fn hongsathep_drop_table_kept(
+    tables: &[u64],
+    list: &mut [u64],
+    items: &[u64],
+    chunks: &[u8],
+    table: u16,
+) -> u64
+    requires { ⌜ changeKept (directoryFrom (now tables)) (changeOf (listFrom (now list)) (now items) (now chunks)) ≡ true ⌝ }
+    ensures { λ r. ⌜ DropLeft (tableDroppedKept (directoryFrom (now (tables .entry))) (changeOf (listFrom (now (list .entry))) (now (items .entry)) (now (chunks .entry))) table) (now (list .entry)) r (now (list .exit)) ⌝ }
+{
+    let d = directory_of(tables);
+    let done = list_of(list).drop_table_kept(d, items, chunks, IndexTableId(table));
+    keep_changed(list, done)
 }
 
 #[no_mangle]
@@ -102,21 +177,9 @@ pub extern "C" fn hongsathep_insert_value(
     index: u64,
     data: &[u8],
 ) -> u64
-    ensures answer { λ r. ⌜ r ≡ numberOf (inserted Value (directoryFrom (now (tables .entry))) (changeOf (listFrom (now (list .entry))) (now (items .entry)) (now (chunks .entry))) table index 0 (now («data» .entry)) .answer) ⌝ }
-    ensures list { λ r. ⌜ now (list .exit) ≡ headAfter listSize (numberOf (inserted Value (directoryFrom (now (tables .entry))) (changeOf (listFrom (now (list .entry))) (now (items .entry)) (now (chunks .entry))) table index 0 (now («data» .entry)) .answer)) (now (list .entry)) (listWords (headOf (inserted Value (directoryFrom (now (tables .entry))) (changeOf (listFrom (now (list .entry))) (now (items .entry)) (now (chunks .entry))) table index 0 (now («data» .entry)) .change))) ⌝ }
-    ensures memory { λ r. ⌜ partsOf List (countsIn (inserted Value (directoryFrom (now (tables .entry))) (changeOf (listFrom (now (list .entry))) (now (items .entry)) (now (chunks .entry))) table index 0 (now («data» .entry)) .change .parts)) (now (items .exit)) (now (chunks .exit)) ≡ inserted Value (directoryFrom (now (tables .entry))) (changeOf (listFrom (now (list .entry))) (now (items .entry)) (now (chunks .entry))) table index 0 (now («data» .entry)) .change .parts ⌝ }
+    ensures { λ r. ⌜ InsertLeft (inserted Value (directoryFrom (now (tables .entry))) (changeOf (listFrom (now (list .entry))) (now (items .entry)) (now (chunks .entry))) table index 0 (now («data» .entry))) (now (list .entry)) r (now (list .exit)) (now (items .exit)) (now (chunks .exit)) ⌝ }
 {
-    let done = list_of(list).insert_value(
-        directory_of(tables),
-        items,
-        chunks,
-        ValueTableId(table),
-        index,
-        data,
-    );
-    let answer = done.answer;
-    let left = done.list;
-    keep_list(list, answer, left)
+    insert(tables, list, items, chunks, Value, table, index, 0, data)
 }
 
 #[no_mangle]
@@ -130,21 +193,40 @@ pub extern "C" fn hongsathep_insert_value_kept(
     data: &[u8],
 ) -> u64
     requires { ⌜ changeKept (directoryFrom (now tables)) (changeOf (listFrom (now list)) (now items) (now chunks)) ≡ true ⌝ }
-    ensures answer { λ r. ⌜ r ≡ numberOf (insertedKept Value (directoryFrom (now (tables .entry))) (changeOf (listFrom (now (list .entry))) (now (items .entry)) (now (chunks .entry))) table index 0 (now («data» .entry)) .answer) ⌝ }
-    ensures list { λ r. ⌜ now (list .exit) ≡ headAfter listSize (numberOf (insertedKept Value (directoryFrom (now (tables .entry))) (changeOf (listFrom (now (list .entry))) (now (items .entry)) (now (chunks .entry))) table index 0 (now («data» .entry)) .answer)) (now (list .entry)) (listWords (headOf (insertedKept Value (directoryFrom (now (tables .entry))) (changeOf (listFrom (now (list .entry))) (now (items .entry)) (now (chunks .entry))) table index 0 (now («data» .entry)) .change))) ⌝ }
-    ensures memory { λ r. ⌜ partsOf List (countsIn (insertedKept Value (directoryFrom (now (tables .entry))) (changeOf (listFrom (now (list .entry))) (now (items .entry)) (now (chunks .entry))) table index 0 (now («data» .entry)) .change .parts)) (now (items .exit)) (now (chunks .exit)) ≡ insertedKept Value (directoryFrom (now (tables .entry))) (changeOf (listFrom (now (list .entry))) (now (items .entry)) (now (chunks .entry))) table index 0 (now («data» .entry)) .change .parts ⌝ }
+    ensures { λ r. ⌜ InsertLeft (insertedKept Value (directoryFrom (now (tables .entry))) (changeOf (listFrom (now (list .entry))) (now (items .entry)) (now (chunks .entry))) table index 0 (now («data» .entry))) (now (list .entry)) r (now (list .exit)) (now (items .exit)) (now (chunks .exit)) ⌝ }
 {
-    let done = list_of(list).insert_value_kept(
-        directory_of(tables),
-        items,
-        chunks,
-        ValueTableId(table),
-        index,
-        data,
-    );
-    let answer = done.answer;
-    let left = done.list;
-    keep_list(list, answer, left)
+    insert_kept(tables, list, items, chunks, Value, table, index, 0, data)
+}
+
+#[no_mangle]
+pub extern "C" fn hongsathep_local_values_changes(
+    list: &[u64],
+    items: &[u64],
+    chunks: &[u8],
+    table: u16,
+    from: &mut u64,
+    to: &mut u64,
+) -> u64
+    ensures { λ r. ⌜ ValuesLeft (valuesOf (changeOf (listFrom (now (list .entry))) (now (items .entry)) (now (chunks .entry))) table) r (now (from .exit)) (now (to .exit)) ⌝ }
+{
+    let done = list_of(list).local_values_changes(items, chunks, ValueTableId(table));
+    keep_values(done, from, to)
+}
+
+#[no_mangle]
+pub extern "C" fn hongsathep_local_values_changes_kept(
+    list: &[u64],
+    items: &[u64],
+    chunks: &[u8],
+    table: u16,
+    from: &mut u64,
+    to: &mut u64,
+) -> u64
+    requires { ⌜ changeRuled (changeOf (listFrom (now list)) (now items) (now chunks)) ≡ true ⌝ }
+    ensures { λ r. ⌜ ValuesLeft (valuesOfKept (changeOf (listFrom (now (list .entry))) (now (items .entry)) (now (chunks .entry))) table) r (now (from .exit)) (now (to .exit)) ⌝ }
+{
+    let done = list_of(list).local_values_changes_kept(items, chunks, ValueTableId(table));
+    keep_values(done, from, to)
 }
 
 #[no_mangle]
@@ -158,22 +240,19 @@ pub extern "C" fn hongsathep_insert_ref_count(
     sub: u8,
     data: &[u8],
 ) -> u64
-    ensures answer { λ r. ⌜ r ≡ numberOf (inserted RefCount (directoryFrom (now (tables .entry))) (changeOf (listFrom (now (list .entry))) (now (items .entry)) (now (chunks .entry))) table index sub (now («data» .entry)) .answer) ⌝ }
-    ensures list { λ r. ⌜ now (list .exit) ≡ headAfter listSize (numberOf (inserted RefCount (directoryFrom (now (tables .entry))) (changeOf (listFrom (now (list .entry))) (now (items .entry)) (now (chunks .entry))) table index sub (now («data» .entry)) .answer)) (now (list .entry)) (listWords (headOf (inserted RefCount (directoryFrom (now (tables .entry))) (changeOf (listFrom (now (list .entry))) (now (items .entry)) (now (chunks .entry))) table index sub (now («data» .entry)) .change))) ⌝ }
-    ensures memory { λ r. ⌜ partsOf List (countsIn (inserted RefCount (directoryFrom (now (tables .entry))) (changeOf (listFrom (now (list .entry))) (now (items .entry)) (now (chunks .entry))) table index sub (now («data» .entry)) .change .parts)) (now (items .exit)) (now (chunks .exit)) ≡ inserted RefCount (directoryFrom (now (tables .entry))) (changeOf (listFrom (now (list .entry))) (now (items .entry)) (now (chunks .entry))) table index sub (now («data» .entry)) .change .parts ⌝ }
+    ensures { λ r. ⌜ InsertLeft (inserted RefCount (directoryFrom (now (tables .entry))) (changeOf (listFrom (now (list .entry))) (now (items .entry)) (now (chunks .entry))) table index sub (now («data» .entry))) (now (list .entry)) r (now (list .exit)) (now (items .exit)) (now (chunks .exit)) ⌝ }
 {
-    let done = list_of(list).insert_ref_count(
-        directory_of(tables),
+    insert(
+        tables,
+        list,
         items,
         chunks,
-        RefCountTableId(table),
+        RefCount,
+        table,
         index,
         sub,
         data,
-    );
-    let answer = done.answer;
-    let left = done.list;
-    keep_list(list, answer, left)
+    )
 }
 
 #[no_mangle]
@@ -188,62 +267,19 @@ pub extern "C" fn hongsathep_insert_ref_count_kept(
     data: &[u8],
 ) -> u64
     requires { ⌜ changeKept (directoryFrom (now tables)) (changeOf (listFrom (now list)) (now items) (now chunks)) ≡ true ⌝ }
-    ensures answer { λ r. ⌜ r ≡ numberOf (insertedKept RefCount (directoryFrom (now (tables .entry))) (changeOf (listFrom (now (list .entry))) (now (items .entry)) (now (chunks .entry))) table index sub (now («data» .entry)) .answer) ⌝ }
-    ensures list { λ r. ⌜ now (list .exit) ≡ headAfter listSize (numberOf (insertedKept RefCount (directoryFrom (now (tables .entry))) (changeOf (listFrom (now (list .entry))) (now (items .entry)) (now (chunks .entry))) table index sub (now («data» .entry)) .answer)) (now (list .entry)) (listWords (headOf (insertedKept RefCount (directoryFrom (now (tables .entry))) (changeOf (listFrom (now (list .entry))) (now (items .entry)) (now (chunks .entry))) table index sub (now («data» .entry)) .change))) ⌝ }
-    ensures memory { λ r. ⌜ partsOf List (countsIn (insertedKept RefCount (directoryFrom (now (tables .entry))) (changeOf (listFrom (now (list .entry))) (now (items .entry)) (now (chunks .entry))) table index sub (now («data» .entry)) .change .parts)) (now (items .exit)) (now (chunks .exit)) ≡ insertedKept RefCount (directoryFrom (now (tables .entry))) (changeOf (listFrom (now (list .entry))) (now (items .entry)) (now (chunks .entry))) table index sub (now («data» .entry)) .change .parts ⌝ }
+    ensures { λ r. ⌜ InsertLeft (insertedKept RefCount (directoryFrom (now (tables .entry))) (changeOf (listFrom (now (list .entry))) (now (items .entry)) (now (chunks .entry))) table index sub (now («data» .entry))) (now (list .entry)) r (now (list .exit)) (now (items .exit)) (now (chunks .exit)) ⌝ }
 {
-    let done = list_of(list).insert_ref_count_kept(
-        directory_of(tables),
+    insert_kept(
+        tables,
+        list,
         items,
         chunks,
-        RefCountTableId(table),
+        RefCount,
+        table,
         index,
         sub,
         data,
-    );
-    let answer = done.answer;
-    let left = done.list;
-    keep_list(list, answer, left)
-}
-
-#[no_mangle]
-pub extern "C" fn hongsathep_drop_table(
-    tables: &[u64],
-    list: &mut [u64],
-    items: &[u64],
-    chunks: &[u8],
-    table: u16,
-) -> u64
-    ensures answer { λ r. ⌜ r ≡ numberOf (tableDropped (directoryFrom (now (tables .entry))) (changeOf (listFrom (now (list .entry))) (now (items .entry)) (now (chunks .entry))) table .answer) ⌝ }
-    ensures list { λ r. ⌜ now (list .exit) ≡ headAfter listSize (numberOf (tableDropped (directoryFrom (now (tables .entry))) (changeOf (listFrom (now (list .entry))) (now (items .entry)) (now (chunks .entry))) table .answer)) (now (list .entry)) (listWords (headOf (tableDropped (directoryFrom (now (tables .entry))) (changeOf (listFrom (now (list .entry))) (now (items .entry)) (now (chunks .entry))) table .change))) ⌝ }
-{
-    let done = list_of(list).drop_table(directory_of(tables), items, chunks, IndexTableId(table));
-    let answer = done.answer;
-    let left = done.list;
-    keep_list(list, answer, left)
-}
-
-#[no_mangle]
-pub extern "C" fn hongsathep_drop_table_kept(
-    tables: &[u64],
-    list: &mut [u64],
-    items: &[u64],
-    chunks: &[u8],
-    table: u16,
-) -> u64
-    requires { ⌜ changeKept (directoryFrom (now tables)) (changeOf (listFrom (now list)) (now items) (now chunks)) ≡ true ⌝ }
-    ensures answer { λ r. ⌜ r ≡ numberOf (tableDroppedKept (directoryFrom (now (tables .entry))) (changeOf (listFrom (now (list .entry))) (now (items .entry)) (now (chunks .entry))) table .answer) ⌝ }
-    ensures list { λ r. ⌜ now (list .exit) ≡ headAfter listSize (numberOf (tableDroppedKept (directoryFrom (now (tables .entry))) (changeOf (listFrom (now (list .entry))) (now (items .entry)) (now (chunks .entry))) table .answer)) (now (list .entry)) (listWords (headOf (tableDroppedKept (directoryFrom (now (tables .entry))) (changeOf (listFrom (now (list .entry))) (now (items .entry)) (now (chunks .entry))) table .change))) ⌝ }
-{
-    let done = list_of(list).drop_table_kept(
-        directory_of(tables),
-        items,
-        chunks,
-        IndexTableId(table),
-    );
-    let answer = done.answer;
-    let left = done.list;
-    keep_list(list, answer, left)
+    )
 }
 
 #[no_mangle]
@@ -254,18 +290,11 @@ pub extern "C" fn hongsathep_drop_ref_count_table(
     chunks: &[u8],
     table: u16,
 ) -> u64
-    ensures answer { λ r. ⌜ r ≡ numberOf (countTableDropped (directoryFrom (now (tables .entry))) (changeOf (listFrom (now (list .entry))) (now (items .entry)) (now (chunks .entry))) table .answer) ⌝ }
-    ensures list { λ r. ⌜ now (list .exit) ≡ headAfter listSize (numberOf (countTableDropped (directoryFrom (now (tables .entry))) (changeOf (listFrom (now (list .entry))) (now (items .entry)) (now (chunks .entry))) table .answer)) (now (list .entry)) (listWords (headOf (countTableDropped (directoryFrom (now (tables .entry))) (changeOf (listFrom (now (list .entry))) (now (items .entry)) (now (chunks .entry))) table .change))) ⌝ }
+    ensures { λ r. ⌜ DropLeft (countTableDropped (directoryFrom (now (tables .entry))) (changeOf (listFrom (now (list .entry))) (now (items .entry)) (now (chunks .entry))) table) (now (list .entry)) r (now (list .exit)) ⌝ }
 {
-    let done = list_of(list).drop_ref_count_table(
-        directory_of(tables),
-        items,
-        chunks,
-        RefCountTableId(table),
-    );
-    let answer = done.answer;
-    let left = done.list;
-    keep_list(list, answer, left)
+    let d = directory_of(tables);
+    let done = list_of(list).drop_ref_count_table(d, items, chunks, RefCountTableId(table));
+    keep_changed(list, done)
 }
 
 #[no_mangle]
@@ -277,18 +306,11 @@ pub extern "C" fn hongsathep_drop_ref_count_table_kept(
     table: u16,
 ) -> u64
     requires { ⌜ changeKept (directoryFrom (now tables)) (changeOf (listFrom (now list)) (now items) (now chunks)) ≡ true ⌝ }
-    ensures answer { λ r. ⌜ r ≡ numberOf (countTableDroppedKept (directoryFrom (now (tables .entry))) (changeOf (listFrom (now (list .entry))) (now (items .entry)) (now (chunks .entry))) table .answer) ⌝ }
-    ensures list { λ r. ⌜ now (list .exit) ≡ headAfter listSize (numberOf (countTableDroppedKept (directoryFrom (now (tables .entry))) (changeOf (listFrom (now (list .entry))) (now (items .entry)) (now (chunks .entry))) table .answer)) (now (list .entry)) (listWords (headOf (countTableDroppedKept (directoryFrom (now (tables .entry))) (changeOf (listFrom (now (list .entry))) (now (items .entry)) (now (chunks .entry))) table .change))) ⌝ }
+    ensures { λ r. ⌜ DropLeft (countTableDroppedKept (directoryFrom (now (tables .entry))) (changeOf (listFrom (now (list .entry))) (now (items .entry)) (now (chunks .entry))) table) (now (list .entry)) r (now (list .exit)) ⌝ }
 {
-    let done = list_of(list).drop_ref_count_table_kept(
-        directory_of(tables),
-        items,
-        chunks,
-        RefCountTableId(table),
-    );
-    let answer = done.answer;
-    let left = done.list;
-    keep_list(list, answer, left)
+    let d = directory_of(tables);
+    let done = list_of(list).drop_ref_count_table_kept(d, items, chunks, RefCountTableId(table));
+    keep_changed(list, done)
 }
 
 #[no_mangle]
@@ -299,13 +321,10 @@ pub extern "C" fn hongsathep_record_size(
     chunks: &[u8],
     size: &mut u64,
 ) -> u64
-    ensures answer { λ r. ⌜ r ≡ numberOf (sized (directoryFrom (now (tables .entry))) (changeOf (listFrom (now (list .entry))) (now (items .entry)) (now (chunks .entry))) .answer) ⌝ }
-    ensures size { λ r. ⌜ now (size .exit) ≡ sized (directoryFrom (now (tables .entry))) (changeOf (listFrom (now (list .entry))) (now (items .entry)) (now (chunks .entry))) .length ⌝ }
+    ensures { λ r. ⌜ SizeLeft (sized (directoryFrom (now (tables .entry))) (changeOf (listFrom (now (list .entry))) (now (items .entry)) (now (chunks .entry)))) r (now (size .exit)) ⌝ }
 {
     let done = list_of(list).record_size(directory_of(tables), items, chunks);
-    *size = done.length as u64;
-    let answer = done.answer;
-    number(answer)
+    keep_size(done, size)
 }
 
 #[no_mangle]
@@ -316,54 +335,10 @@ pub extern "C" fn hongsathep_record_size_kept(
     size: &mut u64,
 ) -> u64
     requires { ⌜ changeRuled (changeOf (listFrom (now list)) (now items) (now chunks)) ≡ true ⌝ }
-    ensures answer { λ r. ⌜ r ≡ numberOf (sizedKept (changeOf (listFrom (now (list .entry))) (now (items .entry)) (now (chunks .entry))) .answer) ⌝ }
-    ensures size { λ r. ⌜ now (size .exit) ≡ sizedKept (changeOf (listFrom (now (list .entry))) (now (items .entry)) (now (chunks .entry))) .length ⌝ }
+    ensures { λ r. ⌜ SizeLeft (sizedKept (changeOf (listFrom (now (list .entry))) (now (items .entry)) (now (chunks .entry)))) r (now (size .exit)) ⌝ }
 {
     let done = list_of(list).record_size_kept(items, chunks);
-    *size = done.length as u64;
-    let answer = done.answer;
-    number(answer)
-}
-
-#[no_mangle]
-pub extern "C" fn hongsathep_local_values_changes(
-    list: &[u64],
-    items: &[u64],
-    chunks: &[u8],
-    table: u16,
-    from: &mut u64,
-    to: &mut u64,
-) -> u64
-    ensures answer { λ r. ⌜ r ≡ numberOf (valuesOf (changeOf (listFrom (now (list .entry))) (now (items .entry)) (now (chunks .entry))) table .answer) ⌝ }
-    ensures from { λ r. ⌜ now (from .exit) ≡ valuesOf (changeOf (listFrom (now (list .entry))) (now (items .entry)) (now (chunks .entry))) table .from ⌝ }
-    ensures to { λ r. ⌜ now (to .exit) ≡ valuesOf (changeOf (listFrom (now (list .entry))) (now (items .entry)) (now (chunks .entry))) table .to ⌝ }
-{
-    let done = list_of(list).local_values_changes(items, chunks, ValueTableId(table));
-    *from = done.from as u64;
-    *to = done.to as u64;
-    let answer = done.answer;
-    number(answer)
-}
-
-#[no_mangle]
-pub extern "C" fn hongsathep_local_values_changes_kept(
-    list: &[u64],
-    items: &[u64],
-    chunks: &[u8],
-    table: u16,
-    from: &mut u64,
-    to: &mut u64,
-) -> u64
-    requires { ⌜ changeRuled (changeOf (listFrom (now list)) (now items) (now chunks)) ≡ true ⌝ }
-    ensures answer { λ r. ⌜ r ≡ numberOf (valuesOfKept (changeOf (listFrom (now (list .entry))) (now (items .entry)) (now (chunks .entry))) table .answer) ⌝ }
-    ensures from { λ r. ⌜ now (from .exit) ≡ valuesOfKept (changeOf (listFrom (now (list .entry))) (now (items .entry)) (now (chunks .entry))) table .from ⌝ }
-    ensures to { λ r. ⌜ now (to .exit) ≡ valuesOfKept (changeOf (listFrom (now (list .entry))) (now (items .entry)) (now (chunks .entry))) table .to ⌝ }
-{
-    let done = list_of(list).local_values_changes_kept(items, chunks, ValueTableId(table));
-    *from = done.from as u64;
-    *to = done.to as u64;
-    let answer = done.answer;
-    number(answer)
+    keep_size(done, size)
 }
 
 #[no_mangle]
@@ -375,14 +350,11 @@ pub extern "C" fn hongsathep_flush_to_file(
     out: &mut [u8],
     size: &mut u64,
 ) -> u64
-    ensures answer { λ r. ⌜ r ≡ numberOf (flushToFile (directoryFrom (now (tables .entry))) (changeOf (listFrom (now (list .entry))) (now (items .entry)) (now (chunks .entry))) (now (out .entry)) .sized .answer) ⌝ }
-    ensures out { λ r. ⌜ now (out .exit) ≡ flushToFile (directoryFrom (now (tables .entry))) (changeOf (listFrom (now (list .entry))) (now (items .entry)) (now (chunks .entry))) (now (out .entry)) .output ⌝ }
-    ensures size { λ r. ⌜ now (size .exit) ≡ flushToFile (directoryFrom (now (tables .entry))) (changeOf (listFrom (now (list .entry))) (now (items .entry)) (now (chunks .entry))) (now (out .entry)) .sized .length ⌝ }
+    ensures out { λ r. ⌜ (now (out .exit)) ≡ flushToFile (directoryFrom (now (tables .entry))) (changeOf (listFrom (now (list .entry))) (now (items .entry)) (now (chunks .entry))) (now (out .entry)) .output ⌝ }
+    ensures size { λ r. ⌜ SizeLeft (flushToFile (directoryFrom (now (tables .entry))) (changeOf (listFrom (now (list .entry))) (now (items .entry)) (now (chunks .entry))) (now (out .entry)) .sized) r (now (size .exit)) ⌝ }
 {
     let done = writer::flush_to_file(list_of(list), directory_of(tables), items, chunks, out);
-    *size = done.length as u64;
-    let answer = done.answer;
-    number(answer)
+    keep_size(done, size)
 }
 
 #[no_mangle]
@@ -394,12 +366,9 @@ pub extern "C" fn hongsathep_flush_to_file_kept(
     size: &mut u64,
 ) -> u64
     requires { ⌜ changeRuled (changeOf (listFrom (now list)) (now items) (now chunks)) ≡ true ⌝ }
-    ensures answer { λ r. ⌜ r ≡ numberOf (flushToFileKept (changeOf (listFrom (now (list .entry))) (now (items .entry)) (now (chunks .entry))) (now (out .entry)) .sized .answer) ⌝ }
-    ensures out { λ r. ⌜ now (out .exit) ≡ flushToFileKept (changeOf (listFrom (now (list .entry))) (now (items .entry)) (now (chunks .entry))) (now (out .entry)) .output ⌝ }
-    ensures size { λ r. ⌜ now (size .exit) ≡ flushToFileKept (changeOf (listFrom (now (list .entry))) (now (items .entry)) (now (chunks .entry))) (now (out .entry)) .sized .length ⌝ }
+    ensures out { λ r. ⌜ (now (out .exit)) ≡ flushToFileKept (changeOf (listFrom (now (list .entry))) (now (items .entry)) (now (chunks .entry))) (now (out .entry)) .output ⌝ }
+    ensures size { λ r. ⌜ SizeLeft (flushToFileKept (changeOf (listFrom (now (list .entry))) (now (items .entry)) (now (chunks .entry))) (now (out .entry)) .sized) r (now (size .exit)) ⌝ }
 {
     let done = writer::flush_to_file_kept(list_of(list), items, chunks, out);
-    *size = done.length as u64;
-    let answer = done.answer;
-    number(answer)
+    keep_size(done, size)
 }

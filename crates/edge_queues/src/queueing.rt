@@ -4,20 +4,23 @@ ghost use mathlib.Core.Bool.{true};
 ghost use lib.Dec.{ltb};
 ghost use lib.ListN.{length};
 ghost use Rattle.answer.specs.Answer.{numberOf};
-ghost use Rattle.numbers.specs.Numbers.{oneIf, over};
+ghost use Rattle.numbers.specs.Numbers.{over};
 ghost use Rattle.found.specs.Names.{saidBy};
 ghost use Rattle.found.specs.Logs.{removed};
 ghost use Rattle.files.specs.Queues.{queuesKept};
 ghost use Rattle.files.specs.Moves.{noFiles};
 ghost use Rattle.files.specs.Calls.{flushOneKept, flushOne, replayRecordId, replayNextKept, replayNext, cleanLogsKept, cleanLogs, killLogsKept, killLogs};
 ghost use Rattle.host_words.specs.Head.{headRoom, headAfter};
-ghost use Rattle.host_words.specs.Reader.{readerSize, readerWords};
 ghost use Rattle.host_queues.specs.Queues.{queuesSize, queuesFrom, queuesWords};
-ghost use Rattle.edge_queues.specs.Queueing.{openIn, readNextIn, readNextKeptIn};
+ghost use Rattle.edge_queues.specs.Queueing.{openIn, readNextIn, readNextKeptIn, FlushLeft, ReplayLeft, KillLeft, CleanLeft, ReadLeft};
 use answer::Answer;
+use files::Cleaned;
+use files::Flushed;
+use files::Killed;
 use files::Opened;
 use files::Queues;
 use files::ReadNext;
+use files::ReplayNext;
 use host_queues::keep_queues;
 use host_queues::queues_of;
 use host_words::flag;
@@ -77,19 +80,10 @@ pub extern "C" fn hongsathep_open<'a>(
     keep_queues(queues, answer, q)
 }
 
-#[no_mangle]
-pub extern "C" fn hongsathep_flush_one(
-    queues: &mut [u64],
-    min: u64,
-    moved: &mut u64,
-    number: &mut u64,
-) -> u64
-    ensures answer { λ r. ⌜ r ≡ numberOf (flushOne (queuesFrom (now (queues .entry))) min .answer) ⌝ }
-    ensures queues { λ r. ⌜ now (queues .exit) ≡ headAfter queuesSize (numberOf (flushOne (queuesFrom (now (queues .entry))) min .answer)) (now (queues .entry)) (queuesWords (flushOne (queuesFrom (now (queues .entry))) min .queues)) ⌝ }
-    ensures moved { λ r. ⌜ now (moved .exit) ≡ oneIf (flushOne (queuesFrom (now (queues .entry))) min .moved) ⌝ }
-    ensures number { λ r. ⌜ now (number .exit) ≡ flushOne (queuesFrom (now (queues .entry))) min .number ⌝ }
+// What a call hands back, stored where the host lent room for it. One for both doors.
+fn keep_flush(queues: &mut [u64], done: Flushed, moved: &mut u64, number: &mut u64) -> u64
+    ensures { λ r. ⌜ FlushLeft done (now (queues .entry)) r (now (queues .exit)) (now (moved .exit)) (now (number .exit)) ⌝ }
 {
-    let done = queues_of(queues).flush_one(min);
     *moved = flag(done.moved);
     *number = done.number;
     let answer = done.answer;
@@ -97,18 +91,9 @@ pub extern "C" fn hongsathep_flush_one(
     keep_queues(queues, answer, left)
 }
 
-#[no_mangle]
-pub extern "C" fn hongsathep_replay_next(
-    queues: &mut [u64],
-    found: &mut u64,
-    number: &mut u64,
-) -> u64
-    ensures answer { λ r. ⌜ r ≡ numberOf (replayNext (queuesFrom (now (queues .entry))) .answer) ⌝ }
-    ensures queues { λ r. ⌜ now (queues .exit) ≡ headAfter queuesSize (numberOf (replayNext (queuesFrom (now (queues .entry))) .answer)) (now (queues .entry)) (queuesWords (replayNext (queuesFrom (now (queues .entry))) .queues)) ⌝ }
-    ensures found { λ r. ⌜ now (found .exit) ≡ oneIf (replayNext (queuesFrom (now (queues .entry))) .found) ⌝ }
-    ensures number { λ r. ⌜ now (number .exit) ≡ replayNext (queuesFrom (now (queues .entry))) .number ⌝ }
+fn keep_replay(queues: &mut [u64], done: ReplayNext, found: &mut u64, number: &mut u64) -> u64
+    ensures { λ r. ⌜ ReplayLeft done (now (queues .entry)) r (now (queues .exit)) (now (found .exit)) (now (number .exit)) ⌝ }
 {
-    let done = queues_of(queues).replay_next();
     *found = flag(done.found);
     *number = done.number;
     let answer = done.answer;
@@ -116,143 +101,32 @@ pub extern "C" fn hongsathep_replay_next(
     keep_queues(queues, answer, left)
 }
 
-#[no_mangle]
-pub extern "C" fn hongsathep_flush_one_kept(
-    queues: &mut [u64],
-    min: u64,
-    moved: &mut u64,
-    number: &mut u64,
-) -> u64
-    requires { ⌜ queuesKept (queuesFrom (now queues)) ≡ true ⌝ }
-    ensures answer { λ r. ⌜ r ≡ numberOf (flushOneKept (queuesFrom (now (queues .entry))) min .answer) ⌝ }
-    ensures queues { λ r. ⌜ now (queues .exit) ≡ headAfter queuesSize (numberOf (flushOneKept (queuesFrom (now (queues .entry))) min .answer)) (now (queues .entry)) (queuesWords (flushOneKept (queuesFrom (now (queues .entry))) min .queues)) ⌝ }
-    ensures moved { λ r. ⌜ now (moved .exit) ≡ oneIf (flushOneKept (queuesFrom (now (queues .entry))) min .moved) ⌝ }
-    ensures number { λ r. ⌜ now (number .exit) ≡ flushOneKept (queuesFrom (now (queues .entry))) min .number ⌝ }
+fn keep_killed(queues: &mut [u64], done: Killed, remove: &mut [u64; 64], removed: &mut u64) -> u64
+    ensures { λ r. ⌜ KillLeft done (now (queues .entry)) r (now (queues .exit)) (now (remove .exit)) (now (removed .exit)) ⌝ }
 {
-    let done = queues_of(queues).flush_one_kept(min);
-    *moved = flag(done.moved);
-    *number = done.number;
+    let remove_numbers = done.remove.numbers;
+    *remove = remove_numbers;
+    *removed = done.remove.count as u64;
     let answer = done.answer;
     let left = done.queues;
     keep_queues(queues, answer, left)
 }
 
-#[no_mangle]
-pub extern "C" fn hongsathep_replay_next_kept(
+fn keep_cleaned(
     queues: &mut [u64],
-    found: &mut u64,
-    number: &mut u64,
-) -> u64
-    requires { ⌜ queuesKept (queuesFrom (now queues)) ≡ true ⌝ }
-    ensures answer { λ r. ⌜ r ≡ numberOf (replayNextKept (queuesFrom (now (queues .entry))) .answer) ⌝ }
-    ensures queues { λ r. ⌜ now (queues .exit) ≡ headAfter queuesSize (numberOf (replayNextKept (queuesFrom (now (queues .entry))) .answer)) (now (queues .entry)) (queuesWords (replayNextKept (queuesFrom (now (queues .entry))) .queues)) ⌝ }
-    ensures found { λ r. ⌜ now (found .exit) ≡ oneIf (replayNextKept (queuesFrom (now (queues .entry))) .found) ⌝ }
-    ensures number { λ r. ⌜ now (number .exit) ≡ replayNextKept (queuesFrom (now (queues .entry))) .number ⌝ }
-{
-    let done = queues_of(queues).replay_next_kept();
-    *found = flag(done.found);
-    *number = done.number;
-    let answer = done.answer;
-    let left = done.queues;
-    keep_queues(queues, answer, left)
-}
-
-#[no_mangle]
-pub extern "C" fn hongsathep_clean_logs(
-    queues: &mut [u64],
-    max: usize,
+    done: Cleaned,
     more: &mut u64,
     empty: &mut [u64; 64],
     emptied: &mut u64,
     remove: &mut [u64; 64],
     removed: &mut u64,
 ) -> u64
-    ensures answer { λ r. ⌜ r ≡ numberOf (cleanLogs (queuesFrom (now (queues .entry))) max .answer) ⌝ }
-    ensures queues { λ r. ⌜ now (queues .exit) ≡ headAfter queuesSize (numberOf (cleanLogs (queuesFrom (now (queues .entry))) max .answer)) (now (queues .entry)) (queuesWords (cleanLogs (queuesFrom (now (queues .entry))) max .queues)) ⌝ }
-    ensures more { λ r. ⌜ now (more .exit) ≡ oneIf (cleanLogs (queuesFrom (now (queues .entry))) max .more) ⌝ }
-    ensures empty { λ r. ⌜ now (empty .exit) ≡ cleanLogs (queuesFrom (now (queues .entry))) max .empty .numbers ⌝ }
-    ensures emptied { λ r. ⌜ now (emptied .exit) ≡ cleanLogs (queuesFrom (now (queues .entry))) max .empty .count ⌝ }
-    ensures remove { λ r. ⌜ now (remove .exit) ≡ cleanLogs (queuesFrom (now (queues .entry))) max .remove .numbers ⌝ }
-    ensures removed { λ r. ⌜ now (removed .exit) ≡ cleanLogs (queuesFrom (now (queues .entry))) max .remove .count ⌝ }
+    ensures { λ r. ⌜ CleanLeft done (now (queues .entry)) r (now (queues .exit)) (now (more .exit)) (now (empty .exit)) (now (emptied .exit)) (now (remove .exit)) (now (removed .exit)) ⌝ }
 {
-    let done = queues_of(queues).clean_logs(max);
     *more = flag(done.more);
     let empty_numbers = done.empty.numbers;
     *empty = empty_numbers;
     *emptied = done.empty.count as u64;
-    let remove_numbers = done.remove.numbers;
-    *remove = remove_numbers;
-    *removed = done.remove.count as u64;
-    let answer = done.answer;
-    let left = done.queues;
-    keep_queues(queues, answer, left)
-}
-
-#[no_mangle]
-pub extern "C" fn hongsathep_kill_logs(
-    queues: &mut [u64],
-    remove: &mut [u64; 64],
-    removed: &mut u64,
-) -> u64
-    ensures answer { λ r. ⌜ r ≡ numberOf (killLogs (queuesFrom (now (queues .entry))) .answer) ⌝ }
-    ensures queues { λ r. ⌜ now (queues .exit) ≡ headAfter queuesSize (numberOf (killLogs (queuesFrom (now (queues .entry))) .answer)) (now (queues .entry)) (queuesWords (killLogs (queuesFrom (now (queues .entry))) .queues)) ⌝ }
-    ensures remove { λ r. ⌜ now (remove .exit) ≡ killLogs (queuesFrom (now (queues .entry))) .remove .numbers ⌝ }
-    ensures removed { λ r. ⌜ now (removed .exit) ≡ killLogs (queuesFrom (now (queues .entry))) .remove .count ⌝ }
-{
-    let done = queues_of(queues).kill_logs();
-    let remove_numbers = done.remove.numbers;
-    *remove = remove_numbers;
-    *removed = done.remove.count as u64;
-    let answer = done.answer;
-    let left = done.queues;
-    keep_queues(queues, answer, left)
-}
-
-#[no_mangle]
-pub extern "C" fn hongsathep_clean_logs_kept(
-    queues: &mut [u64],
-    max: usize,
-    more: &mut u64,
-    empty: &mut [u64; 64],
-    emptied: &mut u64,
-    remove: &mut [u64; 64],
-    removed: &mut u64,
-) -> u64
-    requires { ⌜ queuesKept (queuesFrom (now queues)) ≡ true ⌝ }
-    ensures answer { λ r. ⌜ r ≡ numberOf (cleanLogsKept (queuesFrom (now (queues .entry))) max .answer) ⌝ }
-    ensures queues { λ r. ⌜ now (queues .exit) ≡ headAfter queuesSize (numberOf (cleanLogsKept (queuesFrom (now (queues .entry))) max .answer)) (now (queues .entry)) (queuesWords (cleanLogsKept (queuesFrom (now (queues .entry))) max .queues)) ⌝ }
-    ensures more { λ r. ⌜ now (more .exit) ≡ oneIf (cleanLogsKept (queuesFrom (now (queues .entry))) max .more) ⌝ }
-    ensures empty { λ r. ⌜ now (empty .exit) ≡ cleanLogsKept (queuesFrom (now (queues .entry))) max .empty .numbers ⌝ }
-    ensures emptied { λ r. ⌜ now (emptied .exit) ≡ cleanLogsKept (queuesFrom (now (queues .entry))) max .empty .count ⌝ }
-    ensures remove { λ r. ⌜ now (remove .exit) ≡ cleanLogsKept (queuesFrom (now (queues .entry))) max .remove .numbers ⌝ }
-    ensures removed { λ r. ⌜ now (removed .exit) ≡ cleanLogsKept (queuesFrom (now (queues .entry))) max .remove .count ⌝ }
-{
-    let done = queues_of(queues).clean_logs_kept(max);
-    *more = flag(done.more);
-    let empty_numbers = done.empty.numbers;
-    *empty = empty_numbers;
-    *emptied = done.empty.count as u64;
-    let remove_numbers = done.remove.numbers;
-    *remove = remove_numbers;
-    *removed = done.remove.count as u64;
-    let answer = done.answer;
-    let left = done.queues;
-    keep_queues(queues, answer, left)
-}
-
-#[no_mangle]
-pub extern "C" fn hongsathep_kill_logs_kept(
-    queues: &mut [u64],
-    remove: &mut [u64; 64],
-    removed: &mut u64,
-) -> u64
-    requires { ⌜ queuesKept (queuesFrom (now queues)) ≡ true ⌝ }
-    ensures answer { λ r. ⌜ r ≡ numberOf (killLogsKept (queuesFrom (now (queues .entry))) .answer) ⌝ }
-    ensures queues { λ r. ⌜ now (queues .exit) ≡ headAfter queuesSize (numberOf (killLogsKept (queuesFrom (now (queues .entry))) .answer)) (now (queues .entry)) (queuesWords (killLogsKept (queuesFrom (now (queues .entry))) .queues)) ⌝ }
-    ensures remove { λ r. ⌜ now (remove .exit) ≡ killLogsKept (queuesFrom (now (queues .entry))) .remove .numbers ⌝ }
-    ensures removed { λ r. ⌜ now (removed .exit) ≡ killLogsKept (queuesFrom (now (queues .entry))) .remove .count ⌝ }
-{
-    let done = queues_of(queues).kill_logs_kept();
     let remove_numbers = done.remove.numbers;
     *remove = remove_numbers;
     *removed = done.remove.count as u64;
@@ -274,30 +148,6 @@ fn read_next(queues: &[u64], log: &[u8], position: usize, validate: bool, words:
         };
     }
     q.read_next(log, position, validate)
-}
-
-#[no_mangle]
-pub extern "C" fn hongsathep_read_next(
-    queues: &mut [u64],
-    log: &[u8],
-    position: usize,
-    validate: bool,
-    number: &mut u64,
-    reader: &mut [u64],
-) -> u64
-    ensures answer { λ r. ⌜ r ≡ numberOf (readNextIn (now (queues .entry)) (now (log .entry)) position validate (length (now (reader .entry))) .answer) ⌝ }
-    ensures queues { λ r. ⌜ now (queues .exit) ≡ headAfter queuesSize (numberOf (readNextIn (now (queues .entry)) (now (log .entry)) position validate (length (now (reader .entry))) .answer)) (now (queues .entry)) (queuesWords (readNextIn (now (queues .entry)) (now (log .entry)) position validate (length (now (reader .entry))) .queues)) ⌝ }
-    ensures number { λ r. ⌜ now (number .exit) ≡ readNextIn (now (queues .entry)) (now (log .entry)) position validate (length (now (reader .entry))) .number ⌝ }
-    ensures reader { λ r. ⌜ now (reader .exit) ≡ headAfter readerSize (numberOf (readNextIn (now (queues .entry)) (now (log .entry)) position validate (length (now (reader .entry))) .answer)) (now (reader .entry)) (readerWords (readNextIn (now (queues .entry)) (now (log .entry)) position validate (length (now (reader .entry))) .reader)) ⌝ }
-{
-    let n = reader.len();
-    let done = read_next(queues, log, position, validate, n);
-    *number = done.number;
-    let answer = done.answer;
-    let begun = done.reader;
-    let left = done.queues;
-    keep_reader(reader, answer, begun);
-    keep_queues(queues, answer, left)
 }
 
 fn read_next_kept(
@@ -322,6 +172,143 @@ fn read_next_kept(
     q.read_next_kept(log, position, validate)
 }
 
+fn keep_read(queues: &mut [u64], done: ReadNext, number: &mut u64, reader: &mut [u64]) -> u64
+    ensures { λ r. ⌜ ReadLeft done (now (queues .entry)) r (now (queues .exit)) (now (number .exit)) (now (reader .entry)) (now (reader .exit)) ⌝ }
+{
+    *number = done.number;
+    let answer = done.answer;
+    let begun = done.reader;
+    let left = done.queues;
+    keep_reader(reader, answer, begun);
+    keep_queues(queues, answer, left)
+}
+
+#[no_mangle]
+pub extern "C" fn hongsathep_flush_one(
+    queues: &mut [u64],
+    min: u64,
+    moved: &mut u64,
+    number: &mut u64,
+) -> u64
+    ensures { λ r. ⌜ FlushLeft (flushOne (queuesFrom (now (queues .entry))) min) (now (queues .entry)) r (now (queues .exit)) (now (moved .exit)) (now (number .exit)) ⌝ }
+{
+    let done = queues_of(queues).flush_one(min);
+    keep_flush(queues, done, moved, number)
+}
+
+#[no_mangle]
+pub extern "C" fn hongsathep_flush_one_kept(
+    queues: &mut [u64],
+    min: u64,
+    moved: &mut u64,
+    number: &mut u64,
+) -> u64
+    requires { ⌜ queuesKept (queuesFrom (now queues)) ≡ true ⌝ }
+    ensures { λ r. ⌜ FlushLeft (flushOneKept (queuesFrom (now (queues .entry))) min) (now (queues .entry)) r (now (queues .exit)) (now (moved .exit)) (now (number .exit)) ⌝ }
+{
+    let done = queues_of(queues).flush_one_kept(min);
+    keep_flush(queues, done, moved, number)
+}
+
+#[no_mangle]
+pub extern "C" fn hongsathep_replay_next(
+    queues: &mut [u64],
+    found: &mut u64,
+    number: &mut u64,
+) -> u64
+    ensures { λ r. ⌜ ReplayLeft (replayNext (queuesFrom (now (queues .entry)))) (now (queues .entry)) r (now (queues .exit)) (now (found .exit)) (now (number .exit)) ⌝ }
+{
+    let done = queues_of(queues).replay_next();
+    keep_replay(queues, done, found, number)
+}
+
+#[no_mangle]
+pub extern "C" fn hongsathep_replay_next_kept(
+    queues: &mut [u64],
+    found: &mut u64,
+    number: &mut u64,
+) -> u64
+    requires { ⌜ queuesKept (queuesFrom (now queues)) ≡ true ⌝ }
+    ensures { λ r. ⌜ ReplayLeft (replayNextKept (queuesFrom (now (queues .entry)))) (now (queues .entry)) r (now (queues .exit)) (now (found .exit)) (now (number .exit)) ⌝ }
+{
+    let done = queues_of(queues).replay_next_kept();
+    keep_replay(queues, done, found, number)
+}
+
+#[no_mangle]
+pub extern "C" fn hongsathep_clean_logs(
+    queues: &mut [u64],
+    max: usize,
+    more: &mut u64,
+    empty: &mut [u64; 64],
+    emptied: &mut u64,
+    remove: &mut [u64; 64],
+    removed: &mut u64,
+) -> u64
+    ensures { λ r. ⌜ CleanLeft (cleanLogs (queuesFrom (now (queues .entry))) max) (now (queues .entry)) r (now (queues .exit)) (now (more .exit)) (now (empty .exit)) (now (emptied .exit)) (now (remove .exit)) (now (removed .exit)) ⌝ }
+{
+    let done = queues_of(queues).clean_logs(max);
+    keep_cleaned(queues, done, more, empty, emptied, remove, removed)
+}
+
+#[no_mangle]
+pub extern "C" fn hongsathep_clean_logs_kept(
+    queues: &mut [u64],
+    max: usize,
+    more: &mut u64,
+    empty: &mut [u64; 64],
+    emptied: &mut u64,
+    remove: &mut [u64; 64],
+    removed: &mut u64,
+) -> u64
+    requires { ⌜ queuesKept (queuesFrom (now queues)) ≡ true ⌝ }
+    ensures { λ r. ⌜ CleanLeft (cleanLogsKept (queuesFrom (now (queues .entry))) max) (now (queues .entry)) r (now (queues .exit)) (now (more .exit)) (now (empty .exit)) (now (emptied .exit)) (now (remove .exit)) (now (removed .exit)) ⌝ }
+{
+    let done = queues_of(queues).clean_logs_kept(max);
+    keep_cleaned(queues, done, more, empty, emptied, remove, removed)
+}
+
+#[no_mangle]
+pub extern "C" fn hongsathep_kill_logs(
+    queues: &mut [u64],
+    remove: &mut [u64; 64],
+    removed: &mut u64,
+) -> u64
+    ensures { λ r. ⌜ KillLeft (killLogs (queuesFrom (now (queues .entry)))) (now (queues .entry)) r (now (queues .exit)) (now (remove .exit)) (now (removed .exit)) ⌝ }
+{
+    let done = queues_of(queues).kill_logs();
+    keep_killed(queues, done, remove, removed)
+}
+
+#[no_mangle]
+pub extern "C" fn hongsathep_kill_logs_kept(
+    queues: &mut [u64],
+    remove: &mut [u64; 64],
+    removed: &mut u64,
+) -> u64
+    requires { ⌜ queuesKept (queuesFrom (now queues)) ≡ true ⌝ }
+    ensures { λ r. ⌜ KillLeft (killLogsKept (queuesFrom (now (queues .entry)))) (now (queues .entry)) r (now (queues .exit)) (now (remove .exit)) (now (removed .exit)) ⌝ }
+{
+    let done = queues_of(queues).kill_logs_kept();
+    keep_killed(queues, done, remove, removed)
+}
+
+#[no_mangle]
+pub extern "C" fn hongsathep_read_next(
+    queues: &mut [u64],
+    log: &[u8],
+    position: usize,
+    validate: bool,
+    number: &mut u64,
+    reader: &mut [u64],
+) -> u64
+    ensures { λ r. ⌜ ReadLeft (readNextIn (now (queues .entry)) (now (log .entry)) position validate (length (now (reader .entry)))) (now (queues .entry)) r (now (queues .exit)) (now (number .exit)) (now (reader .entry)) (now (reader .exit)) ⌝ }
+{
+    let n = reader.len();
+    let done = read_next(queues, log, position, validate, n);
+    keep_read(queues, done, number, reader)
+}
+
 #[no_mangle]
 pub extern "C" fn hongsathep_read_next_kept(
     queues: &mut [u64],
@@ -332,19 +319,11 @@ pub extern "C" fn hongsathep_read_next_kept(
     reader: &mut [u64],
 ) -> u64
     requires { ⌜ queuesKept (queuesFrom (now queues)) ≡ true ⌝ }
-    ensures answer { λ r. ⌜ r ≡ numberOf (readNextKeptIn (now (queues .entry)) (now (log .entry)) position validate (length (now (reader .entry))) .answer) ⌝ }
-    ensures queues { λ r. ⌜ now (queues .exit) ≡ headAfter queuesSize (numberOf (readNextKeptIn (now (queues .entry)) (now (log .entry)) position validate (length (now (reader .entry))) .answer)) (now (queues .entry)) (queuesWords (readNextKeptIn (now (queues .entry)) (now (log .entry)) position validate (length (now (reader .entry))) .queues)) ⌝ }
-    ensures number { λ r. ⌜ now (number .exit) ≡ readNextKeptIn (now (queues .entry)) (now (log .entry)) position validate (length (now (reader .entry))) .number ⌝ }
-    ensures reader { λ r. ⌜ now (reader .exit) ≡ headAfter readerSize (numberOf (readNextKeptIn (now (queues .entry)) (now (log .entry)) position validate (length (now (reader .entry))) .answer)) (now (reader .entry)) (readerWords (readNextKeptIn (now (queues .entry)) (now (log .entry)) position validate (length (now (reader .entry))) .reader)) ⌝ }
+    ensures { λ r. ⌜ ReadLeft (readNextKeptIn (now (queues .entry)) (now (log .entry)) position validate (length (now (reader .entry)))) (now (queues .entry)) r (now (queues .exit)) (now (number .exit)) (now (reader .entry)) (now (reader .exit)) ⌝ }
 {
     let n = reader.len();
     let done = read_next_kept(queues, log, position, validate, n);
-    *number = done.number;
-    let answer = done.answer;
-    let begun = done.reader;
-    let left = done.queues;
-    keep_reader(reader, answer, begun);
-    keep_queues(queues, answer, left)
+    keep_read(queues, done, number, reader)
 }
 
 // Whether there is a file to replay; its first id.

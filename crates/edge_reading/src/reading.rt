@@ -8,7 +8,7 @@ ghost use Rattle.host_words.specs.Head.{headRoom, headAfter};
 ghost use Rattle.host_words.specs.Reader.{readerSize, readerWords};
 ghost use Rattle.answer.specs.Answer.{numberOf};
 ghost use Rattle.answer.specs.declared.answer.Answer.the-variants.{BadState};
-ghost use Rattle.edge_reading.specs.Reading.{rowWords, indexIn, actionNumbers, readerLeft, nextIn, stepIn};
+ghost use Rattle.edge_reading.specs.Reading.{rowWords, indexIn, actionNumbers, readerLeft, nextIn, stepIn, StepLeft, numbersOf};
 use answer::Answer;
 use answer::Refusal;
 use host_words::directory_of;
@@ -134,6 +134,30 @@ fn step_in(tables: &[u64], log: &[u8], reader: &[u64]) -> Step
     no_reader()
 }
 
+// What a step leaves, stored where the host lent room for it: one for both doors.
+fn keep_next(
+    reader: &mut [u64],
+    step: Step,
+    tag: &mut u64,
+    table: &mut u64,
+    index: &mut u64,
+    start: &mut u64,
+    length: &mut u64,
+    fault: &mut u64,
+) -> u64
+    ensures { λ r. ⌜ StepLeft step (now (reader .entry)) r (now (reader .exit)) (numbersOf (now (tag .exit)) (now (table .exit)) (now (index .exit)) (now (start .exit)) (now (length .exit)) (now (fault .exit))) ⌝ }
+{
+    let a = action_in(step);
+    *tag = a.tag;
+    *table = a.table;
+    *index = a.index;
+    *start = a.start;
+    *length = a.length;
+    *fault = a.fault;
+    keep_step(reader, step);
+    answer_in(step)
+}
+
 #[no_mangle]
 pub extern "C" fn hongsathep_reader_new(reader: &mut [u64], position: usize, validate: bool) -> u64
     ensures answer { λ r. ⌜ r ≡ numberOf (headRoom readerSize (now (reader .entry))) ⌝ }
@@ -155,25 +179,10 @@ pub extern "C" fn hongsathep_next(
     length: &mut u64,
     fault: &mut u64,
 ) -> u64
-    ensures answer { λ r. ⌜ r ≡ answerOf (nextIn (now (tables .entry)) (now (log .entry)) (now (reader .entry))) ⌝ }
-    ensures after { λ r. ⌜ now (reader .exit) ≡ readerLeft (now (reader .entry)) (nextIn (now (tables .entry)) (now (log .entry)) (now (reader .entry))) ⌝ }
-    ensures tag { λ r. ⌜ now (tag .exit) ≡ actionNumbers (nextIn (now (tables .entry)) (now (log .entry)) (now (reader .entry))) .tag ⌝ }
-    ensures table { λ r. ⌜ now (table .exit) ≡ actionNumbers (nextIn (now (tables .entry)) (now (log .entry)) (now (reader .entry))) .table ⌝ }
-    ensures index { λ r. ⌜ now (index .exit) ≡ actionNumbers (nextIn (now (tables .entry)) (now (log .entry)) (now (reader .entry))) .index ⌝ }
-    ensures start { λ r. ⌜ now (start .exit) ≡ actionNumbers (nextIn (now (tables .entry)) (now (log .entry)) (now (reader .entry))) .start ⌝ }
-    ensures length { λ r. ⌜ now (length .exit) ≡ actionNumbers (nextIn (now (tables .entry)) (now (log .entry)) (now (reader .entry))) .length ⌝ }
-    ensures fault { λ r. ⌜ now (fault .exit) ≡ actionNumbers (nextIn (now (tables .entry)) (now (log .entry)) (now (reader .entry))) .fault ⌝ }
+    ensures { λ r. ⌜ StepLeft (nextIn (now (tables .entry)) (now (log .entry)) (now (reader .entry))) (now (reader .entry)) r (now (reader .exit)) (numbersOf (now (tag .exit)) (now (table .exit)) (now (index .exit)) (now (start .exit)) (now (length .exit)) (now (fault .exit))) ⌝ }
 {
     let step = next_in(tables, log, reader);
-    let a = action_in(step);
-    *tag = a.tag;
-    *table = a.table;
-    *index = a.index;
-    *start = a.start;
-    *length = a.length;
-    *fault = a.fault;
-    keep_step(reader, step);
-    answer_in(step)
+    keep_next(reader, step, tag, table, index, start, length, fault)
 }
 
 #[no_mangle]
@@ -189,23 +198,8 @@ pub extern "C" fn hongsathep_next_kept(
     fault: &mut u64,
 ) -> u64
     requires { ⌜ directoryKept (directoryFrom (now tables)) ≡ true ⌝ }
-    ensures answer { λ r. ⌜ r ≡ answerOf (stepIn (now (tables .entry)) (now (log .entry)) (now (reader .entry))) ⌝ }
-    ensures after { λ r. ⌜ now (reader .exit) ≡ readerLeft (now (reader .entry)) (stepIn (now (tables .entry)) (now (log .entry)) (now (reader .entry))) ⌝ }
-    ensures tag { λ r. ⌜ now (tag .exit) ≡ actionNumbers (stepIn (now (tables .entry)) (now (log .entry)) (now (reader .entry))) .tag ⌝ }
-    ensures table { λ r. ⌜ now (table .exit) ≡ actionNumbers (stepIn (now (tables .entry)) (now (log .entry)) (now (reader .entry))) .table ⌝ }
-    ensures index { λ r. ⌜ now (index .exit) ≡ actionNumbers (stepIn (now (tables .entry)) (now (log .entry)) (now (reader .entry))) .index ⌝ }
-    ensures start { λ r. ⌜ now (start .exit) ≡ actionNumbers (stepIn (now (tables .entry)) (now (log .entry)) (now (reader .entry))) .start ⌝ }
-    ensures length { λ r. ⌜ now (length .exit) ≡ actionNumbers (stepIn (now (tables .entry)) (now (log .entry)) (now (reader .entry))) .length ⌝ }
-    ensures fault { λ r. ⌜ now (fault .exit) ≡ actionNumbers (stepIn (now (tables .entry)) (now (log .entry)) (now (reader .entry))) .fault ⌝ }
+    ensures { λ r. ⌜ StepLeft (stepIn (now (tables .entry)) (now (log .entry)) (now (reader .entry))) (now (reader .entry)) r (now (reader .exit)) (numbersOf (now (tag .exit)) (now (table .exit)) (now (index .exit)) (now (start .exit)) (now (length .exit)) (now (fault .exit))) ⌝ }
 {
     let step = step_in(tables, log, reader);
-    let a = action_in(step);
-    *tag = a.tag;
-    *table = a.table;
-    *index = a.index;
-    *start = a.start;
-    *length = a.length;
-    *fault = a.fault;
-    keep_step(reader, step);
-    answer_in(step)
+    keep_next(reader, step, tag, table, index, start, length, fault)
 }

@@ -3,9 +3,8 @@ ghost use mathlib.Core.Path.{_≡_};
 ghost use mathlib.Core.Bool.{true};
 ghost use Prim.Native.Nat.{_+_, _≤_};
 ghost use lib.ListN.{length};
-ghost use Rattle.answer.specs.Answer.{numberOf};
 ghost use Rattle.output.specs.Put.{Wrote};
-ghost use Rattle.host_words.specs.Head.{headAfter};
+ghost use Rattle.host_words.specs.Head.{HeadLeft};
 ghost use Rattle.host_queues.specs.Queues.{queuesSize, queuesFormed, queueFrom, brokenQueues, queuesIn, queuesFrom, queueWords, frontWords, behindWords, queuesWords};
 use answer::Answer;
 use files::Appending;
@@ -139,7 +138,7 @@ fn store(words: &mut [u64], q: Queues)
 
 // What a call answered, as a number; the words are then the queues that it left, where it answered 0 or 1.
 pub fn keep_queues(words: &mut [u64], answer: Answer, q: Queues) -> u64
-    ensures { λ r. ⌜ (r ≡ numberOf answer) × (now (words .exit) ≡ headAfter queuesSize (numberOf answer) (now (words .entry)) (queuesWords q)) ⌝ }
+    ensures { λ r. ⌜ HeadLeft queuesSize answer (queuesWords q) (now (words .entry)) r (now (words .exit)) ⌝ }
 {
     let n = number(answer);
     if stored(331, n, words) {

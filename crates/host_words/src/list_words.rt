@@ -3,10 +3,9 @@ ghost use mathlib.Core.Path.{_≡_};
 ghost use mathlib.Core.Bool.{true};
 ghost use Prim.Native.Nat.{_+_, _≤_};
 ghost use lib.ListN.{length};
-ghost use Rattle.answer.specs.Answer.{numberOf};
 ghost use Rattle.numbers.specs.Numbers.{allBelow};
 ghost use Rattle.output.specs.Put.{Wrote};
-ghost use Rattle.host_words.specs.Head.{headAfter};
+ghost use Rattle.host_words.specs.Head.{HeadLeft};
 ghost use Rattle.host_words.specs.Change.{listSize, tablesFrom, dropsFrom, countsFrom, listFormed, brokenList, listIn, listFrom, countsWords, dropsWords, listWords};
 use super::writing::number;
 use super::writing::put_word;
@@ -134,7 +133,7 @@ fn store(words: &mut [u64], l: LogChange)
 
 // What a call answered, as a number; the words are then the list that it left, where it answered 0 or 1.
 pub fn keep_list(words: &mut [u64], answer: Answer, l: LogChange) -> u64
-    ensures { λ r. ⌜ (r ≡ numberOf answer) × (now (words .exit) ≡ headAfter listSize (numberOf answer) (now (words .entry)) (listWords l)) ⌝ }
+    ensures { λ r. ⌜ HeadLeft listSize answer (listWords l) (now (words .entry)) r (now (words .exit)) ⌝ }
 {
     let n = number(answer);
     if stored(38, n, words) {

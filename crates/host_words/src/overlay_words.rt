@@ -1,8 +1,7 @@
 // The overlays' head from words and back.
 ghost use mathlib.Core.Path.{_≡_};
 ghost use lib.ListN.{length};
-ghost use Rattle.answer.specs.Answer.{numberOf};
-ghost use Rattle.host_words.specs.Head.{headAfter};
+ghost use Rattle.host_words.specs.Head.{HeadLeft};
 ghost use Rattle.host_words.specs.Overlays.{overlaysSize, brokenOverlays, overlaysFrom, overlaysWords};
 use super::list_words::counts_at;
 use super::list_words::put_counts;
@@ -51,7 +50,7 @@ fn store(words: &mut [u64], o: LogOverlays)
 
 // What a call answered, as a number; the words are then the overlays' head that it left, where it answered 0 or 1.
 pub fn keep_overlays(words: &mut [u64], answer: Answer, o: LogOverlays) -> u64
-    ensures { λ r. ⌜ (r ≡ numberOf answer) × (now (words .exit) ≡ headAfter overlaysSize (numberOf answer) (now (words .entry)) (overlaysWords o)) ⌝ }
+    ensures { λ r. ⌜ HeadLeft overlaysSize answer (overlaysWords o) (now (words .entry)) r (now (words .exit)) ⌝ }
 {
     let n = number(answer);
     if stored(11, n, words) {

@@ -2,8 +2,7 @@
 ghost use mathlib.Core.Path.{_≡_};
 ghost use mathlib.Core.Bool.{true};
 ghost use lib.ListN.{length};
-ghost use Rattle.answer.specs.Answer.{numberOf};
-ghost use Rattle.host_words.specs.Head.{headAfter};
+ghost use Rattle.host_words.specs.Head.{HeadLeft};
 ghost use Rattle.host_words.specs.Reader.{readerSize, readerFormed, readerFrom, readerWords};
 use super::writing::flag;
 use super::writing::number;
@@ -53,7 +52,7 @@ fn store(words: &mut [u64], reader: LogReader)
 
 // What a call answered, as a number; the words are then the reader that it left, where it answered 0 or 1.
 pub fn keep_reader(words: &mut [u64], answer: Answer, reader: LogReader) -> u64
-    ensures { λ r. ⌜ (r ≡ numberOf answer) × (now (words .exit) ≡ headAfter readerSize (numberOf answer) (now (words .entry)) (readerWords reader)) ⌝ }
+    ensures { λ r. ⌜ HeadLeft readerSize answer (readerWords reader) (now (words .entry)) r (now (words .exit)) ⌝ }
 {
     let n = number(answer);
     if stored(5, n, words) {

@@ -50,14 +50,4 @@ returns-5 c = rw (eq-eqb _ _ (c .before .before .before .before .before .before 
 
 pub formed-spec : {M : Type 1} → statement M
 formed-spec =
-    tie.close
-    (tie.spec
-    returns
-    shared-slice-read-if2
-    returns-2
-    shared-slice-read-if3
-    returns-3
-    shared-slice-read-if4
-    returns-4
-    shared-slice-read-result
-    returns-5)
+    tie.close (tie.spec returns shared-slice-read-if2 returns-2 shared-slice-read-if3 returns-3 shared-slice-read-if4 returns-4 shared-slice-read-result returns-5)

@@ -75,20 +75,4 @@ returns c =
 
 pub loaded-spec : {M : Type 1} → statement M
 loaded-spec =
-    tie.close
-    (tie.spec
-    slice-aggregate-copy
-    copy-requires
-    shared-slice-read-t7
-    shared-slice-read-t10
-    shared-slice-read-t12
-    queue-at-requires
-    shared-slice-read-t16
-    shared-slice-read-t19
-    queue-at-requires-2
-    queue-at-requires-3
-    queue-at-requires-4
-    shared-slice-read-t26
-    cast-t27
-    shared-slice-read-t29
-    returns)
+    tie.close (tie.spec slice-aggregate-copy copy-requires shared-slice-read-t7 shared-slice-read-t10 shared-slice-read-t12 queue-at-requires shared-slice-read-t16 shared-slice-read-t19 queue-at-requires-2 queue-at-requires-3 queue-at-requires-4 shared-slice-read-t26 cast-t27 shared-slice-read-t29 returns)

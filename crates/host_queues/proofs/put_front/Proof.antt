@@ -54,15 +54,4 @@ returns c =
 
 pub put-front-spec : {M : Type 1} → statement M
 put-front-spec =
-    tie.close
-    (tie.spec
-    flag-requires
-    put-word-requires
-    put-word-requires-2
-    put-word-requires-3
-    put-queue-requires
-    flag-requires-2
-    put-word-requires-4
-    put-word-requires-5
-    same-length
-    returns)
+    tie.close (tie.spec flag-requires put-word-requires put-word-requires-2 put-word-requires-3 put-queue-requires flag-requires-2 put-word-requires-4 put-word-requires-5 same-length returns)

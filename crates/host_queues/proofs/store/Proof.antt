@@ -62,15 +62,4 @@ returns c =
 
 pub store-spec : {M : Type 1} → statement M
 store-spec =
-    tie.close
-    (tie.spec
-    put-front-requires
-    put-behind-requires
-    slice-aggregate-put-words
-    put-words-requires
-    cast-put-word
-    put-word-requires
-    flag-requires
-    put-word-requires-2
-    same-length
-    returns)
+    tie.close (tie.spec put-front-requires put-behind-requires slice-aggregate-put-words put-words-requires cast-put-word put-word-requires flag-requires put-word-requires-2 same-length returns)

@@ -1,73 +1,27 @@
 -- `hongsathep_clean_logs_kept` meets its contract. Assumes nothing.
-use mathlib.Core.Path.{_≡_, refl, sym, ap, ap₂, _∙_}
-use Rattle.answer.specs.Answer.{numberOf}
-use Rattle.host_words.specs.Head.{headAfter}
-use Rattle.host_queues.specs.Queues.{queuesSize, queuesWords}
-use Rattle.numbers.specs.Numbers.{oneIf}
+use mathlib.Core.Path.{ap, _∙_}
 use Rattle.files.specs.Queues.{queuesKept}
 use Rattle.files.specs.Calls.{cleanLogsKept}
 use Rattle.files.specs.declared.queues.Queues.{Queues}
-use Rattle.files.specs.declared.cleaning.Cleaned.{Cleaned}
-use borrow.Author.Needs.{needs}
+use Rattle.edge_queues.proofs.Left.{clean-left}
 use Rattle.edge_queues.proofs.queueing.hongsathep_clean_logs_kept.Statement.{statement}
 use Rattle.edge_queues.proofs.queueing.hongsathep_clean_logs_kept.Tie as tie
-use Rattle.edge_queues.proofs.queueing.hongsathep_clean_logs_kept.Reads as reads
-use Rattle.edge_queues.proofs.queueing.hongsathep_clean_logs_kept.Lts as lts
-use Rattle.files.proofs.queues.Queues.clean_logs_kept.Reads as clean-logs-kept-reads
-use Rattle.host_queues.proofs.keep_queues.Reads as keep-queues-reads
-use Rattle.host_queues.proofs.queues_of.Reads as queues-of-reads
-use Rattle.host_words.proofs.flag.Reads as flag-reads
 
--- src/queueing.rt:230:16
 queues-of-requires : tie.Need-queues-of-requires
-queues-of-requires c κs = search needs
+queues-of-requires c κs = tt
 
--- src/queueing.rt:230:9
 clean-logs-kept-requires : tie.Need-clean-logs-kept-requires
 clean-logs-kept-requires c κs = ap queuesKept (c .queues-of .ensures) ∙ c .before .before .before .pre
 
--- src/queueing.rt:231:13
-flag-requires : tie.Need-flag-requires
-flag-requires c κs = search needs
+keep-cleaned-requires : tie.Need-keep-cleaned-requires
+keep-cleaned-requires c κs = tt
 
--- src/queueing.rt:240:5
-keep-queues-requires : tie.Need-keep-queues-requires
-keep-queues-requires c κs = search needs
-
--- src/queueing.rt:211:1
 same-length : tie.Need-same-length
-same-length c = search needs
+same-length c = c .before .queues .given
 
--- src/queueing.rt:211:1
 returns : tie.Need-returns
-returns c =
-    let e = c .before .before .before .before .before .before .before .before .clean-logs-kept .ensures ∙ ap (λ (q : Queues). cleanLogsKept q (c .before .before .before .before .before .before .before .before .before .before .before .before .args .max)) (c .before .before .before .before .before .before .before .before .before .queues-of .ensures) in (
-      c .before .before .keep-queues .ensures .0 ∙ ap (λ (x : Cleaned). numberOf (x .answer)) e,
-      (
-        c .before .before .keep-queues .ensures .1 ∙ ap (λ (x : Cleaned). headAfter queuesSize (numberOf (x .answer)) (c .before .before .before .before .before .before .before .before .before .before .before .before .args .queues .now) (queuesWords (x .queues))) e,
-        (
-          c .before .before .before .before .before .before .before .flag .ensures ∙ ap (λ (x : Cleaned). oneIf (x .more)) e,
-          (
-            ap (λ (x : Cleaned). x .empty .numbers) e,
-            (
-              ap (λ (x : Cleaned). x .empty .count) e,
-              (
-                ap (λ (x : Cleaned). x .remove .numbers) e,
-                ap (λ (x : Cleaned). x .remove .count) e,
-              ),
-            ),
-          ),
-        ),
-      ),
-    )
+returns c = clean-left (c .before .before .before .before .before .before .before .before .before .clean-logs-kept .ensures ∙ ap (λ (q : Queues). cleanLogsKept q (c .before .before .before .before .before .before .before .before .before .before .before .before .before .args .max)) (c .before .before .before .before .before .before .before .before .before .before .queues-of .ensures)) (c .before .before .keep-cleaned .ensures)
 
 pub hongsathep-clean-logs-kept-spec : {M : Type 1} → statement M
 hongsathep-clean-logs-kept-spec =
-    tie.close
-    (tie.spec
-    queues-of-requires
-    clean-logs-kept-requires
-    flag-requires
-    keep-queues-requires
-    same-length
-    returns)
+    tie.close (tie.spec queues-of-requires clean-logs-kept-requires keep-cleaned-requires same-length returns)

@@ -1,64 +1,26 @@
 -- `hongsathep_replay_next_kept` meets its contract. Assumes nothing.
-use mathlib.Core.Path.{_≡_, refl, sym, ap, ap₂, _∙_}
-use Rattle.answer.specs.Answer.{numberOf}
-use Rattle.host_words.specs.Head.{headAfter}
-use Rattle.host_queues.specs.Queues.{queuesSize, queuesWords}
-use Rattle.numbers.specs.Numbers.{oneIf}
+use mathlib.Core.Path.{ap, _∙_}
 use Rattle.files.specs.Queues.{queuesKept}
 use Rattle.files.specs.Calls.{replayNextKept}
-use Rattle.files.specs.declared.queues.Queues.{Queues}
-use Rattle.files.specs.declared.reading.ReplayNext.{ReplayNext}
-use borrow.Author.Needs.{needs}
+use Rattle.edge_queues.proofs.Left.{replay-left}
 use Rattle.edge_queues.proofs.queueing.hongsathep_replay_next_kept.Statement.{statement}
 use Rattle.edge_queues.proofs.queueing.hongsathep_replay_next_kept.Tie as tie
-use Rattle.edge_queues.proofs.queueing.hongsathep_replay_next_kept.Reads as reads
-use Rattle.edge_queues.proofs.queueing.hongsathep_replay_next_kept.Lts as lts
-use Rattle.files.proofs.queues.Queues.replay_next_kept.Reads as replay-next-kept-reads
-use Rattle.host_queues.proofs.keep_queues.Reads as keep-queues-reads
-use Rattle.host_queues.proofs.queues_of.Reads as queues-of-reads
-use Rattle.host_words.proofs.flag.Reads as flag-reads
 
--- src/queueing.rt:152:16
 queues-of-requires : tie.Need-queues-of-requires
-queues-of-requires c κs = search needs
+queues-of-requires c κs = tt
 
--- src/queueing.rt:152:9
 replay-next-kept-requires : tie.Need-replay-next-kept-requires
 replay-next-kept-requires c κs = ap queuesKept (c .queues-of .ensures) ∙ c .before .before .before .pre
 
--- src/queueing.rt:153:14
-flag-requires : tie.Need-flag-requires
-flag-requires c κs = search needs
+keep-replay-requires : tie.Need-keep-replay-requires
+keep-replay-requires c κs = tt
 
--- src/queueing.rt:157:5
-keep-queues-requires : tie.Need-keep-queues-requires
-keep-queues-requires c κs = search needs
-
--- src/queueing.rt:140:1
 same-length : tie.Need-same-length
-same-length c = search needs
+same-length c = c .before .queues .given
 
--- src/queueing.rt:140:1
 returns : tie.Need-returns
-returns c =
-    let e = c .before .before .before .before .before .before .replay-next-kept .ensures ∙ ap (λ (q : Queues). replayNextKept q) (c .before .before .before .before .before .before .before .queues-of .ensures) in (
-      c .before .before .keep-queues .ensures .0 ∙ ap (λ (x : ReplayNext). numberOf (x .answer)) e,
-      (
-        c .before .before .keep-queues .ensures .1 ∙ ap (λ (x : ReplayNext). headAfter queuesSize (numberOf (x .answer)) (c .before .before .before .before .before .before .before .before .before .before .args .queues .now) (queuesWords (x .queues))) e,
-        (
-          c .before .before .before .before .before .flag .ensures ∙ ap (λ (x : ReplayNext). oneIf (x .found)) e,
-          ap (λ (x : ReplayNext). x .number) e,
-        ),
-      ),
-    )
+returns c = replay-left (c .before .before .before .before .before .before .replay-next-kept .ensures ∙ ap replayNextKept (c .before .before .before .before .before .before .before .queues-of .ensures)) (c .before .before .keep-replay .ensures)
 
 pub hongsathep-replay-next-kept-spec : {M : Type 1} → statement M
 hongsathep-replay-next-kept-spec =
-    tie.close
-    (tie.spec
-    queues-of-requires
-    replay-next-kept-requires
-    flag-requires
-    keep-queues-requires
-    same-length
-    returns)
+    tie.close (tie.spec queues-of-requires replay-next-kept-requires keep-replay-requires same-length returns)

@@ -48,14 +48,4 @@ returns-2 c = ap actionNumbers (sym (c .before .step2 .given .1))
 
 pub action-in-spec : {M : Type 1} → statement M
 action-in-spec =
-    tie.close
-    (tie.spec
-    enum-known-step
-    tag-requires
-    cast-t7
-    table-in-requires
-    cast-t9
-    index-in-requires
-    enum-known-step-2
-    returns
-    returns-2)
+    tie.close (tie.spec enum-known-step tag-requires cast-t7 table-in-requires cast-t9 index-in-requires enum-known-step-2 returns returns-2)

@@ -34,5 +34,4 @@ returns-2 c = c .before .before .keep-reader .ensures .1 ∙ ap (readerLeft (c .
 
 pub keep-step-spec : {M : Type 1} → statement M
 keep-step-spec =
-    tie.close
-    (tie.spec enum-known-step enum-told returns keep-reader-requires same-length returns-2)
+    tie.close (tie.spec enum-known-step enum-told returns keep-reader-requires same-length returns-2)

@@ -51,12 +51,4 @@ returns-2 c = c .no-reader .ensures ∙ sym (if-false _ _ _ (sym (c .before .bef
 
 pub step-in-spec : {M : Type 1} → statement M
 step-in-spec =
-    tie.close
-    (tie.spec
-    reader-formed-requires
-    reader-of-requires
-    directory-of-requires
-    next-kept-requires
-    returns
-    no-reader-requires
-    returns-2)
+    tie.close (tie.spec reader-formed-requires reader-of-requires directory-of-requires next-kept-requires returns no-reader-requires returns-2)

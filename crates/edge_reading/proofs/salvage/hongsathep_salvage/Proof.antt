@@ -2,7 +2,7 @@
 use mathlib.Core.Path.{ap, _∙_}
 use Rattle.directory.specs.declared.directory.Directory.{Directory}
 use Rattle.salvaging.specs.Salvage.{salvageOf}
-use Rattle.edge_reading.proofs.Left.{left-fields}
+use Rattle.edge_reading.proofs.SalvageLeft.{left-fields}
 use borrow.Author.Needs.{needs}
 use Rattle.edge_reading.proofs.salvage.hongsathep_salvage.Statement.{statement}
 use Rattle.edge_reading.proofs.salvage.hongsathep_salvage.Tie as tie

@@ -3,7 +3,7 @@ use mathlib.Core.Path.{ap, _∙_}
 use Rattle.directory.specs.Directory.{directoryKept}
 use Rattle.directory.specs.declared.directory.Directory.{Directory}
 use Rattle.salvaging.specs.Salvage.{linesOf, salvageBy}
-use Rattle.edge_reading.proofs.Left.{left-fields}
+use Rattle.edge_reading.proofs.SalvageLeft.{left-fields}
 use borrow.Author.Needs.{needs}
 use Rattle.edge_reading.proofs.salvage.hongsathep_salvage_kept.Statement.{statement}
 use Rattle.edge_reading.proofs.salvage.hongsathep_salvage_kept.Tie as tie

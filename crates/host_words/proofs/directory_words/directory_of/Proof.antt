@@ -68,17 +68,4 @@ returns-2 c =
 
 pub directory-of-spec : {M : Type 1} → statement M
 directory-of-spec =
-    tie.close
-    (tie.spec
-    Inv-loop
-    μ-loop
-    broken-requires
-    returns
-    new-requires
-    loop-holds
-    mul-with-row
-    with-row-requires
-    add-i
-    loop-less
-    loop-again
-    returns-2)
+    tie.close (tie.spec Inv-loop μ-loop broken-requires returns new-requires loop-holds mul-with-row with-row-requires add-i loop-less loop-again returns-2)

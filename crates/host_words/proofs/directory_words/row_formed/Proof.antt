@@ -107,28 +107,4 @@ returns-6 c = rw (lt-ltb _ _ (c .before .before .before .before .before .before 
 
 pub row-formed-spec : {M : Type 1} → statement M
 row-formed-spec =
-    tie.close
-    (tie.spec
-    mul-if1
-    shared-slice-read-if1
-    returns
-    add-if2
-    mul-if2
-    shared-slice-read-if2
-    returns-2
-    add-if3
-    mul-if3
-    shared-slice-read-if3
-    returns-3
-    add-if4
-    mul-if4
-    shared-slice-read-if4
-    returns-4
-    add-if5
-    mul-if5
-    shared-slice-read-if5
-    returns-5
-    add-result
-    mul-result
-    shared-slice-read-result
-    returns-6)
+    tie.close (tie.spec mul-if1 shared-slice-read-if1 returns add-if2 mul-if2 shared-slice-read-if2 returns-2 add-if3 mul-if3 shared-slice-read-if3 returns-3 add-if4 mul-if4 shared-slice-read-if4 returns-4 add-if5 mul-if5 shared-slice-read-if5 returns-5 add-result mul-result shared-slice-read-result returns-6)

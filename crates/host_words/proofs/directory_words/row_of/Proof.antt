@@ -103,26 +103,4 @@ returns c =
 
 pub row-of-spec : {M : Type 1} → statement M
 row-of-spec =
-    tie.close
-    (tie.spec
-    mul-kind-of
-    shared-slice-read-kind-of
-    kind-of-requires
-    add-new
-    mul-new
-    shared-slice-read-new
-    cast-new
-    add-new-2
-    mul-new-2
-    shared-slice-read-new-2
-    cast-new-2
-    add-new-3
-    mul-new-3
-    shared-slice-read-new-3
-    cast-new-3
-    add-new-4
-    mul-new-4
-    shared-slice-read-new-4
-    cast-new-4
-    new-requires
-    returns)
+    tie.close (tie.spec mul-kind-of shared-slice-read-kind-of kind-of-requires add-new mul-new shared-slice-read-new cast-new add-new-2 mul-new-2 shared-slice-read-new-2 cast-new-2 add-new-3 mul-new-3 shared-slice-read-new-3 cast-new-3 add-new-4 mul-new-4 shared-slice-read-new-4 cast-new-4 new-requires returns)

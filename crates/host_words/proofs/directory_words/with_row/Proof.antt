@@ -54,15 +54,4 @@ returns-3 c = ap (tableAdded (c .before .before .before .before .before .args .d
 
 pub with-row-spec : {M : Type 1} → statement M
 with-row-spec =
-    tie.close
-    (tie.spec
-    broken-requires
-    returns
-    row-formed-requires
-    broken-requires-2
-    returns-2
-    row-of-requires
-    mul-t9
-    element-set-from-more
-    add-more
-    returns-3)
+    tie.close (tie.spec broken-requires returns row-formed-requires broken-requires-2 returns-2 row-of-requires mul-t9 element-set-from-more add-more returns-3)

@@ -78,21 +78,4 @@ returns c =
 
 pub drops-at-spec : {M : Type 1} → statement M
 drops-at-spec =
-    tie.close
-    (tie.spec
-    Inv-loop
-    μ-loop
-    loop-holds
-    add-tables
-    add-tables-2
-    mul-tables
-    shared-slice-read-tables
-    cast-tables
-    mul-tables-2
-    array-write-tables
-    add-i
-    loop-less
-    loop-again
-    mul-t16
-    shared-slice-read-t18
-    returns)
+    tie.close (tie.spec Inv-loop μ-loop loop-holds add-tables add-tables-2 mul-tables shared-slice-read-tables cast-tables mul-tables-2 array-write-tables add-i loop-less loop-again mul-t16 shared-slice-read-t18 returns)

@@ -67,16 +67,4 @@ returns-3 c =
 
 pub formed-spec : {M : Type 1} → statement M
 formed-spec =
-    tie.close
-    (tie.spec
-    returns
-    sub-all-below
-    part-all-below-start
-    part-all-below-end
-    all-below-requires
-    returns-2
-    sub-all-below-2
-    part-all-below-start-2
-    part-all-below-end-2
-    all-below-requires-2
-    returns-3)
+    tie.close (tie.spec returns sub-all-below part-all-below-start part-all-below-end all-below-requires returns-2 sub-all-below-2 part-all-below-start-2 part-all-below-end-2 all-below-requires-2 returns-3)

@@ -39,12 +39,4 @@ returns-2 c = (c .before .before .before .number .ensures, head-old _ _ _ _ _ (c
 
 pub keep-list-spec : {M : Type 1} → statement M
 keep-list-spec =
-    tie.close
-    (tie.spec
-    number-requires
-    stored-requires
-    store-requires
-    same-length
-    returns
-    same-length-2
-    returns-2)
+    tie.close (tie.spec number-requires stored-requires store-requires same-length returns same-length-2 returns-2)

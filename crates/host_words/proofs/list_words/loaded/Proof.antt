@@ -31,10 +31,4 @@ returns c = rw (c .before .before .counts-at .ensures, c .before .drops-at .ensu
 
 pub loaded-spec : {M : Type 1} → statement M
 loaded-spec =
-    tie.close
-    (tie.spec
-    shared-slice-read-t3
-    counts-at-requires
-    drops-at-requires
-    drops-at-requires-2
-    returns)
+    tie.close (tie.spec shared-slice-read-t3 counts-at-requires drops-at-requires drops-at-requires-2 returns)

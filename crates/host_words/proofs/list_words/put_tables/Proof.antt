@@ -78,20 +78,4 @@ returns c =
 
 pub put-tables-spec : {M : Type 1} → statement M
 put-tables-spec =
-    tie.close
-    (tie.spec
-    Inv-loop
-    μ-loop
-    loop-holds
-    mul-wide
-    shared-slice-read-wide
-    wide-requires
-    add-words
-    mul-words
-    slice-write-words
-    add-i
-    loop-less
-    loop-again
-    add-result
-    same-length
-    returns)
+    tie.close (tie.spec Inv-loop μ-loop loop-holds mul-wide shared-slice-read-wide wide-requires add-words mul-words slice-write-words add-i loop-less loop-again add-result same-length returns)

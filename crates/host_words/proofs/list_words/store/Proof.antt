@@ -39,11 +39,4 @@ returns c =
 
 pub store-spec : {M : Type 1} → statement M
 store-spec =
-    tie.close
-    (tie.spec
-    put-word-requires
-    put-counts-requires
-    put-drops-requires
-    put-drops-requires-2
-    same-length
-    returns)
+    tie.close (tie.spec put-word-requires put-counts-requires put-drops-requires put-drops-requires-2 same-length returns)

@@ -46,11 +46,4 @@ returns-2 c =
 
 pub overlays-of-spec : {M : Type 1} → statement M
 overlays-of-spec =
-    tie.close
-    (tie.spec
-    broken-requires
-    returns
-    slice-aggregate-copy
-    copy-requires
-    counts-at-requires
-    returns-2)
+    tie.close (tie.spec broken-requires returns slice-aggregate-copy copy-requires counts-at-requires returns-2)

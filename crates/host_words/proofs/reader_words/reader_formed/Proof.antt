@@ -41,12 +41,4 @@ returns-4 c = rw (eq-eqb _ _ (c .before .before .before .before .before .if1 .le
 
 pub reader-formed-spec : {M : Type 1} → statement M
 reader-formed-spec =
-    tie.close
-    (tie.spec
-    returns
-    shared-slice-read-if2
-    returns-2
-    shared-slice-read-if3
-    returns-3
-    shared-slice-read-result
-    returns-4)
+    tie.close (tie.spec returns shared-slice-read-if2 returns-2 shared-slice-read-if3 returns-3 shared-slice-read-result returns-4)

@@ -37,12 +37,4 @@ returns c = search needs
 
 pub reader-of-spec : {M : Type 1} → statement M
 reader-of-spec =
-    tie.close
-    (tie.spec
-    shared-slice-read-t3
-    shared-slice-read-t6
-    shared-slice-read-t8
-    cast-t9
-    shared-slice-read-t11
-    shared-slice-read-t14
-    returns)
+    tie.close (tie.spec shared-slice-read-t3 shared-slice-read-t6 shared-slice-read-t8 cast-t9 shared-slice-read-t11 shared-slice-read-t14 returns)

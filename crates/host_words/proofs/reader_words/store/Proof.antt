@@ -55,15 +55,4 @@ returns c =
 
 pub store-spec : {M : Type 1} → statement M
 store-spec =
-    tie.close
-    (tie.spec
-    put-word-requires
-    put-word-requires-2
-    cast-put-word
-    put-word-requires-3
-    flag-requires
-    put-word-requires-4
-    flag-requires-2
-    put-word-requires-5
-    same-length
-    returns)
+    tie.close (tie.spec put-word-requires put-word-requires-2 cast-put-word put-word-requires-3 flag-requires put-word-requires-4 flag-requires-2 put-word-requires-5 same-length returns)

@@ -5,12 +5,11 @@ use denote.Ref.{now}
 use Rattle.words.proofs.Choices.{if-true, if-false}
 use Rattle.change.specs.Change.{changeOf, changeKept}
 use Rattle.change.specs.Drop.{countTableDropped}
-use borrow.Author.Needs.{needs}
 use Rattle.change.proofs.change.LogChange.drop_ref_count_table.Statement.{statement}
 use Rattle.change.proofs.change.LogChange.drop_ref_count_table.Tie as tie
 
 kept-requires : tie.Need-kept-requires
-kept-requires c κs = search needs
+kept-requires c κs = tt
 
 returns : tie.Need-returns
 unfolding countTableDropped

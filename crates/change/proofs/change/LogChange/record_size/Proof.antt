@@ -6,12 +6,11 @@ use Rattle.words.proofs.Choices.{if-true, if-false}
 use Rattle.change.specs.Change.{changeOf, changeKept}
 use Rattle.change.specs.Size.{sized}
 use Rattle.change.proofs.Rules.{kept-ruled}
-use borrow.Author.Needs.{needs}
 use Rattle.change.proofs.change.LogChange.record_size.Statement.{statement}
 use Rattle.change.proofs.change.LogChange.record_size.Tie as tie
 
 kept-requires : tie.Need-kept-requires
-kept-requires c κs = search needs
+kept-requires c κs = tt
 
 returns : tie.Need-returns
 unfolding sized

@@ -1,55 +1,49 @@
-// The drops of a list. log.rs lines 517 to 523.
+// The calls on reference count tables. log.rs lines 500 to 515 and 521 to 523.
 ghost use mathlib.Core.Path.{_≡_};
 ghost use mathlib.Core.Bool.{true};
+ghost use Rattle.directory.specs.declared.table.TableKind.the-variants.{RefCount};
 ghost use Rattle.change.specs.Change.{changeOf, changeKept};
-ghost use Rattle.change.specs.Insert.{madeOf};
-ghost use Rattle.change.specs.Drop.{tableDroppedKept, tableDropped, countTableDroppedKept, countTableDropped};
+ghost use Rattle.change.specs.Insert.{madeOf, insertedKept, inserted};
+ghost use Rattle.change.specs.Drop.{countTableDroppedKept, countTableDropped};
 use super::change::Changed;
 use super::change::LogChange;
 use answer::Answer;
 use directory::Directory;
-use directory::IndexTableId;
 use directory::RefCountTableId;
-use directory::TableKind;
+use directory::TableKind::RefCount;
 
 impl LogChange {
-    pub fn drop_table(
+    pub fn insert_ref_count(
         self,
         directory: Directory,
-        words: &[u64],
-        bytes: &[u8],
-        id: IndexTableId,
+        words: &mut [u64],
+        bytes: &mut [u8],
+        table: RefCountTableId,
+        index: u64,
+        sub: u8,
+        data: &[u8],
     ) -> Changed
-        ensures { λ r. ⌜ madeOf r (now (words .entry)) (now (bytes .entry))
-            ≡ tableDropped directory (changeOf self (now (words .entry)) (now (bytes .entry))) (id .0) ⌝ }
+        ensures { λ r. ⌜ madeOf r (now (words .exit)) (now (bytes .exit))
+            ≡ inserted RefCount directory (changeOf self (now (words .entry)) (now (bytes .entry))) (table .0) index sub (now («data» .entry)) ⌝ }
     {
-        if !self.kept(directory, words, bytes) {
-            return Changed {
-                answer: Answer::BadState,
-                list: self,
-            };
-        }
-        self.drop_table_kept(directory, words, bytes, id)
+        self.insert(directory, words, bytes, RefCount, table.0, index, sub, data)
     }
 
-    pub fn drop_table_kept(
+    pub fn insert_ref_count_kept(
         self,
         directory: Directory,
-        words: &[u64],
-        bytes: &[u8],
-        id: IndexTableId,
+        words: &mut [u64],
+        bytes: &mut [u8],
+        table: RefCountTableId,
+        index: u64,
+        sub: u8,
+        data: &[u8],
     ) -> Changed
         requires { ⌜ changeKept directory (changeOf self (now words) (now bytes)) ≡ true ⌝ }
-        ensures { λ r. ⌜ madeOf r (now (words .entry)) (now (bytes .entry))
-            ≡ tableDroppedKept directory (changeOf self (now (words .entry)) (now (bytes .entry))) (id .0) ⌝ }
+        ensures { λ r. ⌜ madeOf r (now (words .exit)) (now (bytes .exit))
+            ≡ insertedKept RefCount directory (changeOf self (now (words .entry)) (now (bytes .entry))) (table .0) index sub (now («data» .entry)) ⌝ }
     {
-        let drops = self.dropped_tables;
-        let d = drops.dropped(directory, TableKind::Index, id.0);
-        let mut list = self;
-        let now = d.drops;
-        list.dropped_tables = now;
-        let answer = d.answer;
-        Changed { answer, list }
+        self.insert_kept(directory, words, bytes, RefCount, table.0, index, sub, data)
     }
 
     pub fn drop_ref_count_table(
@@ -83,7 +77,7 @@ impl LogChange {
             ≡ countTableDroppedKept directory (changeOf self (now (words .entry)) (now (bytes .entry))) (id .0) ⌝ }
     {
         let drops = self.dropped_ref_count_tables;
-        let d = drops.dropped(directory, TableKind::RefCount, id.0);
+        let d = drops.dropped(directory, RefCount, id.0);
         let mut list = self;
         let now = d.drops;
         list.dropped_ref_count_tables = now;

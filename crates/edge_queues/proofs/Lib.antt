@@ -1,0 +1,2 @@
+-- The laws, for other crates to cite.
+pub mod Left
