@@ -54,27 +54,26 @@ fn every_byte_damaged() {
     let mut log = fs::read(format!("{folder}ten")).unwrap();
     let whole = salvage(&directory, &log).unwrap();
     assert!(whole.lines.len() == 10 && whole.lines.iter().all(|line| line.is_kept()) && whole.records == log);
-    let (mut tries, mut less) = (0, 0);
+    let mut tries = 0;
     for at in 0..log.len() {
         let holder = whole.lines.iter().find(|line| (at as u64) < line.position() + line.length()).unwrap();
         let right = log[at];
         for wrong in (0..=255).filter(|byte| *byte != right) {
             log[at] = wrong;
             let lines = salvage(&directory, &log).unwrap().lines;
-            let lost = lines.iter().filter(|line| !line.is_kept());
+            let mut lost = lines.iter().filter(|line| !line.is_kept());
             let inside = |line: &Line| {
                 holder.position() <= line.position()
                     && line.position() + line.length() <= holder.position() + holder.length()
             };
-            assert!(lost.clone().all(inside), "byte {at} as {wrong}: {lines:?}");
-            let untouched = whole.lines.iter().filter(|line| *line != holder);
-            assert!(untouched.clone().all(|line| lines.contains(line)), "byte {at} as {wrong}: {lines:?}");
-            less += usize::from(lost.map(|line| line.length()).sum::<u64>() < holder.length());
+            assert!(lost.all(inside), "byte {at} as {wrong}: {lines:?}");
+            let mut untouched = whole.lines.iter().filter(|line| *line != holder);
+            assert!(untouched.all(|line| lines.contains(line)), "byte {at} as {wrong}: {lines:?}");
             tries += 1;
         }
         log[at] = right;
     }
-    println!("{tries} logs of ten records with a byte damaged: one record lost at most; less than it in {less}");
+    println!("{tries} logs of ten records with a byte damaged: nothing lost beyond the record that holds it");
 }
 
 /// Records cut, turned, left out and put into one another.
