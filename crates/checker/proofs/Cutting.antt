@@ -37,7 +37,7 @@ use Rattle.checker.specs.declared.standing.Check.{Check}
 use Rattle.checker.specs.declared.standing.Check.the-variants as check
 use Rattle.checker.proofs.Answers.{no-change, not-zero, most-twelve}
 use Rattle.checker.proofs.Append.{resumed, check-append}
-use Rattle.checker.proofs.Kept.{frontOf, unpadded, unread-length, start-sound, taken-kept, padded-length}
+use Rattle.checker.proofs.Kept.{frontOf, unpadded, unread-length, start-sound, taken-kept, padded-length, close-keeps}
 use Rattle.checker.proofs.Moved.{movedStanding, movedCheck, check-moved}
 use Rattle.checker.proofs.Rules.{chosen, Open, kept-open, kept-settled, open-checker, settled-checker, kept-directory}
 use Rattle.checker.proofs.Run.{run-reports}
@@ -403,6 +403,47 @@ module _ (c : LogChecker) (bytes : List ℕ) where
       by (refuses a f e) = ap (λ (x : Checked). x .checker) e
       by (open-still e) = let z : numberOf (pieceOf c bytes .answer) ≡ 0 = ap numberOf e in absurd (omega arith)
       by (decided f) = absurd (omega (arith, most-twelve (pieceOf c bytes .answer) f))
+
+-- ---- the close
+
+close-twice : (c : LogChecker) → checkerKept c ≡ true → c .closed ≡ true → closeOf c ≡ unclosed BadArgument c
+unfolding closeOf closeKept
+close-twice c k e = if-true (checkerKept c) _ _ k ∙ if-true (c .closed) _ _ e
+
+module _ (c : LogChecker) where
+  report-few : checkerKept c ≡ true → c .closed ≡ false → numberOf (reportNow c .answer) ≤ 12
+  report-few kept going =
+      chosen (λ (x : Ran). numberOf (x .answer) ≤ 12) (isOpen c) _ _
+      (λ live. chosen (λ (x : Answer). numberOf x ≤ 12) (c .standing .reader .inside) Cut EndOfLog (λ e. omega arith) (λ e. omega arith))
+      (λ live. most-twelve (c .ran .answer) (kept-settled c kept going live))
+
+  -- 13 AND 14 CHANGE NOTHING at the close either
+  pub close-unchanged : 12 < numberOf (closeOf c .ran .answer) → closeOf c .checker ≡ c
+  unfolding closeOf closeKept
+  close-unchanged =
+      let Same : Closed → Type 0 = λ x. 12 < numberOf (x .ran .answer) → x .checker ≡ c in
+      chosen Same (checkerKept c) _ _
+      (λ kept. chosen Same (c .closed) _ _ (λ e m. refl) (λ going m. absurd (omega (arith, report-few kept going))))
+      (λ e m. refl)
+
+  module _ (kept : checkerKept c ≡ true) where
+    closed-then : closeOf c .checker .closed ≡ true
+    unfolding closeOf closeKept
+    closed-then =
+        ap (λ (x : Closed). x .checker .closed) (if-true (checkerKept c) _ _ kept)
+        ∙ chosen (λ (x : Closed). x .checker .closed ≡ true) (c .closed) _ _ (λ e. e) (λ e. refl)
+
+    kept-then : checkerKept (closeOf c .checker) ≡ true
+    unfolding closeOf
+    kept-then = ap (λ (x : Closed). checkerKept (x .checker)) (if-true (checkerKept c) _ _ kept) ∙ close-keeps c kept
+
+    -- AFTER THE CLOSE EVERY CALL GIVES 14 and changes nothing
+    pub piece-after : (bytes : List ℕ) → pieceOf (closeOf c .checker) bytes ≡ answered BadArgument (closeOf c .checker)
+    unfolding pieceOf pieceKept
+    piece-after bytes = if-true (checkerKept (closeOf c .checker)) _ _ kept-then ∙ if-true (closeOf c .checker .closed) _ _ closed-then
+
+    pub close-after : closeOf (closeOf c .checker) ≡ unclosed BadArgument (closeOf c .checker)
+    close-after = close-twice (closeOf c .checker) kept-then closed-then
 
 -- ---- its size
 
