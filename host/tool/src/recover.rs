@@ -127,7 +127,9 @@ fn replay(
     let at_fault = |error: io::Error| Failure::reading(file.path(), &error);
     let mut source = File::open(file.path()).map_err(at_fault)?;
     source.seek(SeekFrom::Start(from)).map_err(at_fault)?;
-    let mut ran = image.run_stream(progress.wrap_read(&source), first).map_err(at_fault)?;
+    let counted = |failure: Failure| if from > 0 { failure.and(&format!("counted from byte {from}")) } else { failure };
+    let ran = image.run_stream(progress.wrap_read(&source), first).map_err(at_fault);
+    let mut ran = ran.map_err(counted)?;
     ran.position += from;
     ran.fault += from;
     let found = inputs::id_at(&source, ran.position).map_err(at_fault)?;
