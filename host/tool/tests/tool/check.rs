@@ -68,7 +68,8 @@ fn first_ids() {
     let said = run(scratch.path(), &["check", "directory", "log"]);
     said.fails_with(5, "id 9 is expected and 10 stands there");
     fs::write(scratch.path().join("log"), log([u64::MAX])).unwrap();
-    run(scratch.path(), &["check", "directory", "log"]).fails_with(12, "answer 12");
+    run(scratch.path(), &["check", "directory", "log"])
+        .fails_with(12, "behind the last id no record may stand, at byte ");
     fs::write(scratch.path().join("log"), [1, 2, 3]).unwrap();
     let said = run(scratch.path(), &["check", "directory", "log"]);
     assert_eq!(said.out, "log: no records; ends cleanly at byte 0; the 3 bytes behind it are no record\n");

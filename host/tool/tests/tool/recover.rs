@@ -99,6 +99,9 @@ fn new_images() {
     let log = log(1..=3);
     let scratch = with(&[("log", log.clone())]);
     leaves_all(&scratch, &["--new", "directory", "image", "log"], 73, "image: it is there already");
+    symlink("nowhere", scratch.path().join("link")).unwrap();
+    leaves_all(&scratch, &["--new", "directory", "link", "log"], 73, "link: it is there already");
+    leaves_all(&scratch, &["--new", "directory", "log/image", "log"], 73, "log/image: Not a directory");
     fs::remove_file(scratch.path().join("image")).unwrap();
     leaves_all(&scratch, &["directory", "image", "log"], 66, "image: there is no such file (--new ");
     let mut image = Image::new(&directory());
