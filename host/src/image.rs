@@ -7,6 +7,7 @@ use crate::{
     files::Replacement,
     reader::Record,
     sys,
+    window::{Window, WINDOW},
 };
 use std::{
     fmt, fs,
@@ -139,7 +140,8 @@ impl Image {
     }
 
     /// The same over a log of any length, of which a window at a time is in memory: a megabyte, or the longest record
-    /// twice. A record of more than [`LONGEST_TAKEN`] bytes isn't taken in, and is an error of the kind `InvalidData`.
+    /// twice. A record of more than [`LONGEST_TAKEN`](crate::LONGEST_TAKEN) bytes isn't taken in, and is an error of the
+    /// kind `InvalidData`.
     ///
     /// ```
     /// # use hongsathep::{Answer, ChangeList, Directory, Image};
@@ -162,58 +164,26 @@ impl Image {
         length: usize,
         mut shown: impl FnMut(&[u8], u64),
     ) -> io::Result<Ran> {
-        let mut window = Window { source, bytes: Vec::new(), passed: 0 };
+        let mut window = Window::of_length(source, length);
         let mut count = 0u64;
         loop {
-            let goes_on = window.fill(length)?;
-            let ran = self.run(&window.bytes, 0, expected.wrapping_add(count));
-            shown(&window.bytes, ran.count);
+            let goes_on = window.fill()?;
+            let ran = self.run(window.bytes(), 0, expected.wrapping_add(count));
+            shown(window.bytes(), ran.count);
             count += ran.count;
-            let fault = window.passed + ran.fault;
+            let fault = window.position() + ran.fault;
             window.pass(ran.position as usize);
             // A record looks at nothing behind itself: only 1 and 2 can be the window's doing.
             if !goes_on || !matches!(ran.answer, Answer::EndOfLog | Answer::Cut) {
-                return Ok(Ran { answer: ran.answer, position: window.passed, count, fault });
-            }
-            if window.bytes.len() >= LONGEST_TAKEN {
-                let words = format!("the record at byte {} has more than {LONGEST_TAKEN} bytes", window.passed);
-                return Err(io::Error::new(io::ErrorKind::InvalidData, words));
+                return Ok(Ran { answer: ran.answer, position: window.position(), count, fault });
             }
         }
     }
 }
 
-/// Some bytes of a source, so many behind its front.
-struct Window<R> {
-    source: R,
-    bytes: Vec<u8>,
-    passed: u64,
-}
-
 impl fmt::Debug for Image {
     fn fmt(&self, f: &mut fmt::Formatter<'_>) -> fmt::Result {
         f.debug_struct("Image").field("directory", &self.directory).finish_non_exhaustive()
-    }
-}
-
-/// How many bytes of a long log are taken in at once.
-pub(crate) const WINDOW: usize = 1 << 20;
-
-/// The longest record that is taken in from a log of any length: a record that sets every chunk of the largest image
-/// once has 68,354,062 bytes.
-pub const LONGEST_TAKEN: usize = 1 << 27;
-
-impl<R: Read> Window<R> {
-    /// Takes in so many bytes more, or as many as it has, so that a long record isn't gone through over and over. Whether
-    /// there were any.
-    fn fill(&mut self, length: usize) -> io::Result<bool> {
-        let more = length.max(self.bytes.len()) as u64;
-        Ok((&mut self.source).take(more).read_to_end(&mut self.bytes)? > 0)
-    }
-
-    fn pass(&mut self, length: usize) {
-        self.bytes.drain(..length.min(self.bytes.len()));
-        self.passed += length as u64;
     }
 }
 

@@ -11,7 +11,8 @@
 //! - [`salvage`] finds what is whole of a damaged log, and lists what is lost.
 //! - [`ChangeList`] gathers what a record is to change; [`Overlays`] answer for what the tables don't have yet;
 //!   [`Queues`] are the numbers of the files.
-//! - [`Log`] is all of these and real files: recover, append, sync, apply, clean.
+//! - [`Log`] is all of these and real files: recover, append, sync, apply, clean. [`LogFile`], [`FolderLock`],
+//!   [`Window`] and [`Replacement`] are what it does to files, for other programs.
 //! - [`Error`] has document 01's number, words, and the place.
 //! - [`raw`] has every call over the host's own memory.
 //!
@@ -31,6 +32,7 @@ mod reader;
 mod salvage;
 #[allow(unsafe_code)]
 mod sys;
+mod window;
 
 pub use self::{
     answer::Answer,
@@ -39,7 +41,7 @@ pub use self::{
     },
     error::Error,
     files::{FolderLock, LogFile, Replacement},
-    image::{Image, Ran, LONGEST_TAKEN},
+    image::{Image, Ran},
     list::{ChangeList, LONGEST_RECORD},
     log::{Log, Opened, Recovered},
     overlays::{Ended, FileSource, Overlays, WithList},
@@ -47,6 +49,7 @@ pub use self::{
     reader::{Action, Entries, LogReader, Record, Records},
     salvage::{salvage, salvage_into, Line, Salvaged},
     sys::raw,
+    window::{Window, LONGEST_TAKEN},
 };
 
 /// CRC-32 of ITU-T V.42: the checksum at a record's end.

@@ -6,11 +6,12 @@ use crate::{
     directory::Directory,
     error::Error,
     files::{self, FolderLock, LogFile},
-    image::{Image, Ran, WINDOW},
+    image::{Image, Ran},
     list::LONGEST_RECORD,
     overlays::Overlays,
     queues::{Found, Queues},
     reader::{Record, Records},
+    window::WINDOW,
 };
 use std::{
     fs::{self, File},

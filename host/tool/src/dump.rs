@@ -2,41 +2,89 @@
 
 use crate::{
     arguments::Dump,
-    failure::{status_of, Failure},
+    failure::{status_of, Failure, INPUT},
     inputs,
-    lines::{Lines, Value},
+    lines::{self, Value},
 };
-use hongsathep::{checksum, Action, Answer, Directory, Entries, Error, LogReader};
-use std::io::{self, BufWriter, Write};
+use hongsathep::{checksum, Action, Answer, Directory, Entries, Error, LogReader, Window};
+use std::{
+    fs::File,
+    io::{self, BufWriter, Read, Write},
+};
 
 pub fn dump(asked: &Dump, out: &mut impl Write) -> Result<u8, Failure> {
     let directory = inputs::directory(&asked.directory)?;
-    let log = inputs::log(&asked.log)?;
-    let mut lines = Lines { out: BufWriter::new(out), is_json: asked.is_json, has_bytes: asked.has_bytes };
-    let from = usize::try_from(asked.from).unwrap_or(usize::MAX);
-    let end = walk(&directory, &log, from, &mut lines)?;
-    lines.print(&end.fields())?;
-    lines.out.flush()?;
+    let unreadable = |error: io::Error| Failure::of(INPUT, &asked.log, error);
+    let file = File::open(&asked.log).map_err(unreadable)?;
+    let there = file.metadata().map_err(unreadable)?;
+    let skipped = io::copy(&mut (&file).take(asked.from), &mut io::sink()).map_err(unreadable)?;
+    let dumper = Dumper { directory, asked };
+    let mut out = BufWriter::new(out);
+    let end = if skipped == asked.from {
+        dumper.walk(file, &mut out)?
+    } else {
+        End { answer: Answer::BadArgument, start: asked.from, fault: asked.from, records: 0, sums: None }
+    };
+    dumper.print(&end.fields(there.is_file().then_some(there.len())), &mut out)?;
+    out.flush()?;
     Ok(status_of(end.answer.number()))
 }
 
-/// Prints an action after the other, and each record behind its end.
-fn walk<'a>(directory: &Directory, log: &'a [u8], from: usize, lines: &mut Lines<impl Write>) -> io::Result<End<'a>> {
-    let mut reader = LogReader::at(directory, log, from, true);
-    let (mut start, mut records) = (from, 0);
-    loop {
-        let position = reader.offset();
-        let action = match reader.step() {
-            Ok(action) => action,
-            Err(error) => return Ok(End { start, records, log, ..End::at(position, &error) }),
-        };
-        let mut fields = vec![("at", Value::Number(position as u64))];
-        fields.extend(fields_of(&action));
-        lines.print(&fields)?;
-        if action == Action::EndRecord {
-            lines.print(&record(reader.record_id(), start, log.get(start..=position).unwrap_or_default()))?;
-            (start, records) = (reader.offset(), records + 1);
+struct Dumper<'a> {
+    directory: Directory,
+    asked: &'a Dump,
+}
+
+impl Dumper<'_> {
+    /// Prints record after record.
+    fn walk(&self, source: impl Read, out: &mut impl Write) -> Result<End, Failure> {
+        let mut window = Window::new(source);
+        let (mut goes_on, mut at, mut records) = (true, 0, 0);
+        loop {
+            let base = self.asked.from + window.position() + at as u64;
+            let (lines, read) = self.record(window.bytes().get(at..).unwrap_or_default(), base)?;
+            match read {
+                Ok(length) => {
+                    out.write_all(&lines)?;
+                    (at, records) = (at + length, records + 1);
+                }
+                // The window's end may be all that cuts it.
+                Err(end) if goes_on && matches!(end.answer, Answer::EndOfLog | Answer::Cut) => {
+                    window.pass(at);
+                    at = 0;
+                    goes_on = window.fill().map_err(|error| Failure::reading(&self.asked.log, &error))?;
+                }
+                Err(end) => {
+                    out.write_all(&lines)?;
+                    return Ok(End { records, ..end });
+                }
+            }
         }
+    }
+
+    /// The lines of a record's actions, as far as they can be read, and its length, if it is whole.
+    fn record(&self, bytes: &[u8], base: u64) -> io::Result<(Vec<u8>, Result<usize, End>)> {
+        let mut lines = Vec::new();
+        let mut reader = LogReader::new(&self.directory, bytes);
+        loop {
+            let position = reader.offset();
+            let action = match reader.step() {
+                Ok(action) => action,
+                Err(error) => return Ok((lines, Err(End::of(&error, bytes, base)))),
+            };
+            let mut fields = vec![("at", Value::Number(base + position as u64))];
+            fields.extend(fields_of(&action));
+            self.print(&fields, &mut lines)?;
+            if action == Action::EndRecord {
+                let sum = checksum(bytes.get(..=position).unwrap_or_default());
+                self.print(&record_fields(reader.record_id(), base, sum), &mut lines)?;
+                return Ok((lines, Ok(reader.offset())));
+            }
+        }
+    }
+
+    fn print(&self, fields: &[(&str, Value<'_>)], out: &mut impl Write) -> io::Result<()> {
+        lines::print(fields, self.asked.is_json, self.asked.has_bytes, out)
     }
 }
 
@@ -65,49 +113,44 @@ fn fields_of<'a>(action: &Action<'a>) -> Fields<'a> {
     }
 }
 
-/// A record that was checked: its bytes up to its end tag have the checksum that stands behind them.
-fn record(id: u64, start: usize, summed: &[u8]) -> Fields<'static> {
-    vec![
-        ("record", Value::Number(id)),
-        ("from", Value::Number(start as u64)),
-        ("checksum", Value::Sum(checksum(summed))),
-    ]
+/// A record that was checked: the sum of its bytes is the one that stands behind them.
+fn record_fields(id: u64, start: u64, sum: u32) -> Fields<'static> {
+    vec![("record", Value::Number(id)), ("from", Value::Number(start)), ("checksum", Value::Sum(sum))]
 }
 
 /// Where and why a log ends.
-struct End<'a> {
+struct End {
     answer: Answer,
     /// Where the record begins that isn't whole.
-    start: usize,
-    fault: usize,
+    start: u64,
+    fault: u64,
     records: u64,
-    log: &'a [u8],
+    /// Where a checksum differs: the one that stands there, and that of the bytes.
+    sums: Option<(u32, u32)>,
 }
 
-impl<'a> End<'a> {
-    fn at(position: usize, error: &Error) -> End<'a> {
+impl End {
+    /// Of a record at the front of some bytes, which begin at a position of the log.
+    fn of(error: &Error, bytes: &[u8], start: u64) -> End {
         let answer = error.answer().unwrap_or(Answer::BadState);
-        let fault = error.position().and_then(|fault| usize::try_from(fault).ok()).unwrap_or(position);
-        End { answer, start: position, fault, records: 0, log: &[] }
+        let fault = error.position().unwrap_or_default();
+        let sums = usize::try_from(fault).ok().filter(|_| answer == Answer::WrongSum).and_then(|tag| {
+            let stored = bytes.get(tag + 1..tag + 5)?.try_into().ok()?;
+            Some((u32::from_le_bytes(stored), checksum(bytes.get(..=tag)?)))
+        });
+        End { answer, start, fault: start + fault, records: 0, sums }
     }
 
-    /// Where a checksum differs: the one that stands there, and that of the bytes.
-    fn sums(&self) -> Option<(u32, u32)> {
-        let behind = self.fault.checked_add(1).filter(|_| self.answer == Answer::WrongSum)?;
-        let stored = self.log.get(behind..behind.checked_add(4)?)?.try_into().ok()?;
-        Some((u32::from_le_bytes(stored), checksum(self.log.get(self.start..behind)?)))
-    }
-
-    fn fields(&self) -> Fields<'static> {
+    fn fields(&self, length: Option<u64>) -> Fields<'static> {
         let mut fields = vec![
-            ("ends", Value::Number(self.start as u64)),
+            ("ends", Value::Number(self.start)),
             ("answer", Value::Number(self.answer.number())),
             ("words", Value::Word(self.answer.words())),
-            ("fault", Value::Number(self.fault as u64)),
+            ("fault", Value::Number(self.fault)),
             ("records", Value::Number(self.records)),
-            ("length", Value::Number(self.log.len() as u64)),
         ];
-        if let Some((stored, due)) = self.sums() {
+        fields.extend(length.map(|length| ("length", Value::Number(length))));
+        if let Some((stored, due)) = self.sums {
             fields.extend([("stored", Value::Sum(stored)), ("due", Value::Sum(due))]);
         }
         fields

@@ -1,7 +1,7 @@
 //! What the commands read.
 
 use crate::failure::{Failure, INPUT, TOO_LONG};
-use hongsathep::{Directory, Found, Queues};
+use hongsathep::{Directory, Found, LogFile, Queues};
 use indicatif::{ProgressBar, ProgressStyle};
 use std::{
     fs::{self, File},
@@ -28,8 +28,9 @@ pub fn directory(path: &Path) -> Result<Directory, Failure> {
     })
 }
 
-/// All bytes of a log.
+/// All bytes of a log, which must be a file: a device may never end.
 pub fn log(path: &Path) -> Result<Vec<u8>, Failure> {
+    LogFile::at(path, 0).map_err(|error| Failure::refused(INPUT, &error))?;
     fs::read(path).map_err(|error| Failure::of(INPUT, path, error))
 }
 
@@ -50,7 +51,7 @@ pub fn id_at(mut file: &File, position: u64) -> io::Result<Option<u64>> {
 /// Shows how far reading is, on standard error if that is a terminal, else nowhere.
 pub fn progress(length: Option<u64>) -> ProgressBar {
     let (bar, template) = match length {
-        Some(length) => (ProgressBar::new(length), "{wide_bar} {bytes} of {total_bytes}, {eta} left"),
+        Some(length) => (ProgressBar::new(length), "{wide_bar} {bytes} of {total_bytes}, {bytes_per_sec}"),
         None => (ProgressBar::new_spinner(), "{spinner} {bytes}, {bytes_per_sec}"),
     };
     match ProgressStyle::with_template(template) {

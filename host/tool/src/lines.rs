@@ -16,29 +16,21 @@ pub enum Value<'a> {
     Bytes(&'a [u8]),
 }
 
-pub struct Lines<W> {
-    pub out: W,
-    pub is_json: bool,
-    /// Else values that are bytes are left out.
-    pub has_bytes: bool,
-}
-
-impl<W: Write> Lines<W> {
-    pub fn print(&mut self, fields: &[(&str, Value<'_>)]) -> io::Result<()> {
-        let is_shown = |value: &Value| !matches!(value, Value::Bytes(bytes) if bytes.is_empty() || !self.has_bytes);
-        for (place, (name, value)) in fields.iter().filter(|(_, value)| is_shown(value)).enumerate() {
-            let is_first = place == 0;
-            match (self.is_json, *name) {
-                (true, _) => write!(self.out, "{}\"{name}\":{}", if is_first { '{' } else { ',' }, Json(value))?,
-                // What they are is seen.
-                (false, "at") => write!(self.out, "{}", Text(value))?,
-                (false, "action") => write!(self.out, " {}", Text(value))?,
-                (false, "words") => write!(self.out, " ({})", Text(value))?,
-                (false, _) => write!(self.out, "{}{name} {}", if is_first { "" } else { " " }, Text(value))?,
-            }
+/// Prints a line. Bytes are left out where they aren't wanted.
+pub fn print(fields: &[(&str, Value<'_>)], is_json: bool, has_bytes: bool, out: &mut impl Write) -> io::Result<()> {
+    let is_shown = |value: &Value| !matches!(value, Value::Bytes(bytes) if bytes.is_empty() || !has_bytes);
+    for (place, (name, value)) in fields.iter().filter(|(_, value)| is_shown(value)).enumerate() {
+        let is_first = place == 0;
+        match (is_json, *name) {
+            (true, _) => write!(out, "{}\"{name}\":{}", if is_first { '{' } else { ',' }, Json(value))?,
+            // What they are is seen.
+            (false, "at") => write!(out, "{}", Text(value))?,
+            (false, "action") => write!(out, " {}", Text(value))?,
+            (false, "words") => write!(out, " ({})", Text(value))?,
+            (false, _) => write!(out, "{}{name} {}", if is_first { "" } else { " " }, Text(value))?,
         }
-        writeln!(self.out, "{}", if self.is_json { "}" } else { "" })
     }
+    writeln!(out, "{}", if is_json { "}" } else { "" })
 }
 
 struct Text<'a>(&'a Value<'a>);

@@ -54,7 +54,12 @@ impl Outcome {
         if self.is_clean() {
             return None;
         }
-        let mut words = format!("{}: {answer}: the record at byte {position} isn't taken", self.name);
+        let mut words = match answer {
+            Answer::UsedUp => {
+                format!("{}: {answer}: behind the last id no record may stand, at byte {position}", self.name)
+            }
+            _ => format!("{}: {answer}: the record at byte {position} isn't taken", self.name),
+        };
         if fault != position {
             words.push_str(&format!(", the fault is at byte {fault}"));
         }

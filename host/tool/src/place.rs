@@ -2,7 +2,7 @@
 
 use crate::failure::{Failure, OUTPUT, USAGE, WRITE};
 use hongsathep::Replacement;
-use std::{fs, os::unix::fs::MetadataExt, path::Path};
+use std::{fs, io, os::unix::fs::MetadataExt, path::Path};
 
 /// That neither the place nor the one beside it is a file that is read.
 pub fn stands_apart<'a>(place: &Path, read: impl IntoIterator<Item = &'a Path>) -> Result<(), Failure> {
@@ -14,6 +14,15 @@ pub fn stands_apart<'a>(place: &Path, read: impl IntoIterator<Item = &'a Path>) 
     match read.into_iter().find(|path| same(path, place) || same(path, &beside)) {
         Some(path) => Err(Failure::of(USAGE, path, format!("{} would be written over it", place.display()))),
         None => Ok(()),
+    }
+}
+
+/// That there is no file yet, nor a link that leads nowhere.
+pub fn is_free(place: &Path) -> Result<(), Failure> {
+    match fs::symlink_metadata(place) {
+        Ok(_) => Err(Failure::of(OUTPUT, place, "it is there already")),
+        Err(error) if error.kind() == io::ErrorKind::NotFound => Ok(()),
+        Err(error) => Err(Failure::of(OUTPUT, place, error)),
     }
 }
 

@@ -2,7 +2,7 @@
 
 use crate::{
     arguments::Recover,
-    failure::{say, Failure, INPUT, OUTPUT},
+    failure::{say, Failure, INPUT},
     inputs,
     logs::Logs,
     outcome::{bytes, Outcome},
@@ -59,20 +59,16 @@ fn recovered(asked: &Recover) -> Result<(Replayed, Became), Failure> {
     Ok((ran, became))
 }
 
-/// Whether the image is there as it has to be.
+/// Whether the image is there as it has to be, or isn't.
 fn look_at(asked: &Recover, directory: &Directory) -> Result<(), Failure> {
     let (path, due) = (&asked.image, directory.image_length() as u64);
-    let there = match fs::metadata(path) {
-        Err(error) if error.kind() == io::ErrorKind::NotFound && asked.is_new => return Ok(()),
-        Err(error) if error.kind() == io::ErrorKind::NotFound => {
-            return Err(Failure::of(INPUT, path, "there is no such file (--new begins an image of zeros)"))
-        }
-        Err(error) => return Err(Failure::of(INPUT, path, error)),
-        Ok(there) => there,
-    };
     if asked.is_new {
-        return Err(Failure::of(OUTPUT, path, "it is there already (--new is for an image that isn't)"));
+        return place::is_free(path).map_err(|failure| failure.and("--new is for an image that isn't there"));
     }
+    let there = fs::metadata(path).map_err(|error| match error.kind() {
+        io::ErrorKind::NotFound => Failure::of(INPUT, path, "there is no such file (--new begins an image of zeros)"),
+        _ => Failure::of(INPUT, path, error),
+    })?;
     if !there.is_file() {
         return Err(Failure::of(INPUT, path, "not a regular file"));
     }
@@ -127,7 +123,9 @@ fn replay(
     let at_fault = |error: io::Error| Failure::reading(file.path(), &error);
     let mut source = File::open(file.path()).map_err(at_fault)?;
     source.seek(SeekFrom::Start(from)).map_err(at_fault)?;
-    let mut ran = image.run_stream(progress.wrap_read(&source), first).map_err(at_fault)?;
+    let counted = |failure: Failure| if from > 0 { failure.and(&format!("counted from byte {from}")) } else { failure };
+    let ran = image.run_stream(progress.wrap_read(&source), first).map_err(at_fault);
+    let mut ran = ran.map_err(counted)?;
     ran.position += from;
     ran.fault += from;
     let found = inputs::id_at(&source, ran.position).map_err(at_fault)?;

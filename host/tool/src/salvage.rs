@@ -2,14 +2,13 @@
 
 use crate::{
     arguments::Salvage,
-    failure::{status_of, Failure, OUTPUT},
+    failure::{status_of, Failure},
     inputs,
     outcome::{bytes, counted},
     place,
 };
 use hongsathep::{salvage as salvaged, Directory, Line, LogReader, Salvaged};
 use std::{
-    fs,
     io::{self, Write},
     path::Path,
 };
@@ -21,9 +20,9 @@ pub fn salvage(asked: &Salvage, out: &mut impl Write) -> Result<u8, Failure> {
     let directory = inputs::directory(&asked.directory).map_err(untouched)?;
     let log = inputs::log(&asked.log).map_err(untouched)?;
     place::stands_apart(&asked.out, [asked.log.as_path(), &asked.directory]).map_err(untouched)?;
-    is_free(&asked.out).map_err(untouched)?;
+    place::is_free(&asked.out).map_err(untouched)?;
     let mut target = place::begin(&asked.out).map_err(untouched)?;
-    is_free(&asked.out).map_err(untouched)?;
+    place::is_free(&asked.out).map_err(untouched)?;
     let found = salvaged(&directory, &log).map_err(|error| untouched(refused(&asked.log, &error)))?;
     place::put(&mut target, &found.records, UNTOUCHED)?;
     let told = tell(asked, &directory, &log, &found, out).and_then(|()| out.flush());
@@ -38,14 +37,6 @@ fn tell(asked: &Salvage, directory: &Directory, log: &[u8], found: &Salvaged, ou
     let kept = found.lines.iter().filter(|line| line.is_kept()).count();
     let size = bytes(found.records.len() as u64);
     writeln!(out, "{}: written, {}, {size}", asked.out.display(), counted(kept as u64, "record"))
-}
-
-/// No file is overwritten, nor a link that leads nowhere yet.
-fn is_free(path: &Path) -> Result<(), Failure> {
-    match fs::symlink_metadata(path) {
-        Ok(_) => Err(Failure::of(OUTPUT, path, "it is there already")),
-        Err(_) => Ok(()),
-    }
 }
 
 fn refused(path: &Path, error: &hongsathep::Error) -> Failure {

@@ -6,8 +6,10 @@ use crate::{
 };
 use hongsathep::{Image, Ran};
 use std::{
-    fs,
-    io::Write,
+    ffi::CStr,
+    fs::{self, File},
+    io::{self, Read, Write},
+    os::fd::{AsRawFd, FromRawFd},
     process::{Command, Stdio},
     thread,
 };
@@ -66,7 +68,8 @@ fn first_ids() {
     let said = run(scratch.path(), &["check", "directory", "log"]);
     said.fails_with(5, "id 9 is expected and 10 stands there");
     fs::write(scratch.path().join("log"), log([u64::MAX])).unwrap();
-    run(scratch.path(), &["check", "directory", "log"]).fails_with(12, "answer 12");
+    run(scratch.path(), &["check", "directory", "log"])
+        .fails_with(12, "behind the last id no record may stand, at byte ");
     fs::write(scratch.path().join("log"), [1, 2, 3]).unwrap();
     let said = run(scratch.path(), &["check", "directory", "log"]);
     assert_eq!(said.out, "log: no records; ends cleanly at byte 0; the 3 bytes behind it are no record\n");
@@ -129,4 +132,38 @@ fn a_record_too_long() {
     let said = Said::of(child.wait_with_output().unwrap());
     writer.join().unwrap();
     said.fails_with(65, "standard input: the record at byte 0 has more than 134217728 bytes");
+}
+
+/// Progress is shown where standard error is a terminal, and there alone: all other tests find standard error empty.
+#[test]
+fn progress_on_a_terminal() {
+    let scratch = folder();
+    fs::write(scratch.path().join("log"), log(1..=2000)).unwrap();
+    let (mut terminal, end) = match terminal() {
+        Ok(both) => both,
+        Err(error) => return println!("no terminal can be made here: {error}"),
+    };
+    let mut check = command(scratch.path(), &["check", "directory", "log"]);
+    let output = check.stdout(Stdio::piped()).stderr(end).spawn().unwrap().wait_with_output().unwrap();
+    drop(check);
+    let said = String::from_utf8(output.stdout).unwrap();
+    assert!(said.starts_with("log: 2000 records, ids 1 to 2000; ends cleanly"), "{said}");
+    let mut shown = vec![0; 65536];
+    let length = terminal.read(&mut shown).unwrap();
+    assert!(String::from_utf8_lossy(&shown[..length]).contains(" of "), "{shown:?}");
+}
+
+/// A terminal: what is written to it, and the end for a process.
+fn terminal() -> io::Result<(File, File)> {
+    let checked = |answer: i32| if answer < 0 { Err(io::Error::last_os_error()) } else { Ok(answer) };
+    let mut name = [0u8; 64];
+    let own = unsafe {
+        let own = File::from_raw_fd(checked(libc::posix_openpt(libc::O_RDWR | libc::O_NOCTTY))?);
+        checked(libc::grantpt(own.as_raw_fd()))?;
+        checked(libc::unlockpt(own.as_raw_fd()))?;
+        checked(-libc::ptsname_r(own.as_raw_fd(), name.as_mut_ptr().cast(), name.len()))?;
+        own
+    };
+    let name = CStr::from_bytes_until_nul(&name).unwrap().to_str().unwrap();
+    Ok((own, File::options().read(true).write(true).open(name)?))
 }

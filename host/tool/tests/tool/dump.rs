@@ -1,7 +1,7 @@
 //! `dump`, and logs built anew from what it prints.
 
 use crate::{
-    running::{command, folder, log, run},
+    running::{chunks, command, folder, log, run},
     sample::directory,
 };
 use hongsathep::{checksum, ChangeList, IndexTableId, LogReader, RefCountTableId, ValueTableId};
@@ -210,15 +210,30 @@ fn logs_that_cannot_be_read() {
     run(scratch.path(), &["dump", "directory", "missing"]).fails_with(66, "missing: No such file");
     run(scratch.path(), &["dump", "directory", "."]).fails_with(66, ".: Is a directory");
     run(scratch.path(), &["dump", "directory", "/proc/self/mem"]).fails_with(66, "/proc/self/mem: ");
+    let said = run(scratch.path(), &["dump", "directory", "/dev/zero"]);
+    assert_eq!((said.status, said.out.as_str()), (Some(3), "ends 0 answer 3 (unknown tag) fault 0 records 0\n"));
 }
 
-/// Twenty megabytes, and a reader who goes away.
+/// Twenty megabytes, so that records lie over the windows' ends.
 #[test]
-fn long_logs_and_closed_pipes() {
+fn long_logs() {
     let scratch = folder();
-    fs::write(scratch.path().join("log"), log(1..=12_000)).unwrap();
-    let said = run(scratch.path(), &["dump", "directory", "log"]);
+    let bytes = log(1..=12_000);
+    fs::write(scratch.path().join("log"), &bytes).unwrap();
+    let said = run(scratch.path(), &["dump", "--bytes", "directory", "log"]);
+    assert!(rebuilt(&said.out) == bytes);
     assert_eq!(said.out.lines().filter(|line| line.starts_with("record ")).count(), 12_000);
+    // A record longer than a window.
+    let bytes = chunks(7, 2, 512, 10_000);
+    fs::write(scratch.path().join("log"), &bytes).unwrap();
+    let said = run(scratch.path(), &["dump", "--bytes", "directory", "log"]);
+    assert!(said.status == Some(0) && rebuilt(&said.out) == bytes);
+}
+
+#[test]
+fn a_reader_who_goes_away() {
+    let scratch = folder();
+    fs::write(scratch.path().join("log"), log(1..=3000)).unwrap();
     let mut child = command(scratch.path(), &["dump", "directory", "log"]);
     let mut child = child.stdout(Stdio::piped()).stderr(Stdio::piped()).spawn().unwrap();
     child.stdout.take().unwrap().read_exact(&mut [0; 100]).unwrap();

@@ -1,7 +1,7 @@
 //! `recover`.
 
 use crate::{
-    running::{behind, chunks, files, folder, log, old_image, run, Said, TOOL},
+    running::{behind, chunks, files, folder, log, old_image, once_free, run, Said, TOOL},
     sample::{directory, record, Scratch},
 };
 use hongsathep::Image;
@@ -99,6 +99,9 @@ fn new_images() {
     let log = log(1..=3);
     let scratch = with(&[("log", log.clone())]);
     leaves_all(&scratch, &["--new", "directory", "image", "log"], 73, "image: it is there already");
+    symlink("nowhere", scratch.path().join("link")).unwrap();
+    leaves_all(&scratch, &["--new", "directory", "link", "log"], 73, "link: it is there already");
+    leaves_all(&scratch, &["--new", "directory", "log/image", "log"], 73, "log/image: Not a directory");
     fs::remove_file(scratch.path().join("image")).unwrap();
     leaves_all(&scratch, &["directory", "image", "log"], 66, "image: there is no such file (--new ");
     let mut image = Image::new(&directory());
@@ -314,5 +317,5 @@ fn a_folder_in_use() {
     let host = hongsathep::Log::open(&logs, &directory()).unwrap().recover(&mut image).unwrap();
     leaves_all(&scratch, &["directory", "image", "logs"], 75, "logs/lock: another run is at work on it");
     drop(host);
-    assert_eq!(recover(&scratch, &["directory", "image", "logs"]).status, Some(0));
+    assert_eq!(once_free(|| recover(&scratch, &["directory", "image", "logs"])).status, Some(0));
 }

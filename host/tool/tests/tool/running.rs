@@ -8,6 +8,8 @@ use std::{
     io::Write,
     path::Path,
     process::{Command, Output, Stdio},
+    thread::sleep,
+    time::Duration,
 };
 
 pub const TOOL: &str = env!("CARGO_BIN_EXE_hongsathep");
@@ -50,6 +52,18 @@ pub fn run_on(folder: &Path, arguments: &[&str], input: &[u8]) -> Said {
     // A run that needs no more of it closes it.
     let _ = child.stdin.take().unwrap().write_all(input);
     Said::of(child.wait_with_output().unwrap())
+}
+
+/// A run behind a lock that this process let go. Children of other tests have a copy of it between fork and exec.
+pub fn once_free(run: impl Fn() -> Said) -> Said {
+    for _ in 0..100 {
+        let said = run();
+        if said.status != Some(75) {
+            return said;
+        }
+        sleep(Duration::from_millis(20));
+    }
+    run()
 }
 
 /// Records of these ids, one behind the other.

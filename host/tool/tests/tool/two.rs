@@ -1,7 +1,7 @@
 //! Two runs at once.
 
 use crate::{
-    running::{behind, command, files, log, old_image, Said},
+    running::{behind, command, files, log, old_image, once_free, Said},
     sample::{directory, Scratch},
 };
 use hongsathep::Replacement;
@@ -51,6 +51,6 @@ fn while_another_writes() {
     recover().fails_with(75, "another run is at work on it");
     assert!(fs::read(&image).unwrap() == old_image());
     drop(held);
-    assert_eq!(recover().status, Some(0));
+    assert_eq!(once_free(recover).status, Some(0));
     assert!(fs::read(&image).unwrap() == behind(&log, 1));
 }
