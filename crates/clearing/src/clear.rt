@@ -93,7 +93,7 @@ pub fn clear_rest(
         match record::item_at(f, log, at, r.validate, r.crc32) {
             ItemAnswer::NoItem(_) => return left,
             ItemAnswer::Read(i) => {
-                let action = i.action;
+                let action = i.action();
                 if action.is_end() {
                     return left;
                 }

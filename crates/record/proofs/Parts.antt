@@ -15,7 +15,7 @@ use Rattle.words.proofs.Cut.{little-take, little-drop}
 use Rattle.checksum.specs.Checksum.{checksumOf}
 use Rattle.directory.specs.Directory.{findTable}
 use Rattle.directory.specs.declared.table.TableKind.{TableKind}
-use Rattle.directory.specs.declared.table.TableKind.the-variants.{Value}
+use Rattle.directory.specs.declared.table.TableKind.the-variants.{Index, Value, RefCount}
 use Rattle.directory.specs.declared.directory.Directory.{Directory}
 use Rattle.directory.specs.declared.directory.Found.{Found}
 use Rattle.directory.specs.declared.directory.Found.the-variants.{At, Nothing}
@@ -24,14 +24,14 @@ use Rattle.record.specs.Record.{Item, insertOf, key, chunk, valueLength,
 use Rattle.answer.specs.declared.answer.Answer.{Answer}
 use Rattle.answer.specs.declared.answer.Answer.the-variants.{EndOfLog, Cut, UnknownTag, OutOfPlace, NoTable, NoIndex, WrongSum}
 use Rattle.record.specs.declared.action.LogAction.{LogAction}
-use Rattle.record.specs.declared.action.LogAction.the-variants.{EndRecord}
+use Rattle.record.specs.declared.action.LogAction.the-variants.{BeginRecord, EndRecord}
 use Rattle.record.specs.declared.item.Key.{Key}
 use Rattle.record.specs.declared.item.ReadItem.{ReadItem}
 use Rattle.record.specs.declared.item.ItemAnswer.the-variants.{Read}
 use Rattle.record.specs.declared.reader.LogReader.{LogReader}
 use Rattle.record.specs.declared.reader.Step.the-variants.{Took}
 use Rattle.record.specs.Next.{readerAfter, stepped}
-use Rattle.record.specs.Inner.{gotItem}
+use Rattle.record.specs.Inner.{insertTag, actionBy, actionIn, gotItem}
 use Rattle.record.proofs.Formats.{need-short, need-met, read-give, read-refuse, then-stop, then-got}
 
 -- a test, and then a value or a refusal
@@ -230,6 +230,21 @@ module _ (tag : ℕ) (h : 8 ≤ tag) where
 back : (s l : ℕ) → s + l - l ≡ s
 back s l = omega arith
 
-pub item-step : (log : List ℕ) (r : LogReader) (i : ReadItem) (g : Got Item) (n : LogReader) → gotItem (Read i) ≡ g
-    → n ≡ readerAfter log r (i .action) (i .start + i .length) → Took (record { action = i .action; start = i .start; length = i .length; reader = n }) ≡ stepped log r g
-item-step log r i g n e m = rw (← e, back (i .start) (i .length), m)
+pub item-step : (log : List ℕ) (r : LogReader) (i : ReadItem) (g : Got Item) (x : LogAction) (n : LogReader) → gotItem (Read i) ≡ g → x ≡ actionIn i
+    → n ≡ readerAfter log r x (i .start + i .length) → Took (record { action = x; start = i .start; length = i .length; reader = n }) ≡ stepped log r g
+item-step log r i g x n e q m = rw (← e, back (i .start) (i .length), m, q)
+
+-- the action of an insertion's tag
+pub inserted : (kind : TableKind) (t i : ℕ) → actionBy (insertTag kind) t i ≡ insertOf kind t i
+unfolding actionBy
+inserted Index t i = refl
+inserted Value t i = refl
+inserted RefCount t i = refl
+
+-- the action of a tag that was read
+pub acts : (n tag t i : ℕ) → tag ≡ n → actionBy n t i ≡ actionBy tag t i
+acts n tag t i e = ap (λ (x : ℕ). actionBy x t i) (sym e)
+
+pub acts-else : (tag t i : ℕ) → (tag ≡ 2 → ⊥) → (tag ≡ 3 → ⊥) → (tag ≡ 4 → ⊥) → (tag ≡ 5 → ⊥) → (tag ≡ 6 → ⊥) → (tag ≡ 7 → ⊥) → BeginRecord ≡ actionBy tag t i
+unfolding actionBy
+acts-else tag t i a b c d e f = rw (ne-eqb tag 2 a, ne-eqb tag 3 b, ne-eqb tag 4 c, ne-eqb tag 5 d, ne-eqb tag 6 e, ne-eqb tag 7 f)

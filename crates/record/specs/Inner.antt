@@ -13,10 +13,13 @@ use Rattle.directory.specs.declared.directory.Directory.{Directory}
 use Rattle.directory.specs.declared.directory.Found.{Found}
 use Rattle.directory.specs.declared.directory.Found.the-variants as found
 use Rattle.record.specs.Format.{Got, stopped, got}
-use Rattle.record.specs.Record.{Item}
+use Rattle.record.specs.Record.{Item, insertOf, dropIndex, dropRefCount}
+use Rattle.record.specs.declared.action.LogAction.{LogAction}
+use Rattle.record.specs.declared.action.LogAction.the-variants.{BeginRecord, EndRecord}
 use Rattle.record.specs.declared.item.Key.{Key}
 use Rattle.record.specs.declared.item.KeyAnswer.{KeyAnswer}
 use Rattle.record.specs.declared.item.KeyAnswer.the-variants.{Known, NoKey}
+use Rattle.record.specs.declared.item.ReadItem.{ReadItem}
 use Rattle.record.specs.declared.item.ItemAnswer.{ItemAnswer}
 use Rattle.record.specs.declared.item.ItemAnswer.the-variants.{Read, NoItem}
 use Rattle.record.specs.declared.item.TableAnswer.{TableAnswer}
@@ -34,9 +37,30 @@ abbrev pub gotTable : TableAnswer → ℕ → Got ℕ
 gotTable (NoTable answer) end = stopped answer
 gotTable (Table number) end = got number end
 
+-- the tag of an insertion
+abbrev pub insertTag : TableKind → ℕ
+insertTag Index = 2
+insertTag Value = 3
+insertTag RefCount = 6
+
+-- the action of a tag, with the table and the index behind it
+unfoldable pub actionBy : ℕ → ℕ → ℕ → LogAction
+actionBy tag table index =
+    if eqb tag 2 then insertOf Index table index else
+    if eqb tag 3 then insertOf Value table index else
+    if eqb tag 4 then EndRecord else
+    if eqb tag 5 then dropIndex table else
+    if eqb tag 6 then insertOf RefCount table index else
+    if eqb tag 7 then dropRefCount table else
+    BeginRecord
+
+-- the action of what was read
+abbrev pub actionIn : ReadItem → LogAction
+actionIn i = actionBy (i .tag) (i .table) (i .index)
+
 abbrev pub gotItem : ItemAnswer → Got Item
 gotItem (NoItem answer) = stopped answer
-gotItem (Read i) = got (record { action = i .action; payload = i .length }) (i .start + i .length)
+gotItem (Read i) = got (record { action = actionIn i; payload = i .length }) (i .start + i .length)
 
 abbrev pub gotId : IdAnswer → ℕ → Got ℕ
 gotId (NotOpened answer) end = stopped answer

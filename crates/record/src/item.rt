@@ -8,7 +8,7 @@ ghost use Rattle.directory.specs.declared.directory.Directory.{Directory};
 ghost use Rattle.directory.specs.declared.table.TableKind.{TableKind};
 ghost use Rattle.directory.specs.declared.table.TableKind.the-variants.{Index, Value, RefCount};
 ghost use Rattle.record.specs.Format.{readAt};
-ghost use Rattle.record.specs.Inner.{gotKey, gotTable, gotItem, FoundBy, Sought, soughtIn};
+ghost use Rattle.record.specs.Inner.{gotKey, gotTable, insertTag, actionIn, gotItem, FoundBy, Sought, soughtIn};
 ghost use Rattle.record.specs.Record.{key, chunk, maskedItem, valueLength, value, valuedItem, table, droppedItem, dropIndex, dropRefCount, sumHolds, endedItem, inside};
 use super::action::LogAction;
 use super::mask::entries_length;
@@ -36,11 +36,31 @@ pub enum TableAnswer {
     NoTable(Answer),
 }
 
-// An action and its payload's place; it ends where its payload ends.
+// An action in plain numbers, table and index 0 where it has none, and its payload's place; it ends where its payload ends. An action itself
+// would be copied at each return, its unused bytes too.
 pub struct ReadItem {
-    pub action: LogAction,
-    pub start: usize,
+    pub index: u64,
     pub length: usize,
+    pub tag: u8,
+    pub table: u16,
+    pub start: usize,
+}
+
+impl ReadItem {
+    pub fn action(self) -> LogAction
+        ensures { λ r. ⌜ r ≡ actionIn self ⌝ }
+    {
+        let tag = self.tag;
+        match tag {
+            2 => LogAction::insert(TableKind::Index, self.table, self.index),
+            3 => LogAction::insert(TableKind::Value, self.table, self.index),
+            4 => LogAction::EndRecord,
+            5 => LogAction::DropTable(IndexTableId(self.table)),
+            6 => LogAction::insert(TableKind::RefCount, self.table, self.index),
+            7 => LogAction::DropRefCountTable(RefCountTableId(self.table)),
+            _ => LogAction::BeginRecord,
+        }
+    }
 }
 
 pub enum ItemAnswer {
@@ -75,6 +95,17 @@ fn key_at(f: Found, log: &[u8], body: usize) -> KeyAnswer
     }
 }
 
+// The tag of an insertion.
+fn insert_tag(kind: TableKind) -> u8
+    ensures { λ r. ⌜ r ≡ insertTag kind ⌝ }
+{
+    match kind {
+        TableKind::Index => 2,
+        TableKind::Value => 3,
+        TableKind::RefCount => 6,
+    }
+}
+
 // The mask and its entries, behind a key.
 fn chunk_at(log: &[u8], start: usize, kind: TableKind, width: usize, k: Key) -> ItemAnswer
     requires { ⌜ (width ≤ 16) × (start ≤ length (now log)) ⌝ }
@@ -89,9 +120,11 @@ fn chunk_at(log: &[u8], start: usize, kind: TableKind, width: usize, k: Key) -> 
         return ItemAnswer::NoItem(Answer::Cut);
     }
     ItemAnswer::Read(ReadItem {
-        action: LogAction::insert(kind, k.table, k.index),
-        start: start,
+        index: k.index,
         length: 8 + entries,
+        tag: insert_tag(kind),
+        table: k.table,
+        start: start,
     })
 }
 
@@ -123,9 +156,11 @@ fn value_at(log: &[u8], start: usize, k: Key) -> ItemAnswer
         return ItemAnswer::NoItem(Answer::Cut);
     }
     ItemAnswer::Read(ReadItem {
-        action: LogAction::insert(TableKind::Value, k.table, k.index),
-        start: start,
+        index: k.index,
         length: length,
+        tag: 3,
+        table: k.table,
+        start: start,
     })
 }
 
@@ -161,9 +196,11 @@ fn ended_at(log: &[u8], body: usize, validate: bool, register: u32) -> ItemAnswe
     let sum = words::u32_at(log, body);
     if sum_holds(validate, register, sum) {
         ItemAnswer::Read(ReadItem {
-            action: LogAction::EndRecord,
-            start: body + 4,
+            index: 0,
             length: 0,
+            tag: 4,
+            table: 0,
+            start: body + 4,
         })
     } else {
         ItemAnswer::NoItem(Answer::WrongSum)
@@ -193,9 +230,11 @@ fn dropped_index_at(f: Found, log: &[u8], body: usize) -> ItemAnswer
     match table_at(f, log, body) {
         TableAnswer::NoTable(a) => ItemAnswer::NoItem(a),
         TableAnswer::Table(number) => ItemAnswer::Read(ReadItem {
-            action: LogAction::DropTable(IndexTableId(number)),
-            start: body + 2,
+            index: 0,
             length: 0,
+            tag: 5,
+            table: number,
+            start: body + 2,
         }),
     }
 }
@@ -208,9 +247,11 @@ fn dropped_ref_count_at(f: Found, log: &[u8], body: usize) -> ItemAnswer
     match table_at(f, log, body) {
         TableAnswer::NoTable(a) => ItemAnswer::NoItem(a),
         TableAnswer::Table(number) => ItemAnswer::Read(ReadItem {
-            action: LogAction::DropRefCountTable(RefCountTableId(number)),
-            start: body + 2,
+            index: 0,
             length: 0,
+            tag: 7,
+            table: number,
+            start: body + 2,
         }),
     }
 }

@@ -121,7 +121,7 @@ impl LogReader {
         match item_at(f, log, self.position, self.validate, self.crc32) {
             ItemAnswer::NoItem(a) => refuse(a, self.position),
             ItemAnswer::Read(i) => {
-                let action = i.action;
+                let action = i.action();
                 let reader = self.after(log, action, i.start + i.length);
                 Step::Took(Stepped {
                     action: action,

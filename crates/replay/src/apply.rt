@@ -18,7 +18,7 @@ pub fn apply_rest(t: &[u64; 81], log: &[u8], r: LogReader, image: &mut [u8])
         match record::item_at(f, log, at, r.validate, r.crc32) {
             ItemAnswer::NoItem(_) => return,
             ItemAnswer::Read(i) => {
-                let action = i.action;
+                let action = i.action();
                 if action.is_end() {
                     return;
                 }

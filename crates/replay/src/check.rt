@@ -25,7 +25,7 @@ fn end_of(t: &[u64; 81], log: &[u8], r: LogReader) -> EndAnswer
         match record::item_at(f, log, at, r.validate, r.crc32) {
             ItemAnswer::NoItem(a) => return EndAnswer::NotEnded(Refusal::new(a, at)),
             ItemAnswer::Read(i) => {
-                let action = i.action;
+                let action = i.action();
                 at = i.start + i.length;
                 if action.is_end() {
                     return EndAnswer::Ended(at);

@@ -47,9 +47,9 @@ read : (u : tie.After-item-at Inv-loop μ-loop) → gotItem (u .item-at .result)
     ≡ readAt (inside (directoryIn (now (u .before .before .before .before .before .before .args .t))) (u .before .before .before .before .before .before .args .r .validate) (u .before .before .before .before .before .before .args .r .crc32)) (u .before .before .loop .at) (now (u .before .before .before .before .before .before .args .log))
 read u = u .item-at .ensures (directoryIn (now (u .before .before .before .before .before .before .args .t))) (u .before .sought-in .ensures)
 
-taken : (k : tie.After-known-told Inv-loop μ-loop) → gotItem (Read (k .before .i .given .0 .0))
-    ≡ readAt (inside (directoryIn (now (k .before .before .before .before .before .before .before .before .before .args .t))) (k .before .before .before .before .before .before .before .before .before .args .r .validate) (k .before .before .before .before .before .before .before .before .before .args .r .crc32)) (k .before .before .before .before .before .loop .at) (now (k .before .before .before .before .before .before .before .before .before .args .log))
-taken k = sym (ap gotItem (k .before .i .given .1)) ∙ read (k .before .before .before)
+taken : (k : tie.After-action Inv-loop μ-loop) → gotItem (Read (k .before .before .i .given .0 .0))
+    ≡ readAt (inside (directoryIn (now (k .before .before .before .before .before .before .before .before .before .before .args .t))) (k .before .before .before .before .before .before .before .before .before .before .args .r .validate) (k .before .before .before .before .before .before .before .before .before .before .args .r .crc32)) (k .before .before .before .before .before .before .loop .at) (now (k .before .before .before .before .before .before .before .before .before .before .args .log))
+taken k = sym (ap gotItem (k .before .before .i .given .1)) ∙ read (k .before .before .before .before)
 
 enum-told : tie.Need-enum-told Inv-loop μ-loop
 enum-told c = search needs
@@ -73,60 +73,63 @@ returns c =
 enum-known-i : tie.Need-enum-known-i Inv-loop μ-loop
 enum-known-i c = search needs
 
+action-requires : tie.Need-action-requires Inv-loop μ-loop
+action-requires c κs = search needs
+
 is-end-requires : tie.Need-is-end-requires Inv-loop μ-loop
 is-end-requires c κs = tt
 
 same-length-3 : tie.Need-same-length-3 Inv-loop μ-loop
-same-length-3 c = c .before .before .before .before .before .before .before .loop .inv .1
+same-length-3 c = c .before .before .before .before .before .before .before .before .loop .inv .1
 
 same-length-4 : tie.Need-same-length-4 Inv-loop μ-loop
-same-length-4 c = c .before .before .before .before .before .before .before .loop .inv .2
+same-length-4 c = c .before .before .before .before .before .before .before .before .loop .inv .2
 
 returns-2 : tie.Need-returns-2 Inv-loop μ-loop
 returns-2 c =
     let k = c .before .before in
-    let l = k .before .before .before .before .before in
+    let l = k .before .before .before .before .before .before in
     let s = l .before .before .before .before in
     let a = s .args in
     let d = directoryIn (now (a .t)) in
     last-cleared (a .r .record_id) d (now (a .log)) (movedTo (a .r) (l .loop .at)) _ (partsOf Shared (l .loop .left) (l .loop .words) (l .loop .bytes))
-    (item-taken d (now (a .log)) (a .r) (s .pre .1) (l .loop .at) (l .loop .inv .0) _ (taken k)) (sym (c .before .is-end .ensures) ∙ c .if1 .taken)
+    (item-taken d (now (a .log)) (a .r) (s .pre .1) (l .loop .at) (l .loop .inv .0) _ _ (k .action .ensures) (taken k)) (sym (c .before .is-end .ensures) ∙ c .if1 .taken)
     ∙ l .loop .inv .5
 
 clear-action-requires : tie.Need-clear-action-requires Inv-loop μ-loop
-clear-action-requires c κs = c .before .before .before .before .before .before .before .before .before .loop .inv .3
+clear-action-requires c κs = c .before .before .before .before .before .before .before .before .before .before .loop .inv .3
 
 add-at : tie.Need-add-at Inv-loop μ-loop
 add-at c =
     let k = c .before .before .before .before .before .before .before .before .before .before in
-    let l = k .before .before .before .before .before in
+    let l = k .before .before .before .before .before .before in
     let s = l .before .before .before .before in
     let a = s .args in
-    omega (arith, item-place (directoryIn (now (a .t))) (now (a .log)) (a .r) (s .pre .1) (l .loop .at) (l .loop .inv .0) _ (taken k) .1)
+    omega (arith, item-place (directoryIn (now (a .t))) (now (a .log)) (a .r) (s .pre .1) (l .loop .at) (l .loop .inv .0) _ _ (k .action .ensures) (taken k) .1)
 
 loop-less : tie.Need-loop-less Inv-loop μ-loop
 loop-less c =
     let k = c .before .before .before .before .before .before .before .before .before .before in
-    let l = k .before .before .before .before .before in
+    let l = k .before .before .before .before .before .before in
     let s = l .before .before .before .before in
     let a = s .args in
-    let p = item-place (directoryIn (now (a .t))) (now (a .log)) (a .r) (s .pre .1) (l .loop .at) (l .loop .inv .0) _ (taken k) in
+    let p = item-place (directoryIn (now (a .t))) (now (a .log)) (a .r) (s .pre .1) (l .loop .at) (l .loop .inv .0) _ _ (k .action .ensures) (taken k) in
     omega (arith, p .0, p .1)
 
 loop-again : tie.Need-loop-again Inv-loop μ-loop
 loop-again c =
     let k = c .before .before .before .before .before .before .before .before .before .before in
-    let l = k .before .before .before .before .before in
+    let l = k .before .before .before .before .before .before in
     let s = l .before .before .before .before in
     let a = s .args in
     let d = directoryIn (now (a .t)) in
     let log = now (a .log) in
-    let took = item-taken d log (a .r) (s .pre .1) (l .loop .at) (l .loop .inv .0) _ (taken k) in
+    let took = item-taken d log (a .r) (s .pre .1) (l .loop .at) (l .loop .inv .0) _ _ (k .action .ensures) (taken k) in
     let ended = sym (c .before .before .before .before .before .before .before .before .before .is-end .ensures) ∙ c .before .before .before .before .before .before .before .before .if1 .left in
-    let next = item-next d log (a .r) (s .pre .1) (l .loop .at) (l .loop .inv .0) _ (taken k) ended in
+    let next = item-next d log (a .r) (s .pre .1) (l .loop .at) (l .loop .inv .0) _ _ (k .action .ensures) (taken k) ended in
     let cleared = c .before .before .before .before .before .clear-action in
     let m = more-cleared (a .r .record_id) d log (movedTo (a .r) (l .loop .at)) _ (partsOf Shared (l .loop .left) (l .loop .words) (l .loop .bytes)) took (cleared .ensures) ended (l .loop .inv .3) (l .loop .inv .4) in (
-      item-place d log (a .r) (s .pre .1) (l .loop .at) (l .loop .inv .0) _ (taken k) .1,
+      item-place d log (a .r) (s .pre .1) (l .loop .at) (l .loop .inv .0) _ _ (k .action .ensures) (taken k) .1,
       cleared .kept .1 .1 .0 ∙ l .loop .inv .1,
       cleared .kept .1 .1 .1 .0 ∙ l .loop .inv .2,
       m .0,
@@ -148,6 +151,7 @@ clear-rest-spec =
     same-length-2
     returns
     enum-known-i
+    action-requires
     is-end-requires
     same-length-3
     same-length-4

@@ -1,6 +1,6 @@
 -- `chunk_at` meets its contract. Assumes nothing.
 use mathlib.Core.Path.{sym}
-use Rattle.record.proofs.Parts.{chunk-short, chunk-cut, chunk-met}
+use Rattle.record.proofs.Parts.{chunk-short, chunk-cut, chunk-met, inserted}
 use borrow.Author.Needs.{needs}
 use Rattle.record.proofs.item.chunk_at.Statement.{statement}
 use Rattle.record.proofs.item.chunk_at.Tie as tie
@@ -26,14 +26,14 @@ sub-if2 c = search needs
 returns-2 : tie.Need-returns-2
 returns-2 c = sym (chunk-cut _ _ _ _ _ _ _ (c .before .before .before .if1 .left) (c .before .before .u64-at .ensures) (c .before .entries-length .ensures .0) (c .if2 .taken))
 
-insert-requires : tie.Need-insert-requires
-insert-requires c κs = search needs
+insert-tag-requires : tie.Need-insert-tag-requires
+insert-tag-requires c κs = search needs
 
 add-t8 : tie.Need-add-t8
 add-t8 c = search needs
 
 returns-3 : tie.Need-returns-3
-returns-3 c = rw (c .insert .ensures) (sym (chunk-met _ _ _ _ _ _ _ (c .before .before .before .before .if1 .left) (c .before .before .before .u64-at .ensures) (c .before .before .entries-length .ensures .0) (c .before .if2 .left)))
+returns-3 c = rw (c .insert-tag .ensures, inserted _ _ _) (sym (chunk-met _ _ _ _ _ _ _ (c .before .before .before .before .if1 .left) (c .before .before .before .u64-at .ensures) (c .before .before .entries-length .ensures .0) (c .before .if2 .left)))
 
 pub chunk-at-spec : {M : Type 1} → statement M
 chunk-at-spec =
@@ -46,6 +46,6 @@ chunk-at-spec =
     add-if2
     sub-if2
     returns-2
-    insert-requires
     add-t8
+    insert-tag-requires
     returns-3)

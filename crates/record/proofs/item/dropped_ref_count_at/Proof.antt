@@ -2,7 +2,7 @@
 use Prim.Native.Nat.{_+_}
 use mathlib.Core.Path.{sym, ap, _∙_}
 use Rattle.directory.specs.declared.table.TableKind.the-variants.{RefCount}
-use Rattle.record.specs.Inner.{gotTable}
+use Rattle.record.specs.Inner.{gotTable, actionBy}
 use Rattle.record.specs.Record.{dropRefCount}
 use Rattle.record.specs.declared.item.TableAnswer.{TableAnswer}
 use Rattle.record.proofs.Parts.{dropped-stop, dropped-met}
@@ -19,15 +19,16 @@ enum-known-a c = search needs
 enum-known-number : tie.Need-enum-known-number
 enum-known-number c = search needs
 
-add-t10 : tie.Need-add-t10
-add-t10 c = search needs
+add-t8 : tie.Need-add-t8
+add-t8 c = search needs
 
 returns : tie.Need-returns
 returns c = λ d e. dropped-stop _ _ d RefCount dropRefCount _ (sym (ap (λ (x : TableAnswer). gotTable x (c .before .before .before .before .before .args .body + 2)) (c .before .a .given .1)) ∙ c .before .before .before .table-at .ensures d RefCount e)
 
 returns-2 : tie.Need-returns-2
+unfolding actionBy
 returns-2 c = λ d e. dropped-met _ _ d RefCount dropRefCount _ (sym (ap (λ (x : TableAnswer). gotTable x (c .before .before .before .before .before .args .body + 2)) (c .before .number .given .1)) ∙ c .before .before .before .table-at .ensures d RefCount e)
 
 pub dropped-ref-count-at-spec : {M : Type 1} → statement M
 dropped-ref-count-at-spec =
-    tie.close (tie.spec table-at-requires enum-known-a enum-known-number add-t10 returns returns-2)
+    tie.close (tie.spec table-at-requires enum-known-a enum-known-number add-t8 returns returns-2)

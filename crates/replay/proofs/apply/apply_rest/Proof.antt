@@ -45,10 +45,10 @@ read : (u : tie.After-item-at Inv-loop μ-loop) → gotItem (u .item-at .result)
     (u .before .before .loop .at) (now (u .before .before .before .before .before .args .log))
 read u = u .item-at .ensures (directoryIn (now (u .before .before .before .before .before .args .t))) (u .before .sought-in .ensures)
 
-taken : (k : tie.After-known-told Inv-loop μ-loop) → gotItem (Read (k .before .i .given .0 .0))
-    ≡ readAt (inside (directoryIn (now (k .before .before .before .before .before .before .before .before .args .t))) (k .before .before .before .before .before .before .before .before .args .r .validate) (k .before .before .before .before .before .before .before .before .args .r .crc32))
-    (k .before .before .before .before .before .loop .at) (now (k .before .before .before .before .before .before .before .before .args .log))
-taken k = sym (ap gotItem (k .before .i .given .1)) ∙ read (k .before .before .before)
+taken : (k : tie.After-action Inv-loop μ-loop) → gotItem (Read (k .before .before .i .given .0 .0))
+    ≡ readAt (inside (directoryIn (now (k .before .before .before .before .before .before .before .before .before .args .t))) (k .before .before .before .before .before .before .before .before .before .args .r .validate) (k .before .before .before .before .before .before .before .before .before .args .r .crc32))
+    (k .before .before .before .before .before .before .loop .at) (now (k .before .before .before .before .before .before .before .before .before .args .log))
+taken k = sym (ap gotItem (k .before .before .i .given .1)) ∙ read (k .before .before .before .before)
 
 enum-told : tie.Need-enum-told Inv-loop μ-loop
 enum-told c = search needs
@@ -69,62 +69,65 @@ returns c =
 enum-known-i : tie.Need-enum-known-i Inv-loop μ-loop
 enum-known-i c = search needs
 
+action-requires : tie.Need-action-requires Inv-loop μ-loop
+action-requires c κs = search needs
+
 is-end-requires : tie.Need-is-end-requires Inv-loop μ-loop
 is-end-requires c κs = tt
 
 same-length-2 : tie.Need-same-length-2 Inv-loop μ-loop
-same-length-2 c = c .before .before .before .before .before .before .before .loop .inv .1
+same-length-2 c = c .before .before .before .before .before .before .before .before .loop .inv .1
 
 returns-2 : tie.Need-returns-2 Inv-loop μ-loop
 returns-2 c =
     let k = c .before .before in
-    let l = k .before .before .before .before .before in
+    let l = k .before .before .before .before .before .before in
     let s = l .before .before .before in
     let a = s .args in
     let d = directoryIn (now (a .t)) in
-    last-applied d (now (a .log)) (movedTo (a .r) (l .loop .at)) _ (l .loop .image) (item-taken d (now (a .log)) (a .r) (s .pre .1) (l .loop .at) (l .loop .inv .0) _ (taken k)) (sym (c .before .is-end .ensures) ∙ c .if1 .taken)
+    last-applied d (now (a .log)) (movedTo (a .r) (l .loop .at)) _ (l .loop .image) (item-taken d (now (a .log)) (a .r) (s .pre .1) (l .loop .at) (l .loop .inv .0) _ _ (k .action .ensures) (taken k)) (sym (c .before .is-end .ensures) ∙ c .if1 .taken)
     ∙ l .loop .inv .3
 
 apply-action-requires : tie.Need-apply-action-requires Inv-loop μ-loop
 apply-action-requires c κs =
     let k = c .before .before .before in
-    let l = k .before .before .before .before .before in
+    let l = k .before .before .before .before .before .before in
     let s = l .before .before .before in
     let a = s .args in
     let d = directoryIn (now (a .t)) in
-    let p = payload-sized d (now (a .log)) (movedTo (a .r) (l .loop .at)) _ (item-taken d (now (a .log)) (a .r) (s .pre .1) (l .loop .at) (l .loop .inv .0) _ (taken k)) in
+    let p = payload-sized d (now (a .log)) (movedTo (a .r) (l .loop .at)) _ (item-taken d (now (a .log)) (a .r) (s .pre .1) (l .loop .at) (l .loop .inv .0) _ _ (k .action .ensures) (taken k)) in
     (p .within, ((s .pre .0 .flat, l .loop .inv .1 ∙ s .pre .0 .long), p .sized))
 
 add-at : tie.Need-add-at Inv-loop μ-loop
 add-at c =
     let k = c .before .before .before .before .before .before .before in
-    let l = k .before .before .before .before .before in
+    let l = k .before .before .before .before .before .before in
     let s = l .before .before .before in
     let a = s .args in
-    omega (arith, item-place (directoryIn (now (a .t))) (now (a .log)) (a .r) (s .pre .1) (l .loop .at) (l .loop .inv .0) _ (taken k) .1)
+    omega (arith, item-place (directoryIn (now (a .t))) (now (a .log)) (a .r) (s .pre .1) (l .loop .at) (l .loop .inv .0) _ _ (k .action .ensures) (taken k) .1)
 
 loop-less : tie.Need-loop-less Inv-loop μ-loop
 loop-less c =
     let k = c .before .before .before .before .before .before .before in
-    let l = k .before .before .before .before .before in
+    let l = k .before .before .before .before .before .before in
     let s = l .before .before .before in
     let a = s .args in
-    let p = item-place (directoryIn (now (a .t))) (now (a .log)) (a .r) (s .pre .1) (l .loop .at) (l .loop .inv .0) _ (taken k) in
+    let p = item-place (directoryIn (now (a .t))) (now (a .log)) (a .r) (s .pre .1) (l .loop .at) (l .loop .inv .0) _ _ (k .action .ensures) (taken k) in
     omega (arith, p .0, p .1)
 
 loop-again : tie.Need-loop-again Inv-loop μ-loop
 loop-again c =
     let k = c .before .before .before .before .before .before .before in
-    let l = k .before .before .before .before .before in
+    let l = k .before .before .before .before .before .before in
     let s = l .before .before .before in
     let a = s .args in
     let d = directoryIn (now (a .t)) in
     let log = now (a .log) in
     let ended = sym (c .before .before .before .before .before .before .is-end .ensures) ∙ c .before .before .before .before .before .if1 .left in
-    let m = more-applied d log (movedTo (a .r) (l .loop .at)) _ (l .loop .image) (item-taken d log (a .r) (s .pre .1) (l .loop .at) (l .loop .inv .0) _ (taken k)) ended (l .loop .inv .2) in
-    let next = item-next d log (a .r) (s .pre .1) (l .loop .at) (l .loop .inv .0) _ (taken k) ended in
+    let m = more-applied d log (movedTo (a .r) (l .loop .at)) _ (l .loop .image) (item-taken d log (a .r) (s .pre .1) (l .loop .at) (l .loop .inv .0) _ _ (k .action .ensures) (taken k)) ended (l .loop .inv .2) in
+    let next = item-next d log (a .r) (s .pre .1) (l .loop .at) (l .loop .inv .0) _ _ (k .action .ensures) (taken k) ended in
     let done = c .before .before .before .apply-action in (
-      item-place d log (a .r) (s .pre .1) (l .loop .at) (l .loop .inv .0) _ (taken k) .1,
+      item-place d log (a .r) (s .pre .1) (l .loop .at) (l .loop .inv .0) _ _ (k .action .ensures) (taken k) .1,
       done .kept .1 .1 .1 .1 .1 .0 ∙ l .loop .inv .1,
       ap (λ (x : LogReader). isWalked (restOf (suc (length log)) d log x)) (sym next) ∙ m .0,
       ap₂ (λ (i : List ℕ) (x : LogReader). imageAfter d i (restOf (suc (length log)) d log x)) (done .ensures) (sym next) ∙ sym (m .1) ∙ l .loop .inv .3,
@@ -143,6 +146,7 @@ apply-rest-spec =
     same-length
     returns
     enum-known-i
+    action-requires
     is-end-requires
     same-length-2
     returns-2

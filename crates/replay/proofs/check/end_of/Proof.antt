@@ -41,7 +41,7 @@ read : (u : tie.After-item-at Inv-loop μ-loop) → gotItem (u .item-at .result)
     (u .before .before .loop .at) (now (u .before .before .before .before .args .log))
 read u = u .item-at .ensures (directoryIn (now (u .before .before .before .before .args .t))) (u .before .sought-in .ensures)
 
-taken : (k : tie.After-struct-known Inv-loop μ-loop) → gotItem (Read (k .before .before .i .given .0 .0))
+taken : (k : tie.After-action Inv-loop μ-loop) → gotItem (Read (k .before .before .i .given .0 .0))
     ≡ readAt (inside (directoryIn (now (k .before .before .before .before .before .before .before .before .args .t))) (k .before .before .before .before .before .before .before .before .args .r .validate) (k .before .before .before .before .before .before .before .before .args .r .crc32))
     (k .before .before .before .before .before .before .loop .at) (now (k .before .before .before .before .before .before .before .before .args .log))
 taken k = sym (ap gotItem (k .before .before .i .given .1)) ∙ read (k .before .before .before .before)
@@ -66,48 +66,52 @@ returns c =
 enum-known-i : tie.Need-enum-known-i Inv-loop μ-loop
 enum-known-i c = search needs
 
+action-requires : tie.Need-action-requires Inv-loop μ-loop
+action-requires c κs = search needs
+
 add-at : tie.Need-add-at Inv-loop μ-loop
 add-at c =
-    let l = c .before .before .before .before .before .before in
+    let k = c .before in
+    let l = k .before .before .before .before .before .before in
     let s = l .before .before in
     let a = s .args in
-    omega (arith, item-place (directoryIn (now (a .t))) (now (a .log)) (a .r) (s .pre .1) (l .loop .at) (l .loop .inv .0) _ (taken c) .1)
+    omega (arith, item-place (directoryIn (now (a .t))) (now (a .log)) (a .r) (s .pre .1) (l .loop .at) (l .loop .inv .0) _ _ (k .action .ensures) (taken k) .1)
 
 is-end-requires : tie.Need-is-end-requires Inv-loop μ-loop
 is-end-requires c κs = tt
 
 returns-2 : tie.Need-returns-2 Inv-loop μ-loop
 returns-2 c =
-    let k = c .before .before in
+    let k = c .before .before .before in
     let l = k .before .before .before .before .before .before in
     let s = l .before .before in
     let a = s .args in
     let d = directoryIn (now (a .t)) in
-    ap Ended (sym (item-ends d (now (a .log)) (a .r) (s .pre .1) (l .loop .at) (l .loop .inv .0) _ (taken k)))
-    ∙ sym (ap endIn (last d (now (a .log)) (movedTo (a .r) (l .loop .at)) _ (item-taken d (now (a .log)) (a .r) (s .pre .1) (l .loop .at) (l .loop .inv .0) _ (taken k)) (sym (c .before .is-end .ensures) ∙ c .if1 .taken)))
+    ap Ended (sym (item-ends d (now (a .log)) (a .r) (s .pre .1) (l .loop .at) (l .loop .inv .0) _ _ (k .action .ensures) (taken k)))
+    ∙ sym (ap endIn (last d (now (a .log)) (movedTo (a .r) (l .loop .at)) _ (item-taken d (now (a .log)) (a .r) (s .pre .1) (l .loop .at) (l .loop .inv .0) _ _ (k .action .ensures) (taken k)) (sym (c .before .is-end .ensures) ∙ c .if1 .taken)))
     ∙ l .loop .inv .1
 
 loop-less : tie.Need-loop-less Inv-loop μ-loop
 loop-less c =
-    let k = c .before .before in
+    let k = c .before .before .before in
     let l = k .before .before .before .before .before .before in
     let s = l .before .before in
     let a = s .args in
-    let p = item-place (directoryIn (now (a .t))) (now (a .log)) (a .r) (s .pre .1) (l .loop .at) (l .loop .inv .0) _ (taken k) in
+    let p = item-place (directoryIn (now (a .t))) (now (a .log)) (a .r) (s .pre .1) (l .loop .at) (l .loop .inv .0) _ _ (k .action .ensures) (taken k) in
     omega (arith, p .0, p .1)
 
 loop-again : tie.Need-loop-again Inv-loop μ-loop
 loop-again c =
-    let k = c .before .before in
+    let k = c .before .before .before in
     let l = k .before .before .before .before .before .before in
     let s = l .before .before in
     let a = s .args in
     let d = directoryIn (now (a .t)) in
     let log = now (a .log) in
     let ended = sym (c .before .is-end .ensures) ∙ c .if1 .left in (
-      item-place d log (a .r) (s .pre .1) (l .loop .at) (l .loop .inv .0) _ (taken k) .1,
-      ap (λ (x : LogReader). endIn (restOf (suc (length log)) d log x)) (sym (item-next d log (a .r) (s .pre .1) (l .loop .at) (l .loop .inv .0) _ (taken k) ended))
-          ∙ sym (more-ends d log (movedTo (a .r) (l .loop .at)) _ (item-taken d log (a .r) (s .pre .1) (l .loop .at) (l .loop .inv .0) _ (taken k)) ended)
+      item-place d log (a .r) (s .pre .1) (l .loop .at) (l .loop .inv .0) _ _ (k .action .ensures) (taken k) .1,
+      ap (λ (x : LogReader). endIn (restOf (suc (length log)) d log x)) (sym (item-next d log (a .r) (s .pre .1) (l .loop .at) (l .loop .inv .0) _ _ (k .action .ensures) (taken k) ended))
+          ∙ sym (more-ends d log (movedTo (a .r) (l .loop .at)) _ (item-taken d log (a .r) (s .pre .1) (l .loop .at) (l .loop .inv .0) _ _ (k .action .ensures) (taken k)) ended)
           ∙ l .loop .inv .1,
     )
 
@@ -124,6 +128,7 @@ end-of-spec =
     new-requires
     returns
     enum-known-i
+    action-requires
     add-at
     is-end-requires
     returns-2

@@ -24,20 +24,23 @@ refuse-requires c κs = search needs
 enum-known-i : tie.Need-enum-known-i
 enum-known-i c = search needs
 
+action-requires : tie.Need-action-requires
+action-requires c κs = search needs
+
 add-after : tie.Need-add-after
 add-after c =
-    let s = c .before .before .before .before .before .before in
+    let s = c .before .before .before .before .before .before .before in
     let a = s .args in
     let p = s .pre .1 in
-    let w = within (inside (p .directory) (a .self .validate) (a .self .crc32)) _ _ _ _ (s .pre .0) (sym (c .before .before .before .before .item-at .ensures (p .directory) (p .same)) ∙ ap gotItem (c .before .before .i .given .1)) in
+    let w = within (inside (p .directory) (a .self .validate) (a .self .crc32)) _ _ _ _ (s .pre .0) (sym (c .before .before .before .before .before .item-at .ensures (p .directory) (p .same)) ∙ ap gotItem (c .before .before .before .i .given .1)) in
     omega (arith, w .inside)
 
 after-requires : tie.Need-after-requires
 after-requires c κs =
-    let s = c .before .before .before .before .before .before in
+    let s = c .before .before .before .before .before .before .before in
     let a = s .args in
     let p = s .pre .1 in
-    let w = within (inside (p .directory) (a .self .validate) (a .self .crc32)) _ _ _ _ (s .pre .0) (sym (c .before .before .before .before .item-at .ensures (p .directory) (p .same)) ∙ ap gotItem (c .before .before .i .given .1)) in
+    let w = within (inside (p .directory) (a .self .validate) (a .self .crc32)) _ _ _ _ (s .pre .0) (sym (c .before .before .before .before .before .item-at .ensures (p .directory) (p .same)) ∙ ap gotItem (c .before .before .before .i .given .1)) in
     (w .behind, w .inside)
 
 returns : tie.Need-returns
@@ -46,7 +49,7 @@ returns c = λ d e.
     c .refuse .ensures ∙ ap (λ (g : Got Item). stepped (now (a .log)) (a .self) g) (sym (ap gotItem (c .before .before .a .given .1)) ∙ c .before .before .before .before .item-at .ensures d e)
 
 returns-2 : tie.Need-returns-2
-returns-2 c = λ d e. item-step _ _ _ _ _ (sym (ap gotItem (c .before .before .before .i .given .1)) ∙ c .before .before .before .before .before .item-at .ensures d e) (c .after .ensures)
+returns-2 c = λ d e. item-step _ _ _ _ _ _ (sym (ap gotItem (c .before .before .before .before .i .given .1)) ∙ c .before .before .before .before .before .before .item-at .ensures d e) (c .before .before .action .ensures) (c .after .ensures)
 
 pub step-inside-spec : {M : Type 1} → statement M
 step-inside-spec =
@@ -56,6 +59,7 @@ step-inside-spec =
     enum-known-a
     refuse-requires
     enum-known-i
+    action-requires
     add-after
     after-requires
     returns
