@@ -9,7 +9,7 @@ use Rattle.compare_lines.specs.declared.fault.Fault.the-variants.{ShortC
 use Rattle.compare_lines.specs.declared.reply.Reply.{Reply}
 use Rattle.compare_lines.specs.declared.reply.Reply.the-variants.{Broken}
 
--- "Kinds: 0 index, 1 value, 2 reference count."
+-- kinds in a command: 0 index, 1 value, 2 reference count
 unfoldable pub kindOf : ℕ → TableKind
 kindOf n = if eqb n 0 then Index else if eqb n 1 then Value else RefCount
 

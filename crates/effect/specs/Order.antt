@@ -57,7 +57,7 @@ writesTo w = writtenBy (w .action) (w .payload)
 abbrev pub dropsTable : Written → Option NamedTable
 dropsTable w = droppedBy (w .action)
 
--- P of each action; R of each two, the earlier one first
+-- P of each action
 abbrev pub Each : (Written → Type 0) → List Written → Type 0
 Each P [] = Unit {0}
 Each P (w ∷ ws) = P w × Each P ws

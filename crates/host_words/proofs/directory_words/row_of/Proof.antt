@@ -1,6 +1,6 @@
+-- `row_of` meets its contract: each word is within its field's range. Assumes nothing.
 use Prim.Native.Nat.{_+_}
 use lib.ListN.{getD}
--- `row_of` meets its contract: each word is within its field's range. Assumes nothing.
 use mathlib.Core.Path.{ap, _∙_}
 use native.Mathlib.Omega.{arith}
 use Rattle.directory.specs.Table.{description}

@@ -1,3 +1,4 @@
+-- `formed` meets its contract: the length, then the two runs of table numbers. Assumes nothing.
 use mathlib.Core.Path.{ap, _∙_}
 use mathlib.Core.Bool.{Bool}
 use mathlib.Core.List.{List}
@@ -6,7 +7,6 @@ use lib.ListN.{take}
 use Rattle.numbers.specs.Numbers.{allBelow}
 use Rattle.overlay.proofs.Parts.{rest-part}
 use Rattle.host_words.proofs.Heads.{list-ill, list-rest}
--- `formed` meets its contract: the length, then the two runs of table numbers. Assumes nothing.
 use borrow.Author.Tests.{eq-eqb, ne-eqb, not-true, not-false}
 use Rattle.host_words.specs.Change.{listFormed}
 use borrow.Author.Needs.{needs}

@@ -1,5 +1,5 @@
-use lib.ListN.{replicate, drop}
 -- `overlays_of` meets its contract. Assumes nothing.
+use lib.ListN.{replicate, drop}
 use mathlib.Core.Path.{_≡_, refl, sym, ap₂, _∙_}
 use mathlib.Core.List.{List}
 use Prim.Native.Nat.{ℕ}

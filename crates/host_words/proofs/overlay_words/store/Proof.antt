@@ -1,6 +1,6 @@
+-- `store` meets its contract. Assumes nothing.
 use mathlib.Core.Path.{_≡_}
 use lib.ListN.{length}
--- `store` meets its contract. Assumes nothing.
 use native.Mathlib.Omega.{arith}
 use Rattle.output.proofs.Laws.{_⨾_}
 use Rattle.host_words.proofs.Laws.{wrote-whole}
