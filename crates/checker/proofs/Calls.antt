@@ -30,8 +30,8 @@ use Rattle.overlay.proofs.Parts.{rest-part}
 use Rattle.output.specs.Put.{put, Wrote}
 use Rattle.output.proofs.Laws.{put-nil, _⨾_}
 use Rattle.checker.specs.Check.{mayChange, decides, firstStanding, readingAt, reportOf, afterRecord, afterOpening, afterAction, wentBy, checkIn}
-use Rattle.checker.specs.Checker.{unread, padded, isOpen, noReport, newChecker, startOf, waits, checkerKept, answered, counted, told, keeping, settled, pieceBy, pieceTaken, pieceKept, pieceOf, reportNow, unclosed, closing, closeKept, closeOf}
-use Rattle.checker.specs.Inner.{Stands, Takes, Front, least, backReader}
+use Rattle.checker.specs.Checker.{unread, padded, isOpen, noReport, newChecker, checkerStart, waits, checkerKept, answered, counted, told, keeping, settled, pieceBy, pieceTaken, pieceKept, pieceOf, reportNow, unclosed, closing, closeKept, closeOf}
+use Rattle.checker.specs.Inner.{Stands, Takes, Front, lesser, backReader}
 use Rattle.checker.specs.declared.checker.LogChecker.{LogChecker}
 use Rattle.checker.specs.declared.checker.Checked.{Checked}
 use Rattle.checker.specs.declared.checker.Closed.{Closed}
@@ -107,11 +107,11 @@ pub starts : (d : Directory) (first : ℕ) (s : Standing) (part : List ℕ) → 
 unfolding padded
 starts d first s part e f = rw (e, f, put-nil (replicate 1043 0) 0)
 
-pub start-kept : (d : Directory) (first : ℕ) (c : LogChecker) (r : Checked) → directoryKept d ≡ true → c ≡ newChecker d first → r ≡ answered Done c → r ≡ startOf d first
+pub start-kept : (d : Directory) (first : ℕ) (c : LogChecker) (r : Checked) → directoryKept d ≡ true → c ≡ newChecker d first → r ≡ answered Done c → r ≡ checkerStart d first
 start-kept d first c r k e f =
     f ∙ ap (answered Done) e ∙ ap (λ (a : Answer). record { answer = a; «fault_at» = 0; checker = newChecker d first }) (sym (if-true (directoryKept d) Done BadState k))
 
-pub start-broken : (d : Directory) (first : ℕ) (c : LogChecker) (r : Checked) → directoryKept d ≡ false → c ≡ newChecker d first → r ≡ answered BadState c → r ≡ startOf d first
+pub start-broken : (d : Directory) (first : ℕ) (c : LogChecker) (r : Checked) → directoryKept d ≡ false → c ≡ newChecker d first → r ≡ answered BadState c → r ≡ checkerStart d first
 start-broken d first c r k e f =
     f ∙ ap (answered BadState) e ∙ ap (λ (a : Answer). record { answer = a; «fault_at» = 0; checker = newChecker d first }) (sym (if-false (directoryKept d) Done BadState k))
 
@@ -228,27 +228,27 @@ append-bytes [] ys h k i = k i
 append-bytes (x ∷ xs) ys h k zero = h zero
 append-bytes (x ∷ xs) ys h k (suc i) = append-bytes xs ys (λ j. h (suc j)) k i
 
-pub least-first : (a b : ℕ) → a < b → a ≡ least a b
+pub least-first : (a b : ℕ) → a < b → a ≡ lesser a b
 least-first a b l = sym (if-true (ltb a b) a b (lt-ltb a b l))
 
-pub least-second : (a b : ℕ) → b ≤ a → b ≡ least a b
+pub least-second : (a b : ℕ) → b ≤ a → b ≡ lesser a b
 least-second a b l = sym (if-false (ltb a b) a b (le-ltb a b l))
 
-least-left : (a b : ℕ) → least a b ≤ a
+least-left : (a b : ℕ) → lesser a b ≤ a
 least-left a b = by (ltb a b) refl
   where
     by : (t : Bool) → ltb a b ≡ t → (if t then a else b) ≤ a
     by true q = omega arith
     by false q = ltb-false a b q
 
-least-right : (a b : ℕ) → least a b ≤ b
+least-right : (a b : ℕ) → lesser a b ≤ b
 least-right a b = by (ltb a b) refl
   where
     by : (t : Bool) → ltb a b ≡ t → (if t then a else b) ≤ b
     by true q = omega (arith, ltb-true a b q)
     by false q = omega arith
 
-least-take : (a : ℕ) (l : List ℕ) → take (least a (length l)) l ≡ take a l
+least-take : (a : ℕ) (l : List ℕ) → take (lesser a (length l)) l ≡ take a l
 least-take a l = by (ltb a (length l)) refl
   where
     by : (t : Bool) → ltb a (length l) ≡ t → take (if t then a else length l) l ≡ take a l
@@ -261,7 +261,7 @@ unread-long c l r = sym (length-take-le (c .held) (c .part) (omega arith))
 pub takes-room : (c : LogChecker) (bytes : List ℕ) → Takes c bytes → c .held ≤ 1043
 takes-room c bytes k = kept-open c (k .kept) (k .going) (k .open-yet) .room
 
-module _ (old bytes : List ℕ) (more : ℕ) (room : length old ≤ 1043) (e : more ≡ least (1043 - length old) (length bytes)) where
+module _ (old bytes : List ℕ) (more : ℕ) (room : length old ≤ 1043) (e : more ≡ lesser (1043 - length old) (length bytes)) where
   pub more-left : length old + more ≤ 1043
   more-left = omega (arith, least-left (1043 - length old) (length bytes))
 

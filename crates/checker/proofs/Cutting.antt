@@ -28,7 +28,7 @@ use Rattle.replay.specs.declared.many_records.Ran.{Ran}
 use Rattle.replay.proofs.Records.{run-bad}
 use Rattle.numbers.proofs.Laws.{both}
 use Rattle.checker.specs.Check.{mayChange, decides, firstStanding, readingAt, reportOf, checkOn, checkIn}
-use Rattle.checker.specs.Checker.{checkerBytes, unread, padded, isOpen, newChecker, checkerKept, answered, counted, told, keeping, settled, pieceBy, pieceTaken, pieceKept, pieceOf, reportIn, reportNow, unclosed, closeKept, closeOf, afterPieces, joined, openAs0}
+use Rattle.checker.specs.Checker.{checkerBytes, unread, padded, isOpen, newChecker, checkerKept, answered, counted, told, keeping, settled, pieceBy, pieceTaken, pieceKept, pieceOf, reportIn, reportNow, unclosed, closeKept, closeOf, afterPieces, allBytes, openAs0}
 use Rattle.checker.specs.declared.checker.LogChecker.{LogChecker}
 use Rattle.checker.specs.declared.checker.Checked.{Checked}
 use Rattle.checker.specs.declared.checker.Closed.{Closed}
@@ -229,17 +229,17 @@ module _ (d : Directory) (ok : directoryKept d ≡ true) (first : ℕ) where
 
   -- ---- all the pieces
 
-  pieces : (ps : List (List ℕ)) (c : LogChecker) (all : List ℕ) → Means c all → Bytes (all ++ joined ps) → length (all ++ joined ps) < 9223372036854775808
-      → Means (afterPieces c ps) (all ++ joined ps)
-  unfolding afterPieces joined
+  pieces : (ps : List (List ℕ)) (c : LogChecker) (all : List ℕ) → Means c all → Bytes (all ++ allBytes ps) → length (all ++ allBytes ps) < 9223372036854775808
+      → Means (afterPieces c ps) (all ++ allBytes ps)
+  unfolding afterPieces allBytes
   pieces [] c all m known few = subst (Means c) (sym (append-nil all)) m
   pieces (bytes ∷ more) c all m known few =
-      let e : all ++ (bytes ++ joined more) ≡ (all ++ bytes) ++ joined more = sym (append-assoc all bytes (joined more)) in
-      let l : length ((all ++ bytes) ++ joined more) ≡ length (all ++ bytes) + length (joined more) = length-append (all ++ bytes) (joined more) in
-      let k : Bytes ((all ++ bytes) ++ joined more) = subst Bytes e known in
-      let f : length ((all ++ bytes) ++ joined more) < 9223372036854775808 = subst (λ (x : List ℕ). length x < 9223372036854775808) e few in
+      let e : all ++ (bytes ++ allBytes more) ≡ (all ++ bytes) ++ allBytes more = sym (append-assoc all bytes (allBytes more)) in
+      let l : length ((all ++ bytes) ++ allBytes more) ≡ length (all ++ bytes) + length (allBytes more) = length-append (all ++ bytes) (allBytes more) in
+      let k : Bytes ((all ++ bytes) ++ allBytes more) = subst Bytes e known in
+      let f : length ((all ++ bytes) ++ allBytes more) < 9223372036854775808 = subst (λ (x : List ℕ). length x < 9223372036854775808) e few in
       subst (Means (afterPieces (pieceOf c bytes .checker) more)) (sym e)
-      (pieces more (pieceOf c bytes .checker) (all ++ bytes) (after c all bytes m (front-bytes (all ++ bytes) (joined more) k) (omega (arith, l, f)) .0) k f)
+      (pieces more (pieceOf c bytes .checker) (all ++ bytes) (after c all bytes m (front-bytes (all ++ bytes) (allBytes more) k) (omega (arith, l, f)) .0) k f)
 
   closes : (c : LogChecker) (all : List ℕ) → Means c all → closeOf c .ran ≡ reportIn 0 (checkIn d all 0 begin)
   unfolding closeOf closeKept
@@ -259,16 +259,16 @@ module _ (d : Directory) (ok : directoryKept d ≡ true) (first : ℕ) where
           ∙ sym (ap (reportIn 0) e)
 
   -- what each piece and the close come to, against a check of the joined bytes
-  pub pieces-close : (ps : List (List ℕ)) → Bytes (joined ps) → length (joined ps) < 9223372036854775808
-      → closeOf (afterPieces (newChecker d first) ps) .ran ≡ reportIn 0 (checkIn d (joined ps) 0 begin)
-  pieces-close ps known few = closes (afterPieces (newChecker d first) ps) (joined ps) (pieces ps (newChecker d first) [] means-new known few)
+  pub pieces-close : (ps : List (List ℕ)) → Bytes (allBytes ps) → length (allBytes ps) < 9223372036854775808
+      → closeOf (afterPieces (newChecker d first) ps) .ran ≡ reportIn 0 (checkIn d (allBytes ps) 0 begin)
+  pieces-close ps known few = closes (afterPieces (newChecker d first) ps) (allBytes ps) (pieces ps (newChecker d first) [] means-new known few)
 
-  pub pieces-answer : (ps : List (List ℕ)) (bytes : List ℕ) → Bytes (joined ps ++ bytes) → length (joined ps ++ bytes) < 9223372036854775808
-      → pieceOf (afterPieces (newChecker d first) ps) bytes .answer ≡ openAs0 (reportIn 0 (checkIn d (joined ps ++ bytes) 0 begin) .answer)
+  pub pieces-answer : (ps : List (List ℕ)) (bytes : List ℕ) → Bytes (allBytes ps ++ bytes) → length (allBytes ps ++ bytes) < 9223372036854775808
+      → pieceOf (afterPieces (newChecker d first) ps) bytes .answer ≡ openAs0 (reportIn 0 (checkIn d (allBytes ps ++ bytes) 0 begin) .answer)
   pieces-answer ps bytes known few =
-      let l : length (joined ps ++ bytes) ≡ length (joined ps) + length bytes = length-append (joined ps) bytes in
-      let m = pieces ps (newChecker d first) [] means-new (front-bytes (joined ps) bytes known) (omega arith) in
-      after (afterPieces (newChecker d first) ps) (joined ps) bytes m known few .1
+      let l : length (allBytes ps ++ bytes) ≡ length (allBytes ps) + length bytes = length-append (allBytes ps) bytes in
+      let m = pieces ps (newChecker d first) [] means-new (front-bytes (allBytes ps) bytes known) (omega arith) in
+      after (afterPieces (newChecker d first) ps) (allBytes ps) bytes m known few .1
 
 -- ---- a broken directory: 13 at every call, as the run's
 
@@ -302,28 +302,28 @@ module _ (d : Directory) (first : ℕ) (image : List ℕ) (long : length image �
   broken-tables e = rw e
 
   -- FOR EVERY CUTTING the close reports what a run over the joined bytes reports: answer, position, count and the fault's place
-  pub checked-as-run : (ps : List (List ℕ)) → Bytes (joined ps) → length (joined ps) < 9223372036854775808
-      → closeOf (afterPieces (newChecker d first) ps) .ran ≡ runOf d (joined ps) 0 first image .ran
+  pub checked-as-run : (ps : List (List ℕ)) → Bytes (allBytes ps) → length (allBytes ps) < 9223372036854775808
+      → closeOf (afterPieces (newChecker d first) ps) .ran ≡ runOf d (allBytes ps) 0 first image .ran
   checked-as-run ps known few = by (directoryKept d) refl
     where
-      by : (b : Bool) → directoryKept d ≡ b → closeOf (afterPieces (newChecker d first) ps) .ran ≡ runOf d (joined ps) 0 first image .ran
-      by true e = pieces-close d e first ps known few ∙ sym (run-reports d (joined ps) first image (kept-tables e))
+      by : (b : Bool) → directoryKept d ≡ b → closeOf (afterPieces (newChecker d first) ps) .ran ≡ runOf d (allBytes ps) 0 first image .ran
+      by true e = pieces-close d e first ps known few ∙ sym (run-reports d (allBytes ps) first image (kept-tables e))
       by false e =
           ap (λ (c : LogChecker). closeOf c .ran) (broken-pieces (newChecker d first) (broken-new d first e) ps)
           ∙ ap (λ (x : Closed). x .ran) (broken-close (newChecker d first) (broken-new d first e))
-          ∙ sym (ap (λ (o : Outcome). o .ran) (run-bad d (joined ps) 0 first image (broken-tables e)))
+          ∙ sym (ap (λ (o : Outcome). o .ran) (run-bad d (allBytes ps) 0 first image (broken-tables e)))
 
   -- A PIECE ANSWERS what a run over the bytes so far answers, and 0 in place of 1 and 2
-  pub piece-as-run : (ps : List (List ℕ)) (bytes : List ℕ) → Bytes (joined ps ++ bytes) → length (joined ps ++ bytes) < 9223372036854775808
-      → pieceOf (afterPieces (newChecker d first) ps) bytes .answer ≡ openAs0 (runOf d (joined ps ++ bytes) 0 first image .ran .answer)
+  pub piece-as-run : (ps : List (List ℕ)) (bytes : List ℕ) → Bytes (allBytes ps ++ bytes) → length (allBytes ps ++ bytes) < 9223372036854775808
+      → pieceOf (afterPieces (newChecker d first) ps) bytes .answer ≡ openAs0 (runOf d (allBytes ps ++ bytes) 0 first image .ran .answer)
   piece-as-run ps bytes known few = by (directoryKept d) refl
     where
-      by : (b : Bool) → directoryKept d ≡ b → pieceOf (afterPieces (newChecker d first) ps) bytes .answer ≡ openAs0 (runOf d (joined ps ++ bytes) 0 first image .ran .answer)
-      by true e = pieces-answer d e first ps bytes known few ∙ ap (λ (r : Ran). openAs0 (r .answer)) (sym (run-reports d (joined ps ++ bytes) first image (kept-tables e)))
+      by : (b : Bool) → directoryKept d ≡ b → pieceOf (afterPieces (newChecker d first) ps) bytes .answer ≡ openAs0 (runOf d (allBytes ps ++ bytes) 0 first image .ran .answer)
+      by true e = pieces-answer d e first ps bytes known few ∙ ap (λ (r : Ran). openAs0 (r .answer)) (sym (run-reports d (allBytes ps ++ bytes) first image (kept-tables e)))
       by false e =
           ap (λ (c : LogChecker). pieceOf c bytes .answer) (broken-pieces (newChecker d first) (broken-new d first e) ps)
           ∙ ap (λ (x : Checked). x .answer) (broken-piece (newChecker d first) (broken-new d first e) bytes)
-          ∙ sym (ap (λ (o : Outcome). openAs0 (o .ran .answer)) (run-bad d (joined ps ++ bytes) 0 first image (broken-tables e)))
+          ∙ sym (ap (λ (o : Outcome). openAs0 (o .ran .answer)) (run-bad d (allBytes ps ++ bytes) 0 first image (broken-tables e)))
 
   -- WHAT A RUN REPORTS DOESN'T DEPEND ON THE IMAGE
   pub any-image : (other : List ℕ) → length other ≡ imageLength d → (log : List ℕ) → runOf d log 0 first image .ran ≡ runOf d log 0 first other .ran

@@ -45,8 +45,8 @@ abbrev pub newChecker : Directory → ℕ → LogChecker
 newChecker d first = record { directory = d; standing = firstStanding first; held = 0; part = padded []; total = 0; ran = noReport; closed = false }
 
 -- the start's answer: 13 for a directory that breaks a rule, and again at every call
-abbrev pub startOf : Directory → ℕ → Checked
-startOf d first = record { answer = if directoryKept d then Done else BadState; «fault_at» = 0; checker = newChecker d first }
+abbrev pub checkerStart : Directory → ℕ → Checked
+checkerStart d first = record { answer = if directoryKept d then Done else BadState; «fault_at» = 0; checker = newChecker d first }
 
 -- ---- the rules of a checker; another is answered 13
 
@@ -169,9 +169,9 @@ afterPieces c [] = c
 afterPieces c (bytes ∷ more) = afterPieces (pieceOf c bytes .checker) more
 
 -- "the joined bytes"
-unfoldable pub joined : List (List ℕ) → List ℕ
-joined [] = []
-joined (bytes ∷ more) = bytes ++ joined more
+unfoldable pub allBytes : List (List ℕ) → List ℕ
+allBytes [] = []
+allBytes (bytes ∷ more) = bytes ++ allBytes more
 
 -- "Answers 1 and 2 can be given only at the close": 0 in their place
 abbrev pub openAs0 : Answer → Answer

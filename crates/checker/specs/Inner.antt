@@ -38,8 +38,8 @@ pub record Front (c : LogChecker) (bytes front : List ℕ) : Type 0 where
   pub known : (k : ℕ) → getD (unread c ++ bytes) k 0 < 256
 
 -- the smaller of two
-abbrev pub least : ℕ → ℕ → ℕ
-least a b = if ltb a b then a else b
+abbrev pub lesser : ℕ → ℕ → ℕ
+lesser a b = if ltb a b then a else b
 
 -- the reader n bytes earlier
 abbrev pub backReader : ℕ → LogReader → LogReader

@@ -8,8 +8,8 @@ ghost use Rattle.answer.specs.Answer.{numberOf};
 ghost use Rattle.directory.specs.Directory.{directoryKept};
 ghost use Rattle.record.specs.Next.{stepOf};
 ghost use Rattle.checker.specs.Check.{decides, checkIn};
-ghost use Rattle.checker.specs.Checker.{unread, padded, isOpen, startOf, waits, openKept, checkerKept, answered, counted, told, keeping, settled, pieceBy, pieceTaken, pieceKept, pieceOf, reportNow, unclosed, closeKept, closeOf};
-ghost use Rattle.checker.specs.Inner.{Stands, Takes, Front, least};
+ghost use Rattle.checker.specs.Checker.{unread, padded, isOpen, checkerStart, waits, openKept, checkerKept, answered, counted, told, keeping, settled, pieceBy, pieceTaken, pieceKept, pieceOf, reportNow, unclosed, closeKept, closeOf};
+ghost use Rattle.checker.specs.Inner.{Stands, Takes, Front, lesser};
 use super::standing::Check;
 use super::standing::Standing;
 use super::standing::Went;
@@ -71,7 +71,7 @@ fn join(first: &[u8], second: &[u8]) -> [u8; ROOM]
 }
 
 fn least(a: usize, b: usize) -> usize
-    ensures { λ r. ⌜ r ≡ least a b ⌝ }
+    ensures { λ r. ⌜ r ≡ lesser a b ⌝ }
 {
     if a < b { a } else { b }
 }
@@ -93,7 +93,7 @@ fn waits(d: Directory, bytes: &[u8], reader: LogReader) -> bool
 impl LogChecker {
     // 13 if the directory breaks a rule: so will every later call.
     pub fn new(directory: Directory, first: u64) -> Checked
-        ensures { λ r. ⌜ r ≡ startOf directory first ⌝ }
+        ensures { λ r. ⌜ r ≡ checkerStart directory first ⌝ }
     {
         let checker = LogChecker {
             directory: directory,

@@ -13,7 +13,7 @@ use lib.Seq.{getD-set-same, getD-set-other}
 use Rattle.words.specs.Choice.{if_then_else_}
 use Rattle.directory.specs.Table.{sameKind, isTable}
 use Rattle.directory.specs.Directory.{stands, apart}
-use Rattle.directory.specs.Inner.{nameOf, kindNamed, among, distinct, Names}
+use Rattle.directory.specs.Inner.{nameOf, kindNamed, among, allDistinct, Names}
 use Rattle.directory.specs.declared.table.TableKind.{TableKind}
 use Rattle.directory.specs.declared.table.TableKind.the-variants.{Index, Value, RefCount}
 use Rattle.directory.specs.declared.table.TableDescription.{TableDescription}
@@ -98,8 +98,8 @@ stands-among (suc n) (x ∷ ns) (t ∷ ts) l m h kind number k =
     (stands-among n ns ts (le-of-suc-le-suc l) (le-of-suc-le-suc m) (behind h) kind number k)
 
 pub apart-distinct : (n : ℕ) (ns : List ℕ) (ts : List TableDescription) → n ≤ length ns → n ≤ length ts → Names ns ts n
-    → distinct (take n ns) ≡ apart (take n ts)
-unfolding apart distinct
+    → allDistinct (take n ns) ≡ apart (take n ts)
+unfolding apart allDistinct
 apart-distinct zero ns ts l m h = refl
 apart-distinct (suc n) [] ts l m h = absurd (omega arith)
 apart-distinct (suc n) (x ∷ ns) [] l m h = absurd (omega arith)
@@ -129,10 +129,10 @@ unlike-more x y ys = go (eqb y x)
     go true = refl
     go false = refl
 
-pub distinct-start : distinct [] ≡ true
-unfolding distinct
+pub distinct-start : allDistinct [] ≡ true
+unfolding allDistinct
 distinct-start = refl
 
-pub distinct-more : (x : ℕ) (xs : List ℕ) → distinct (x ∷ xs) ≡ unlike x xs && distinct xs
-unfolding distinct
+pub distinct-more : (x : ℕ) (xs : List ℕ) → allDistinct (x ∷ xs) ≡ unlike x xs && allDistinct xs
+unfolding allDistinct
 distinct-more x xs = refl

@@ -29,9 +29,9 @@ among x [] = false
 among x (y ∷ ys) = eqb y x || among x ys
 
 -- no two are one
-unfoldable pub distinct : List ℕ → Bool
-distinct [] = true
-distinct (x ∷ xs) = not (among x xs) && distinct xs
+unfoldable pub allDistinct : List ℕ → Bool
+allDistinct [] = true
+allDistinct (x ∷ xs) = not (among x xs) && allDistinct xs
 
 -- a directory as 81 numbers, five a table: name, count, length of a value, column, start in the image; and how many tables there are.
 -- The table in row i:

@@ -10,7 +10,7 @@ use lib.Dec.{eqb}
 use lib.ListN.{length, take, drop, getD, drop-of-length-le, length-drop}
 use lib.Seq.{drop-drop, drop-cons, length-take-le}
 use Rattle.words.specs.Choice.{if_then_else_}
-use Rattle.directory_text.specs.Scan.{isBlank, scansPast, front, behind, wordOf, behindWord, isNone, sameBytes, onFirst, linesOf}
+use Rattle.directory_text.specs.Scan.{isBlank, scansPast, front, behind, wordOf, behindWord, isNone, sameBytes, onFirst, textLines}
 use Rattle.directory_text.specs.declared.scan.Pass.the-variants.{Blanks, Word, Before}
 
 -- one byte of a scan, by its test
@@ -91,28 +91,28 @@ module _ (code : List ℕ) (from start end : ℕ) (b : start ≡ from + length (
   some-word n h k = ap isNone word ∙ none-false (take (end - start) (drop start code)) (simp (length-take-le (end - start) (drop start code) (simp length-drop (omega arith))) (omega arith))
 
 -- the lines of a text, one after the other
-lines-turn : (b : ℕ) (bs f : List ℕ) → onFirst b (linesOf bs) ≡ (b ∷ f) ∷ linesOf (drop (suc (length f)) bs) → (t : Bool) → (if t then [] ∷ linesOf bs else onFirst b (linesOf bs)) ≡ (if not t then b ∷ f else []) ∷ linesOf (drop (suc (length (if not t then b ∷ f else []))) (b ∷ bs))
+lines-turn : (b : ℕ) (bs f : List ℕ) → onFirst b (textLines bs) ≡ (b ∷ f) ∷ textLines (drop (suc (length f)) bs) → (t : Bool) → (if t then [] ∷ textLines bs else onFirst b (textLines bs)) ≡ (if not t then b ∷ f else []) ∷ textLines (drop (suc (length (if not t then b ∷ f else []))) (b ∷ bs))
 lines-turn b bs f e true = refl
 lines-turn b bs f e false = e
 
-first-line : (b : ℕ) (bs : List ℕ) → onFirst b (linesOf bs) ≡ (b ∷ front (scansPast (Before 10)) bs) ∷ linesOf (drop (suc (length (front (scansPast (Before 10)) bs))) bs)
-unfolding front scansPast onFirst linesOf
+first-line : (b : ℕ) (bs : List ℕ) → onFirst b (textLines bs) ≡ (b ∷ front (scansPast (Before 10)) bs) ∷ textLines (drop (suc (length (front (scansPast (Before 10)) bs))) bs)
+unfolding front scansPast onFirst textLines
 first-line b [] = refl
 first-line b (c ∷ cs) = ap (onFirst b) (lines-turn c cs (front (scansPast (Before 10)) cs) (first-line c cs) (eqb c 10))
 
-lines-step : (bs : List ℕ) → 0 < length bs → linesOf bs ≡ front (scansPast (Before 10)) bs ∷ linesOf (drop (suc (length (front (scansPast (Before 10)) bs))) bs)
-unfolding front scansPast linesOf
+lines-step : (bs : List ℕ) → 0 < length bs → textLines bs ≡ front (scansPast (Before 10)) bs ∷ textLines (drop (suc (length (front (scansPast (Before 10)) bs))) bs)
+unfolding front scansPast textLines
 lines-step [] h = absurd (omega arith)
 lines-step (b ∷ bs) h = lines-turn b bs (front (scansPast (Before 10)) bs) (first-line b bs) (eqb b 10)
 
-pub next-line : (text : List ℕ) (at end : ℕ) → at < length text → end ≡ at + length (front (scansPast (Before 10)) (drop at text)) → linesOf (drop at text) ≡ take (end - at) (drop at text) ∷ linesOf (drop (end + 1) text)
+pub next-line : (text : List ℕ) (at end : ℕ) → at < length text → end ≡ at + length (front (scansPast (Before 10)) (drop at text)) → textLines (drop at text) ≡ take (end - at) (drop at text) ∷ textLines (drop (end + 1) text)
 next-line text at end h e =
     let s : end + 1 ≡ at + suc (length (front (scansPast (Before 10)) (drop at text))) = omega arith in
     lines-step (drop at text) (simp length-drop (omega arith))
-    ∙ ap₂ (λ (l r : List ℕ). l ∷ linesOf r) (sym (passed (scansPast (Before 10)) text at end e)) (drop-drop (suc (length (front (scansPast (Before 10)) (drop at text)))) at text ∙ ap (λ (k : ℕ). drop k text) (sym s))
+    ∙ ap₂ (λ (l r : List ℕ). l ∷ textLines r) (sym (passed (scansPast (Before 10)) text at end e)) (drop-drop (suc (length (front (scansPast (Before 10)) (drop at text)))) at text ∙ ap (λ (k : ℕ). drop k text) (sym s))
 
-pub no-line : (text : List ℕ) (at : ℕ) → length text ≤ at → linesOf (drop at text) ≡ []
-unfolding linesOf
+pub no-line : (text : List ℕ) (at : ℕ) → length text ≤ at → textLines (drop at text) ≡ []
+unfolding textLines
 no-line text at h =
     let e : drop at text ≡ [] = drop-of-length-le text {i = at} h in
     rw e

@@ -14,7 +14,7 @@ use Rattle.directory.specs.declared.table.TableKind.{TableKind}
 use Rattle.directory.specs.declared.table.TableKind.the-variants.{Index, Value, RefCount}
 use Rattle.directory_text.specs.Scan.{scansPast, front, behind, wordOf, behindWord, isNone, sameBytes}
 use Rattle.directory_text.specs.Number.{wordNumber}
-use Rattle.directory_text.specs.Line.{isAny, fitted, numberIn, lengthIn, tableIn, kindIn, codeIn, lineIn}
+use Rattle.directory_text.specs.Line.{isAny, fitted, numberThen, lengthIn, tableIn, kindIn, codeIn, lineIn}
 use Rattle.directory_text.specs.Inner.{orLine, onTaken, stopped, Fitted, Took, TookBehind, TookLength, Ended}
 use Rattle.directory_text.specs.declared.scan.Pass.the-variants.{Blanks, Word, Before}
 use Rattle.directory_text.specs.declared.number.Number.{Number}
@@ -49,7 +49,7 @@ fit-is which most next v e h =
 -- the next word: none, or one that is a number or not
 module _ (code : List ℕ) (from start end : ℕ) (b : start ≡ from + length (front (scansPast Blanks) (drop from code))) (w : end ≡ start + length (front (scansPast Word) (drop start code))) (which most : ℕ) (within : end ≤ length code) where
   pub took-none : {t : Taken} → start ≡ end → t ≡ stopped end (fault.Missing which) → Took code from which most t
-  unfolding orLine onTaken numberIn
+  unfolding orLine onTaken numberThen
   took-none e f =
       rw f (record {
         small = zero-le;
@@ -58,7 +58,7 @@ module _ (code : List ℕ) (from start end : ℕ) (b : start ≡ from + length (
       })
 
   pub took-one : {t : Taken} → (start ≡ end → ⊥) → start ≤ end → Fitted (wordNumber (take (end - start) (drop start code))) which most end t → Took code from which most t
-  unfolding onTaken numberIn
+  unfolding onTaken numberThen
   took-one {t} n h f =
       record {
         small = f .small;

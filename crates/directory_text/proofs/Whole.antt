@@ -14,7 +14,7 @@ use Rattle.directory.specs.Directory.{noTables, findTable}
 use Rattle.directory.specs.declared.table.TableDescription.{TableDescription}
 use Rattle.directory.specs.declared.directory.Directory.{Directory}
 use Rattle.directory.specs.declared.directory.Found.the-variants.{At, Nothing}
-use Rattle.directory_text.specs.Scan.{scansPast, front, linesOf}
+use Rattle.directory_text.specs.Scan.{scansPast, front, textLines}
 use Rattle.directory_text.specs.Line.{isAny, lineIn}
 use Rattle.directory_text.specs.Text.{faultOf, added, at-line, withTable, ofLine, withLine, fromLines, parsed}
 use Rattle.directory_text.specs.declared.scan.Pass.the-variants.{Before}
@@ -96,28 +96,28 @@ unfolding withLine
 line-number d bs n = number-of-line d n (lineIn bs)
 
 -- a turn of the loop over the lines
-module _ (text : List ℕ) (at end : ℕ) (p q : Parsed) (h : at < length text) (e : end ≡ at + length (front (scansPast (Before 10)) (drop at text))) (w : q ≡ withLine (p .directory) (take (end - at) (drop at text)) (p .line + 1)) (so-far : fromLines p (linesOf (drop at text)) ≡ parsed text) where
-  step : fromLines p (take (end - at) (drop at text) ∷ linesOf (drop (end + 1) text)) ≡ parsed text
+module _ (text : List ℕ) (at end : ℕ) (p q : Parsed) (h : at < length text) (e : end ≡ at + length (front (scansPast (Before 10)) (drop at text))) (w : q ≡ withLine (p .directory) (take (end - at) (drop at text)) (p .line + 1)) (so-far : fromLines p (textLines (drop at text)) ≡ parsed text) where
+  step : fromLines p (take (end - at) (drop at text) ∷ textLines (drop (end + 1) text)) ≡ parsed text
   step = ap (fromLines p) (sym (next-line text at end h e)) ∙ so-far
 
   pub line-stops : isAny (q .fault) ≡ true → q ≡ parsed text
   unfolding fromLines
   line-stops a = w ∙ sym (if-true _ _ _ (ap (λ (x : Parsed). isAny (x .fault)) (sym w) ∙ a)) ∙ step
 
-  pub line-goes : isAny (q .fault) ≡ false → fromLines q (linesOf (drop (end + 1) text)) ≡ parsed text
+  pub line-goes : isAny (q .fault) ≡ false → fromLines q (textLines (drop (end + 1) text)) ≡ parsed text
   unfolding fromLines
   line-goes a =
-      ap (λ (x : Parsed). fromLines x (linesOf (drop (end + 1) text))) w
+      ap (λ (x : Parsed). fromLines x (textLines (drop (end + 1) text))) w
       ∙ sym (if-false _ _ _ (ap (λ (x : Parsed). isAny (x .fault)) (sym w) ∙ a))
       ∙ step
 
   pub line-counts : q .line ≡ p .line + 1
   line-counts = ap (λ (x : Parsed). x .line) w ∙ line-number _ _ _
 
-pub lines-end : (text : List ℕ) (at : ℕ) (p : Parsed) → length text ≤ at → fromLines p (linesOf (drop at text)) ≡ parsed text → p ≡ parsed text
+pub lines-end : (text : List ℕ) (at : ℕ) (p : Parsed) → length text ≤ at → fromLines p (textLines (drop at text)) ≡ parsed text → p ≡ parsed text
 unfolding fromLines
 lines-end text at p h e = sym (rw (no-line text at h)) ∙ e
 
-pub all-lines : (text : List ℕ) {d : Directory} → d ≡ noTables → fromLines (at-line d 0 fault.None) (linesOf (drop 0 text)) ≡ parsed text
+pub all-lines : (text : List ℕ) {d : Directory} → d ≡ noTables → fromLines (at-line d 0 fault.None) (textLines (drop 0 text)) ≡ parsed text
 unfolding parsed
 all-lines text e = rw e

@@ -6,7 +6,7 @@ use lib.ListN.{length, drop}
 use Rattle.words.specs.Choice.{if_then_else_}
 use Rattle.directory.specs.declared.table.TableKind.{TableKind}
 use Rattle.directory_text.specs.Scan.{scansPast, behind, isNone}
-use Rattle.directory_text.specs.Line.{isAny, fitted, numberIn, lengthIn}
+use Rattle.directory_text.specs.Line.{isAny, fitted, numberThen, lengthIn}
 use Rattle.directory_text.specs.declared.scan.Pass.the-variants.{Blanks}
 use Rattle.directory_text.specs.declared.number.Number.{Number}
 use Rattle.directory_text.specs.declared.fault.Fault.{Fault}
@@ -35,12 +35,12 @@ pub record Fitted (number : Number) (which most next : ℕ) (t : Taken) : Type 0
 pub record Took (code : List ℕ) (from which most : ℕ) (t : Taken) : Type 0 where
   pub small : t .value ≤ most
   pub within : t .next ≤ length code
-  pub same : (go : ℕ → List ℕ → Line) → numberIn which most (drop from code) go ≡ onTaken code t go
+  pub same : (go : ℕ → List ℕ → Line) → numberThen which most (drop from code) go ≡ onTaken code t go
 
 pub record TookBehind (code : List ℕ) (before : Taken) (which most : ℕ) (t : Taken) : Type 0 where
   pub small : t .value ≤ most
   pub within : t .next ≤ length code
-  pub same : (go : ℕ → List ℕ → Line) → orLine (before .fault) (numberIn which most (drop (before .next) code) go) ≡ onTaken code t go
+  pub same : (go : ℕ → List ℕ → Line) → orLine (before .fault) (numberThen which most (drop (before .next) code) go) ≡ onTaken code t go
 
 pub record TookLength (code : List ℕ) (before : Taken) (kind : TableKind) (t : Taken) : Type 0 where
   pub small : t .value ≤ 65535

@@ -36,8 +36,8 @@ fitted which most number.NotDecimal go = line.Broken (fault.NotDecimal which)
 fitted which most number.TooLarge go = line.Broken (fault.TooLarge which)
 
 -- the next word as a number, and then what comes of it and of what stands behind it
-unfoldable pub numberIn : ℕ → ℕ → List ℕ → (ℕ → List ℕ → Line) → Line
-numberIn which most bs go =
+unfoldable pub numberThen : ℕ → ℕ → List ℕ → (ℕ → List ℕ → Line) → Line
+numberThen which most bs go =
     if isNone (wordOf bs)
     then line.Broken (fault.Missing which)
     else fitted which most (wordNumber (wordOf bs)) (λ n. go n (behindWord bs))
@@ -45,15 +45,15 @@ numberIn which most bs go =
 -- a value's length; tables of the other kinds have none
 unfoldable pub lengthIn : TableKind → List ℕ → (ℕ → List ℕ → Line) → Line
 lengthIn Index bs go = go 0 bs
-lengthIn Value bs go = numberIn 4 65535 bs go
+lengthIn Value bs go = numberThen 4 65535 bs go
 lengthIn RefCount bs go = go 0 bs
 
 -- what stands behind the kind: the table's number, its column, its count, and a value's length
 unfoldable pub tableIn : TableKind → List ℕ → Line
 tableIn kind bs =
-    numberIn 1 65535 bs (λ n bs₁.
-    numberIn 2 255 bs₁ (λ column bs₂.
-    numberIn 3 65535 bs₂ (λ count bs₃.
+    numberThen 1 65535 bs (λ n bs₁.
+    numberThen 2 255 bs₁ (λ column bs₂.
+    numberThen 3 65535 bs₂ (λ count bs₃.
     lengthIn kind bs₃ (λ size bs₄.
     if isNone (behind (scansPast Blanks) bs₄)
     then line.Table (description kind n column count size)

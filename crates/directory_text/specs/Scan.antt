@@ -53,6 +53,6 @@ onFirst b [] = (b ∷ []) ∷ []
 onFirst b (l ∷ ls) = (b ∷ l) ∷ ls
 
 -- the lines of a text: each ends at a line feed, the last one may lack it
-unfoldable pub linesOf : List ℕ → List (List ℕ)
-linesOf [] = []
-linesOf (b ∷ bs) = if eqb b 10 then [] ∷ linesOf bs else onFirst b (linesOf bs)
+unfoldable pub textLines : List ℕ → List (List ℕ)
+textLines [] = []
+textLines (b ∷ bs) = if eqb b 10 then [] ∷ textLines bs else onFirst b (textLines bs)

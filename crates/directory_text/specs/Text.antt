@@ -11,7 +11,7 @@ use Rattle.directory.specs.declared.table.TableDescription.{TableDescription}
 use Rattle.directory.specs.declared.directory.Directory.{Directory}
 use Rattle.directory.specs.declared.directory.Found.{Found}
 use Rattle.directory.specs.declared.directory.Found.the-variants.{At, Nothing}
-use Rattle.directory_text.specs.Scan.{linesOf}
+use Rattle.directory_text.specs.Scan.{textLines}
 use Rattle.directory_text.specs.Line.{isAny, lineIn}
 use Rattle.directory_text.specs.declared.fault.Fault.{Fault}
 use Rattle.directory_text.specs.declared.fault.Fault.the-variants as fault
@@ -67,4 +67,4 @@ fromLines p (l ∷ ls) =
 
 -- the whole text: its directory, or its first fault and the number of that line, from 1 on
 unfoldable pub parsed : List ℕ → Parsed
-parsed text = fromLines (at-line noTables 0 fault.None) (linesOf text)
+parsed text = fromLines (at-line noTables 0 fault.None) (textLines text)

@@ -3,5 +3,5 @@ use Prim.Native.Nat.{ℕ, _≤_}
 use Rattle.log_input.specs.declared.window.Filled.{Filled}
 
 -- no more than the buffer has
-abbrev pub Within : Filled → ℕ → Type 0
-Within f room = f .held ≤ room
+abbrev pub FilledWithin : Filled → ℕ → Type 0
+FilledWithin f room = f .held ≤ room

@@ -5,7 +5,7 @@
 // at a record that more bytes can decide.
 ghost use Prim.Native.Nat.{_≤_};
 ghost use lib.ListN.{length};
-ghost use Rattle.log_input.specs.Bounds.{Within};
+ghost use Rattle.log_input.specs.Bounds.{FilledWithin};
 use answer::Answer;
 use directory::Directory;
 use replay::Ran;
@@ -41,7 +41,7 @@ pub struct Filled {
 // Reads behind the bytes held, until the buffer is full or the file ends.
 pub fn fill(file: i32, buffer: &mut [u8], from: usize) -> Filled
     requires { ⌜ from ≤ length (now buffer) ⌝ }
-    ensures { λ r. ⌜ Within r (length (now (buffer .entry))) ⌝ }
+    ensures { λ r. ⌜ FilledWithin r (length (now (buffer .entry))) ⌝ }
 {
     let mut held = from;
     let mut failed = false;

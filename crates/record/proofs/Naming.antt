@@ -8,7 +8,7 @@ use lib.Seq.{drop-cons}
 use borrow.Author.Tests.{ne-eqb}
 use Rattle.words.specs.Words.{little, littleAt}
 use Rattle.directory.specs.declared.directory.Directory.{Directory}
-use Rattle.record.specs.Inner.{namedBy, namedIn, lookedUp, soughtIn}
+use Rattle.record.specs.Inner.{namedByTag, namedIn, lookedUp, soughtIn}
 use Rattle.record.specs.declared.search.Named.the-variants.{Nothing}
 
 module _ (log : List ℕ) (at : ℕ) where
@@ -22,16 +22,16 @@ module _ (log : List ℕ) (at : ℕ) where
   number-none h = rw (drop-of-length-le log {i = at} h)
 
   pub unnamed : length log ≤ at → Nothing ≡ namedIn log at
-  unfolding namedBy
+  unfolding namedByTag
   unnamed h = rw (List·getD-eq-default log 0 {n = at} h)
 
   -- by the tag that was read
-  pub named-tag : (tag number : ℕ) → getD log at 0 ≡ tag → number ≡ littleAt 2 log (at + 1) → namedBy tag number ≡ namedIn log at
+  pub named-tag : (tag number : ℕ) → getD log at 0 ≡ tag → number ≡ littleAt 2 log (at + 1) → namedByTag tag number ≡ namedIn log at
   named-tag tag number e q = rw (e, q)
 
-  pub sought-tag : (d : Directory) (tag : ℕ) → getD log at 0 ≡ tag → soughtIn d log at ≡ lookedUp d (namedBy tag (littleAt 2 log (at + 1)))
+  pub sought-tag : (d : Directory) (tag : ℕ) → getD log at 0 ≡ tag → soughtIn d log at ≡ lookedUp d (namedByTag tag (littleAt 2 log (at + 1)))
   sought-tag d tag e = rw e
 
-pub named-none : (tag number : ℕ) → (tag ≡ 2 → ⊥) → (tag ≡ 3 → ⊥) → (tag ≡ 5 → ⊥) → (tag ≡ 6 → ⊥) → (tag ≡ 7 → ⊥) → Nothing ≡ namedBy tag number
-unfolding namedBy
+pub named-none : (tag number : ℕ) → (tag ≡ 2 → ⊥) → (tag ≡ 3 → ⊥) → (tag ≡ 5 → ⊥) → (tag ≡ 6 → ⊥) → (tag ≡ 7 → ⊥) → Nothing ≡ namedByTag tag number
+unfolding namedByTag
 named-none tag number a b c d e = rw (ne-eqb tag 2 a, ne-eqb tag 3 b, ne-eqb tag 5 c, ne-eqb tag 6 d, ne-eqb tag 7 e)

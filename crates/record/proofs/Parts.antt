@@ -31,7 +31,7 @@ use Rattle.record.specs.declared.item.ItemAnswer.the-variants.{Read}
 use Rattle.record.specs.declared.reader.LogReader.{LogReader}
 use Rattle.record.specs.declared.reader.Step.the-variants.{Took}
 use Rattle.record.specs.Next.{readerAfter, stepped}
-use Rattle.record.specs.Inner.{insertTag, actionBy, actionIn, gotItem}
+use Rattle.record.specs.Inner.{tagOfKind, actionBy, actionIn, gotItem}
 use Rattle.record.proofs.Formats.{need-short, need-met, read-give, read-refuse, then-stop, then-got}
 
 -- a test, and then a value or a refusal
@@ -235,7 +235,7 @@ pub item-step : (log : List ℕ) (r : LogReader) (i : ReadItem) (g : Got Item) (
 item-step log r i g x n e q m = rw (← e, back (i .start) (i .length), m, q)
 
 -- the action of an insertion's tag
-pub inserted : (kind : TableKind) (t i : ℕ) → actionBy (insertTag kind) t i ≡ insertOf kind t i
+pub inserted : (kind : TableKind) (t i : ℕ) → actionBy (tagOfKind kind) t i ≡ insertOf kind t i
 unfolding actionBy
 inserted Index t i = refl
 inserted Value t i = refl

@@ -15,6 +15,7 @@ use Rattle.directory.specs.declared.directory.Directory.{Directory}
 use Rattle.record.specs.Format.{Got, stopped, got, readAt}
 use Rattle.record.specs.Record.{Item, inside, opening}
 use Rattle.record.specs.Next.{refused, isEnd, forwardTo, readerAfter, stepped, beginning, opened, readerAt, openingOf, stepOf}
+use Rattle.record.specs.Steps.{On, movedStep}
 use Rattle.answer.specs.declared.answer.Answer.the-variants.{BadArgument}
 use Rattle.record.specs.declared.action.LogAction.{LogAction}
 use Rattle.record.specs.declared.reader.LogReader.{LogReader}
@@ -84,10 +85,6 @@ module _ (at : ℕ) (log : List ℕ) (fits : at ≤ length log) where
   opening-on : (validate : Bool) (id end : ℕ) → readAt (opening validate) at log ≡ got id end → at + 1 ≤ end
   unfolding opening
   opening-on validate id end q = within-need 1 _ _ at log id end fits q
-
-pub record On (log : List ℕ) (r : LogReader) (s : Stepped) : Type 0 where
-  pub forward : r .position < s .reader .position
-  pub inside : s .reader .position ≤ length log
 
 position-of : (s t : Stepped) → Took s ≡ Took t → s .reader .position ≡ t .reader .position
 position-of s t q = let p : s ≡ t = cc in ap (λ (x : Stepped). x .reader .position) p
@@ -159,16 +156,6 @@ step-local d log r s e more =
     ap (λ (n : ℕ). stepOf d (take n log ++ more) r) (ends-at (t .read)) ∙ again d log r s more (t .fits) (t .read)
 
 -- ---- between records it looks at nothing before its position
-
--- a step's answer with n bytes more in front
-abbrev pub movedStep : ℕ → Step → Step
-movedStep n (Refused x) = refused (x .answer) (n + x .position)
-movedStep n (Took s) = Took (record {
-  action = s .action;
-  start = n + s .start;
-  length = s .length;
-  reader = record { position = n + s .reader .position; record_id = s .reader .record_id; crc32 = s .reader .crc32; validate = s .reader .validate; inside = s .reader .inside };
-})
 
 opened-moved : (log : List ℕ) (r : LogReader) (g : Got ℕ)
     → opened log r (moved (r .position) g) ≡ movedStep (r .position) (opened (drop (r .position) log) (readerAt 0 (r .validate)) g)

@@ -38,10 +38,10 @@ gotTable (NoTable answer) end = stopped answer
 gotTable (Table number) end = got number end
 
 -- the tag of an insertion
-abbrev pub insertTag : TableKind → ℕ
-insertTag Index = 2
-insertTag Value = 3
-insertTag RefCount = 6
+abbrev pub tagOfKind : TableKind → ℕ
+tagOfKind Index = 2
+tagOfKind Value = 3
+tagOfKind RefCount = 6
 
 -- the action of a tag, with the table and the index behind it
 unfoldable pub actionBy : ℕ → ℕ → ℕ → LogAction
@@ -69,8 +69,8 @@ gotId (Opened id) end = got id end
 -- ---- the table that an action names, looked up before the action is read
 
 -- by its tag
-unfoldable pub namedBy : ℕ → ℕ → Named
-namedBy tag number =
+unfoldable pub namedByTag : ℕ → ℕ → Named
+namedByTag tag number =
     if eqb tag 2 then named.Table Index number else
     if eqb tag 3 then named.Table Value number else
     if eqb tag 5 then named.Table Index number else
@@ -80,7 +80,7 @@ namedBy tag number =
 
 -- of the action at a place
 abbrev pub namedIn : List ℕ → ℕ → Named
-namedIn log at = namedBy (getD log at 0) (littleAt 2 log (at + 1))
+namedIn log at = namedByTag (getD log at 0) (littleAt 2 log (at + 1))
 
 -- what the search for it finds
 abbrev pub lookedUp : Directory → Named → Found

@@ -3,3 +3,4 @@ pub mod Format
 pub mod Inner
 pub mod Next
 pub mod Record
+pub mod Steps

@@ -8,7 +8,7 @@ ghost use Rattle.directory.specs.declared.directory.Directory.{Directory};
 ghost use Rattle.directory.specs.declared.table.TableKind.{TableKind};
 ghost use Rattle.directory.specs.declared.table.TableKind.the-variants.{Index, Value, RefCount};
 ghost use Rattle.record.specs.Format.{readAt};
-ghost use Rattle.record.specs.Inner.{gotKey, gotTable, insertTag, actionIn, gotItem, FoundBy, Sought, soughtIn};
+ghost use Rattle.record.specs.Inner.{gotKey, gotTable, tagOfKind, actionIn, gotItem, FoundBy, Sought, soughtIn};
 ghost use Rattle.record.specs.Record.{key, chunk, maskedItem, valueLength, value, valuedItem, table, droppedItem, dropIndex, dropRefCount, sumHolds, endedItem, inside};
 use super::action::LogAction;
 use super::mask::entries_length;
@@ -97,7 +97,7 @@ fn key_at(f: Found, log: &[u8], body: usize) -> KeyAnswer
 
 // The tag of an insertion.
 fn insert_tag(kind: TableKind) -> u8
-    ensures { λ r. ⌜ r ≡ insertTag kind ⌝ }
+    ensures { λ r. ⌜ r ≡ tagOfKind kind ⌝ }
 {
     match kind {
         TableKind::Index => 2,

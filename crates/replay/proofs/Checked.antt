@@ -21,10 +21,11 @@ use Rattle.answer.specs.declared.answer.Refusal.{Refusal}
 use Rattle.answer.specs.Answer.{refusal}
 use Rattle.replay.specs.Inner.{isWalked, Opened, Walker, FlatFor}
 use Rattle.replay.specs.Replay.{Walked, fault, walked, recordAt, tablesKept, judged, replayedAs, imageAfter, endIn}
+use Rattle.replay.specs.Sum.{sumHeld, sumTested}
 use Rattle.replay.specs.declared.check.EndAnswer.the-variants.{Ended, NotEnded}
 use Rattle.replay.proofs.Places.{EndsIn, ends-in}
 use Rattle.replay.proofs.Rest.{whole}
-use Rattle.replay.proofs.Sum.{sumHeld, sumTested, sum-rest, plain-walked}
+use Rattle.replay.proofs.Sum.{sum-rest, plain-walked}
 
 -- what an end answered says of the walk
 pub ended-walked : (g : Walked (List Written)) (end : ℕ) → Ended end ≡ endIn g → (ws : List Written) × (g ≡ walked ws end)

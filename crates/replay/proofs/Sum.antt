@@ -26,6 +26,7 @@ use Rattle.effect.specs.Effect.{Written}
 use Rattle.answer.specs.Answer.{refusal}
 use Rattle.replay.specs.Inner.{Opened}
 use Rattle.replay.specs.Replay.{Walked, fault, walked, addFirst, byStep, restOf}
+use Rattle.replay.specs.Sum.{sumHeld, sumTested}
 use Rattle.replay.proofs.Ends.{EndTag, end-read, summing, inside-sum}
 
 -- a step inside a record
@@ -55,14 +56,6 @@ sum-at log at pos register h k tag e =
   where
     z : (p : ℕ) → p + 1 - p ≡ 1
     z p = omega arith
-
--- the test at the end of the walk
-abbrev pub sumHeld : Bool → ℕ → List Written → Walked (List Written)
-sumHeld holds end ws = if holds then walked ws end else fault (refusal WrongSum (end - 5))
-
-abbrev pub sumTested : ℕ → List ℕ → Walked (List Written) → Walked (List Written)
-sumTested at log (fault x) = fault x
-sumTested at log (walked ws end) = sumHeld (eqb (littleAt 4 log (end - 4)) (checksumOf (take (end - 4 - at) (drop at log)))) end ws
 
 sum-first : (at : ℕ) (log : List ℕ) (w : Written) (g : Walked (List Written)) → addFirst w (sumTested at log g) ≡ sumTested at log (addFirst w g)
 sum-first at log w (fault x) = refl

@@ -2,3 +2,4 @@ pub mod Fault
 pub mod Inner
 pub mod Replay
 pub mod Run
+pub mod Sum

@@ -17,7 +17,7 @@ use Rattle.record.specs.declared.reader.Step.{Step}
 use Rattle.record.specs.declared.reader.Step.the-variants.{Took, Refused}
 use Rattle.replay.specs.Replay.{Walked, fault, walked, restIn, recordAt, wholeBy, wholeOf}
 use Rattle.replay.proofs.Opening.{Whole, whole-record, record-whole, record-on}
-use Rattle.salvaging.specs.Salvage.{foundIn, foundAt}
+use Rattle.salvaging.specs.Salvage.{foundBy, foundAt}
 use Rattle.salvaging.specs.declared.search.Found.{Found}
 
 -- what was found: where it was looked for, and as replay takes it
@@ -39,7 +39,7 @@ module _ (d : Directory) (log : List ℕ) (at : ℕ) where
   found-accepted f e = by-step (stepOf d log (readerAt at true)) refl e
     where
       by-rest : (s : Stepped) → stepOf d log (readerAt at true) ≡ Took s → (g : Walked (List Written)) → restIn d log (s .reader) ≡ g
-          → foundIn at (wholeBy (s .reader) g) ≡ some f → Accepted d log at f
+          → foundBy at (wholeBy (s .reader) g) ≡ some f → Accepted d log at f
       by-rest s q (fault x) r h = let z : _≡_ {A = ℕ} 0 1 = cc in absurd (omega arith)
       by-rest s q (walked ws end) r h =
           let g : Found = record { position = at; id = s .reader .record_id; end = end } in
@@ -49,7 +49,7 @@ module _ (d : Directory) (log : List ℕ) (at : ℕ) where
           accepts f ws (ap (λ (x : Found). x .position) p)
           (record-whole d log at (f .id) ws (f .end) (record { s = s; opens = q; id = eq-eqb (s .reader .record_id) (f .id) i; rest = r ∙ ap (walked ws) n }))
 
-      by-step : (st : Step) → stepOf d log (readerAt at true) ≡ st → foundIn at (wholeOf (restIn d log) st) ≡ some f → Accepted d log at f
+      by-step : (st : Step) → stepOf d log (readerAt at true) ≡ st → foundBy at (wholeOf (restIn d log) st) ≡ some f → Accepted d log at f
       by-step (Refused x) q h = let z : _≡_ {A = ℕ} 0 1 = cc in absurd (omega arith)
       by-step (Took s) q h = by-rest s q (restIn d log (s .reader)) refl h
 
@@ -59,8 +59,8 @@ module _ (d : Directory) (log : List ℕ) (at : ℕ) where
   accepted-found id ws end e =
       let w : Whole d log at id ws end = whole-record d log at id ws end e in
       let r : LogReader = w .s .reader in
-      ap (λ (st : Step). foundIn at (wholeOf (restIn d log) st)) (w .opens)
-      ∙ ap (λ (g : Walked (List Written)). foundIn at (wholeBy r g)) (w .rest)
+      ap (λ (st : Step). foundBy at (wholeOf (restIn d log) st)) (w .opens)
+      ∙ ap (λ (g : Walked (List Written)). foundBy at (wholeBy r g)) (w .rest)
       ∙ ap (λ (i : ℕ). some (record { position = at; id = i; end = end })) (eqb-true (r .record_id) id (w .id))
 
   -- nothing is found where replay takes nothing

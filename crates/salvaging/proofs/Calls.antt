@@ -14,7 +14,7 @@ use Rattle.directory.specs.Directory.{directoryKept}
 use Rattle.directory.specs.declared.directory.Directory.{Directory}
 use Rattle.output.specs.Put.{put}
 use Rattle.replay.proofs.Opening.{record-on}
-use Rattle.salvaging.specs.Salvage.{Line, linesOf, listWords, keptBytes, Left, untouched, salvaged, salvageBy, salvageOf, leftOf}
+use Rattle.salvaging.specs.Salvage.{Line, linesOf, wordsOfLines, keptBytes, Left, untouched, salvaged, salvageBy, salvageOf, leftOf}
 use Rattle.salvaging.specs.Meaning.{Covers, covers-end, covers-kept, covers-lost}
 use Rattle.salvaging.specs.Inner.{linesIn, AllWithin, Lists, refusedWith}
 use Rattle.salvaging.specs.declared.lines.Lines.{Lines}
@@ -85,7 +85,7 @@ module _ (d : Directory) (log : List ℕ) (l : Lines) (h : Lists log l (linesOf 
           ∙ sym (if-false (ltb 64 (length (linesOf d log))) _ _ not-over
           ∙ if-false (ltb (length out) (length (keptBytes log (linesOf d log)))) _ _ (le-ltb (length out) _ (omega (arith, all-bytes))))
         where
-          words : list′ ≡ put list 0 (listWords (linesOf d log))
+          words : list′ ≡ put list 0 (wordsOfLines (linesOf d log))
           words = q ∙ ap (λ (n : ℕ). put list 0 (take (4 * n) (l .words))) (h .all (few c)) ∙ ap (put list 0) (h .words (few c))
 
           bytes : out′ ≡ put out 0 (keptBytes log (linesOf d log))

@@ -11,7 +11,7 @@ use borrow.Author.Tests.{eq-eqb, ne-eqb}
 use Rattle.words.proofs.Choices.{if-true, if-false}
 use Rattle.output.specs.Put.{put, Wrote}
 use Rattle.output.proofs.Laws.{rest, room, none-left}
-use Rattle.salvaging.specs.Salvage.{Line, kept, lost, wordsOf, listWords, bytesOf, keptBytes}
+use Rattle.salvaging.specs.Salvage.{Line, kept, lost, wordsOf, wordsOfLines, lineBytes, keptBytes}
 use Rattle.salvaging.specs.Inner.{lineOf, linesIn, AllWithin}
 
 -- what was put down as words is read back
@@ -19,15 +19,15 @@ line-back : (x : Line) (ws : List ℕ) → (lineOf (wordsOf x ++ ws) ≡ x) × (
 line-back (kept p n id) ws = (refl, refl)
 line-back (lost p n) ws = (refl, refl)
 
-lines-back : (ls : List Line) (ws : List ℕ) → linesIn (length ls) (listWords ls ++ ws) ≡ ls
-unfolding linesIn listWords
+lines-back : (ls : List Line) (ws : List ℕ) → linesIn (length ls) (wordsOfLines ls ++ ws) ≡ ls
+unfolding linesIn wordsOfLines
 lines-back [] ws = refl
 lines-back (x ∷ ls) ws =
-    let b = line-back x (listWords ls ++ ws) in
-    rw (append-assoc (wordsOf x) (listWords ls) ws, b .0, b .1) (ap (λ (l : List Line). x ∷ l) (lines-back ls ws))
+    let b = line-back x (wordsOfLines ls ++ ws) in
+    rw (append-assoc (wordsOf x) (wordsOfLines ls) ws, b .0, b .1) (ap (λ (l : List Line). x ∷ l) (lines-back ls ws))
 
 -- the words behind a list's own don't matter
-pub lines-read : (ls : List Line) (ws : List ℕ) (n : ℕ) → take n ws ≡ listWords ls → linesIn (length ls) ws ≡ ls
+pub lines-read : (ls : List Line) (ws : List ℕ) (n : ℕ) → take n ws ≡ wordsOfLines ls → linesIn (length ls) ws ≡ ls
 lines-read ls ws n e = ap (linesIn (length ls)) (sym (take-append-drop n ws) ∙ ap (λ (x : List ℕ). x ++ drop n ws) e) ∙ lines-back ls (drop n ws)
 
 -- words copied to a front
@@ -41,8 +41,8 @@ module _ (ws log : List ℕ) (at : ℕ) where
   mark : getD (drop at ws) 0 0 ≡ getD ws at 0
   mark = rw (getD-drop, add-zero)
 
-  pub lost-bytes : getD ws at 0 ≡ 0 → bytesOf log (lineOf (drop at ws)) ≡ []
-  lost-bytes e = ap (bytesOf log) (if-true (eqb (getD (drop at ws) 0 0) 0) _ _ (eq-eqb (getD (drop at ws) 0 0) 0 (mark ∙ e)))
+  pub lost-bytes : getD ws at 0 ≡ 0 → lineBytes log (lineOf (drop at ws)) ≡ []
+  lost-bytes e = ap (lineBytes log) (if-true (eqb (getD (drop at ws) 0 0) 0) _ _ (eq-eqb (getD (drop at ws) 0 0) 0 (mark ∙ e)))
 
   module _ (h : getD ws at 0 ≡ 0 → ⊥) where
     is-kept : lineOf (drop at ws) ≡ kept (getD ws (at + 1) 0) (getD ws (at + 2) 0) (getD ws (at + 3) 0)
@@ -53,10 +53,10 @@ module _ (ws log : List ℕ) (at : ℕ) where
     pub kept-within : (room : ℕ) → AllWithin room (lineOf (drop at ws) ∷ []) → getD ws (at + 1) 0 + getD ws (at + 2) 0 ≤ room
     kept-within room w = (rw is-kept at w) .0
 
-    pub kept-bytes : bytesOf log (lineOf (drop at ws)) ≡ take (getD ws (at + 1) 0 + getD ws (at + 2) 0 - getD ws (at + 1) 0) (drop (getD ws (at + 1) 0) log)
+    pub kept-bytes : lineBytes log (lineOf (drop at ws)) ≡ take (getD ws (at + 1) 0 + getD ws (at + 2) 0 - getD ws (at + 1) 0) (drop (getD ws (at + 1) 0) log)
     kept-bytes =
         let e : getD ws (at + 2) 0 ≡ getD ws (at + 1) 0 + getD ws (at + 2) 0 - getD ws (at + 1) 0 = omega arith in
-        ap (bytesOf log) is-kept ∙ ap (λ (n : ℕ). take n (drop (getD ws (at + 1) 0) log)) e
+        ap (lineBytes log) is-kept ∙ ap (λ (n : ℕ). take n (drop (getD ws (at + 1) 0) log)) e
 
 -- ---- a turn of the copying
 
@@ -92,14 +92,14 @@ module _ (ws : List ℕ) (count i : ℕ) where
     rest-within = turns .1
 
   module _ (log : List ℕ) (h : i < count) {o : List ℕ} {at : ℕ} {z : List ℕ} {e : ℕ} (w : Wrote o at (keptBytes log (linesLeft ws count i)) z e) where
-    bytes-turn : keptBytes log (linesLeft ws count i) ≡ bytesOf log (lineOf (drop (4 * i) ws)) ++ keptBytes log (linesLeft ws count (i + 1))
+    bytes-turn : keptBytes log (linesLeft ws count i) ≡ lineBytes log (lineOf (drop (4 * i) ws)) ++ keptBytes log (linesLeft ws count (i + 1))
     unfolding keptBytes
     bytes-turn = ap (keptBytes log) (lines-turn h)
 
-    pub line-room : at + length (bytesOf log (lineOf (drop (4 * i) ws))) ≤ e
-    line-room = room (bytesOf log (lineOf (drop (4 * i) ws))) (keptBytes log (linesLeft ws count (i + 1))) (rw bytes-turn at w)
+    pub line-room : at + length (lineBytes log (lineOf (drop (4 * i) ws))) ≤ e
+    line-room = room (lineBytes log (lineOf (drop (4 * i) ws))) (keptBytes log (linesLeft ws count (i + 1))) (rw bytes-turn at w)
 
-    pub line-rest : {m : List ℕ} {r : ℕ} → Wrote o at (bytesOf log (lineOf (drop (4 * i) ws))) m r → Wrote m r (keptBytes log (linesLeft ws count (i + 1))) z e
+    pub line-rest : {m : List ℕ} {r : ℕ} → Wrote o at (lineBytes log (lineOf (drop (4 * i) ws))) m r → Wrote m r (keptBytes log (linesLeft ws count (i + 1))) z e
     line-rest x = rest (rw bytes-turn at w) x
 
   pub lines-done : (log : List ℕ) → count ≤ i → {l : List ℕ} {at : ℕ} {bs m : List ℕ} {r : ℕ} → Wrote m r (keptBytes log (linesLeft ws count i)) (put l at bs) (at + length bs) → Wrote l at bs m r

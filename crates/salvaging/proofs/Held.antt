@@ -13,7 +13,7 @@ use Rattle.words.specs.Choice.{if_then_else_}
 use Rattle.words.proofs.Choices.{if-true, if-false}
 use Rattle.output.specs.Put.{put}
 use Rattle.output.proofs.Laws.{stored, _⨾_}
-use Rattle.salvaging.specs.Salvage.{Line, kept, lost, leftOut, wordsOf, listWords, keptBytes}
+use Rattle.salvaging.specs.Salvage.{Line, kept, lost, leftOut, wordsOf, wordsOfLines, keptBytes}
 use Rattle.salvaging.specs.Inner.{withWords, upTo, covering, withRecord, Lists}
 use Rattle.salvaging.specs.declared.lines.Lines.{Lines}
 
@@ -72,7 +72,7 @@ record-bytes l from end id =
 pub record Going (l : Lines) (left all : List Line) : Type 0 where
   pub room : l .count ≤ 64
   pub counts : l .count + length left ≡ length all
-  pub words : take (4 * l .count) (l .words) ++ listWords left ≡ listWords all
+  pub words : take (4 * l .count) (l .words) ++ wordsOfLines left ≡ wordsOfLines all
 
 pub record Over (l : Lines) (all : List Line) : Type 0 where
   pub count : l .count ≡ 65
@@ -98,7 +98,7 @@ take-put w at n bs e h =
 module _ (l : Lines) (x : Line) (left all : List Line) where
   -- a line more is held, or there are more than 64
   pub line-held : Held l (x ∷ left) all → Held (withWords l (wordsOf x)) left all
-  unfolding listWords
+  unfolding wordsOfLines
   line-held h = by (ltb (l .count) 64) refl (h .state)
     where
       next : Lines
@@ -114,8 +114,8 @@ module _ (l : Lines) (x : Line) (left all : List Line) where
           room = omega arith;
           counts = omega (arith, g .counts);
           words =
-              ap (λ (y : List ℕ). y ++ listWords left) (take-put (l .words) (4 * l .count) (4 * (l .count + 1)) (wordsOf x) (omega (arith, four x)) (omega (arith, h .long)))
-              ∙ append-assoc (take (4 * l .count) (l .words)) (wordsOf x) (listWords left) ∙ g .words;
+              ap (λ (y : List ℕ). y ++ wordsOfLines left) (take-put (l .words) (4 * l .count) (4 * (l .count + 1)) (wordsOf x) (omega (arith, four x)) (omega (arith, h .long)))
+              ∙ append-assoc (take (4 * l .count) (l .words)) (wordsOf x) (wordsOfLines left) ∙ g .words;
         });
       }
 
@@ -141,7 +141,7 @@ record-held l from end id ls all h =
 -- ---- all of a list is held
 
 pub held-all : (log : List ℕ) (l : Lines) (all : List Line) → Held l [] all → (length all ≤ 64 → l .bytes ≡ length (keptBytes log all)) → Lists log l all
-unfolding listWords
+unfolding wordsOfLines
 held-all log l all h b = by (h .state)
   where
     by : Going l [] all ⊎ Over l all → Lists log l all

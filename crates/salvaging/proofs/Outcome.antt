@@ -17,7 +17,7 @@ use Rattle.directory.specs.Directory.{directoryKept}
 use Rattle.directory.specs.declared.directory.Directory.{Directory}
 use Rattle.output.specs.Put.{put}
 use Rattle.replay.proofs.Opening.{record-on}
-use Rattle.salvaging.specs.Salvage.{Line, kept, lost, linesOf, listWords, keptBytes, Left, untouched, salvaged, salvageBy, salvageOf}
+use Rattle.salvaging.specs.Salvage.{Line, kept, lost, linesOf, wordsOfLines, keptBytes, Left, untouched, salvaged, salvageBy, salvageOf}
 use Rattle.salvaging.specs.Meaning.{Covers, covers-end, covers-kept, covers-lost, InTurn, turn-end, turn-lost, turn-kept, Salvages}
 use Rattle.salvaging.proofs.Listed.{lines-cover}
 use Rattle.salvaging.proofs.Moved.{record-stands}
@@ -45,8 +45,8 @@ ends-at e t = rw e at t
 
 -- ---- a list's words
 
-four-each : (ls : List Line) → length (listWords ls) ≡ 4 * length ls
-unfolding listWords
+four-each : (ls : List Line) → length (wordsOfLines ls) ≡ 4 * length ls
+unfolding wordsOfLines
 four-each [] = refl
 four-each (kept p n id ∷ ls) = omega (arith, four-each ls)
 four-each (lost p n ∷ ls) = omega (arith, four-each ls)
@@ -93,7 +93,7 @@ module _ (d : Directory) (log out list : List ℕ) where
       by true false q true r h = absurd (omega arith)
       by true false q false r h =
           let o = put-front out (keptBytes log ls) (length (keptBytes log ls)) refl in
-          let w = put-front list (listWords ls) (4 * length ls) (four-each ls) in
+          let w = put-front list (wordsOfLines ls) (4 * length ls) (four-each ls) in
           record {
             lines = refl;
             few = ltb-false 64 (length ls) q;

@@ -11,7 +11,7 @@ use lib.Seq.{length-take-le}
 use Rattle.words.specs.Choice.{if_then_else_}
 use Rattle.words.proofs.Choices.{if-true, if-false}
 use Rattle.directory.specs.declared.directory.Directory.{Directory}
-use Rattle.salvaging.specs.Salvage.{foundFrom, foundOn, Line, kept, lost, leftOut, linesBetween, linesOf, listWords, keptBytes}
+use Rattle.salvaging.specs.Salvage.{foundFrom, foundOn, Line, kept, lost, leftOut, linesBetween, linesOf, wordsOfLines, keptBytes}
 use Rattle.salvaging.specs.Inner.{searchIn, Inside, noLines, upTo, withRecord, Ruled, Lists}
 use Rattle.salvaging.specs.declared.lines.Lines.{Lines}
 use Rattle.salvaging.specs.declared.search.Found.{Found}

@@ -18,8 +18,8 @@ use Rattle.replay.specs.Replay.{restIn, wholeOf}
 use Rattle.replay.specs.declared.whole.WholeRecord.{WholeRecord}
 use Rattle.replay.specs.declared.whole.WholeAnswer.{WholeAnswer}
 use Rattle.replay.specs.declared.whole.WholeAnswer.the-variants.{Whole, NotWhole}
-use Rattle.salvaging.specs.Salvage.{foundIn, foundAt, byFound, foundFrom, foundOn}
-use Rattle.salvaging.specs.Inner.{NextBegin, isOpen, seen, searchFrom, searchIn, firstOf, Inside}
+use Rattle.salvaging.specs.Salvage.{foundBy, foundAt, byFound, foundFrom, foundOn}
+use Rattle.salvaging.specs.Inner.{NextBegin, undecided, seen, searchFrom, searchIn, firstFound, Inside}
 use Rattle.salvaging.specs.declared.search.Found.{Found}
 use Rattle.salvaging.specs.declared.search.Search.{Search}
 use Rattle.salvaging.specs.declared.search.Search.the-variants.{Record, Open, Nothing}
@@ -97,14 +97,14 @@ module _ (more : Bool) (d : Directory) (log : List ℕ) where
     seek-record w e = sym (at-tag ∙ ap (seen more at (searchIn more d log (at + 1))) (sym e))
 
     module _ (x : Refusal) (e : NotWhole x ≡ here d log at) where
-      refused : searchIn more d log at ≡ (if isOpen more x then Open at else searchIn more d log (at + 1))
+      refused : searchIn more d log at ≡ (if undecided more x then Open at else searchIn more d log (at + 1))
       refused = at-tag ∙ ap (seen more at (searchIn more d log (at + 1))) (sym e)
 
-      seek-open : isOpen more x ≡ true → Open at ≡ searchIn more d log at
-      seek-open b = sym (refused ∙ if-true (isOpen more x) _ _ b)
+      seek-open : undecided more x ≡ true → Open at ≡ searchIn more d log at
+      seek-open b = sym (refused ∙ if-true (undecided more x) _ _ b)
 
-      seek-on : isOpen more x ≡ false → searchIn more d log at ≡ searchIn more d log (at + 1)
-      seek-on b = refused ∙ if-false (isOpen more x) _ _ b
+      seek-on : undecided more x ≡ false → searchIn more d log at ≡ searchIn more d log (at + 1)
+      seek-on b = refused ∙ if-false (undecided more x) _ _ b
 
 -- what was seen, by what it is
 module _ (s : Search) (at room : ℕ) (i : Inside s at room) where
@@ -119,7 +119,7 @@ module _ (d : Directory) (log : List ℕ) (at : ℕ) where
   whole-inside : (w : WholeRecord) → Whole w ≡ here d log at → (at < w .end) × (w .end ≤ length log)
   unfolding foundAt
   whole-inside w e =
-      let a = found-accepted d log at (record { position = at; id = w .opened .record_id; end = w .end }) (ap (foundIn at) (sym e)) in
+      let a = found-accepted d log at (record { position = at; id = w .opened .record_id; end = w .end }) (ap (foundBy at) (sym e)) in
       (a .forward, a .inside)
 
 -- ---- a turn of the search
@@ -148,10 +148,10 @@ module _ (more : Bool) (d : Directory) (log : List ℕ) (from : ℕ) where
         (seek-record more d log at (s .tag l) w e ∙ sym (s .same), (s .behind, i .0, i .1))
 
     module _ (x : Refusal) (e : NotWhole x ≡ here d log at) where
-      pub seeks-open : isOpen more x ≡ true → Answers (Open at)
+      pub seeks-open : undecided more x ≡ true → Answers (Open at)
       seeks-open b = (seek-open more d log at (s .tag l) x e b ∙ sym (s .same), (s .behind, l))
 
-      pub seeks-on : isOpen more x ≡ false → (r : ℕ) → NextBegin log (at + 1) r → Seeks r
+      pub seeks-on : undecided more x ≡ false → (r : ℕ) → NextBegin log (at + 1) r → Seeks r
       seeks-on b r n = record {
         behind = omega (arith, s .behind, n .behind);
         tag = n .tag;
@@ -160,31 +160,31 @@ module _ (more : Bool) (d : Directory) (log : List ℕ) (from : ℕ) where
 
 -- ---- the first of the records
 
-is-found : (d : Directory) (log : List ℕ) (at : ℕ) → foundAt d log at ≡ foundIn at (here d log at)
+is-found : (d : Directory) (log : List ℕ) (at : ℕ) → foundAt d log at ≡ foundBy at (here d log at)
 unfolding foundAt
 is-found d log at = refl
 
 module _ (d : Directory) (log : List ℕ) where
-  first-from : (n at : ℕ) → searchFrom n false d log at ≡ firstOf (foundFrom n d log at)
+  first-from : (n at : ℕ) → searchFrom n false d log at ≡ firstFound (foundFrom n d log at)
   unfolding searchFrom foundFrom
   first-from zero at = refl
   first-from (suc n) at = by (eqb (getD log at 0) 1) refl (first-from n (at + 1))
     where
-      checked : (w : WholeAnswer) → searchFrom n false d log (at + 1) ≡ firstOf (foundFrom n d log (at + 1))
-          → seen false at (searchFrom n false d log (at + 1)) w ≡ firstOf (byFound (foundFrom n d log) at (foundIn at w))
+      checked : (w : WholeAnswer) → searchFrom n false d log (at + 1) ≡ firstFound (foundFrom n d log (at + 1))
+          → seen false at (searchFrom n false d log (at + 1)) w ≡ firstFound (byFound (foundFrom n d log) at (foundBy at w))
       checked (Whole w) ih = refl
       checked (NotWhole x) ih = ih
 
-      tagged : searchFrom n false d log (at + 1) ≡ firstOf (foundFrom n d log (at + 1))
-          → seen false at (searchFrom n false d log (at + 1)) (here d log at) ≡ firstOf (byFound (foundFrom n d log) at (foundAt d log at))
-      tagged ih = checked (here d log at) ih ∙ ap (λ (o : Option Found). firstOf (byFound (foundFrom n d log) at o)) (sym (is-found d log at))
+      tagged : searchFrom n false d log (at + 1) ≡ firstFound (foundFrom n d log (at + 1))
+          → seen false at (searchFrom n false d log (at + 1)) (here d log at) ≡ firstFound (byFound (foundFrom n d log) at (foundAt d log at))
+      tagged ih = checked (here d log at) ih ∙ ap (λ (o : Option Found). firstFound (byFound (foundFrom n d log) at o)) (sym (is-found d log at))
 
-      by : (b : Bool) → eqb (getD log at 0) 1 ≡ b → searchFrom n false d log (at + 1) ≡ firstOf (foundFrom n d log (at + 1))
-          → searchFrom (suc n) false d log at ≡ firstOf (foundFrom (suc n) d log at)
+      by : (b : Bool) → eqb (getD log at 0) 1 ≡ b → searchFrom n false d log (at + 1) ≡ firstFound (foundFrom n d log (at + 1))
+          → searchFrom (suc n) false d log at ≡ firstFound (foundFrom (suc n) d log at)
       by true q ih = if-true (eqb (getD log at 0) 1) _ _ q ∙ tagged ih
       by false q ih =
           if-false (eqb (getD log at 0) 1) _ _ q ∙ ih
-          ∙ ap (λ (o : Option Found). firstOf (byFound (foundFrom n d log) at o)) (sym (untagged-none d log at (eqb-false (getD log at 0) 1 q)))
+          ∙ ap (λ (o : Option Found). firstFound (byFound (foundFrom n d log) at o)) (sym (untagged-none d log at (eqb-false (getD log at 0) 1 q)))
 
   first-rest : (n at : ℕ) → length log - at < n → (f : Found) (fs : List Found) → foundFrom n d log at ≡ f ∷ fs → fs ≡ foundOn d log (f .end)
   unfolding foundFrom
@@ -211,7 +211,7 @@ module _ (d : Directory) (log : List ℕ) where
   pub first-found : (at : ℕ) (f : Found) → Record f ≡ searchIn false d log at → foundOn d log at ≡ f ∷ foundOn d log (f .end)
   first-found at f e = by (foundOn d log at) refl (e ∙ first-from (suc (length log)) at)
     where
-      by : (fs : List Found) → foundOn d log at ≡ fs → Record f ≡ firstOf fs → foundOn d log at ≡ f ∷ foundOn d log (f .end)
+      by : (fs : List Found) → foundOn d log at ≡ fs → Record f ≡ firstFound fs → foundOn d log at ≡ f ∷ foundOn d log (f .end)
       by [] q h = let z : _≡_ {A = ℕ} 0 1 = cc in absurd (omega arith)
       by (g ∷ gs) q h =
           let s : g ≡ f = cc in
@@ -221,7 +221,7 @@ module _ (d : Directory) (log : List ℕ) where
   pub none-found : (at : ℕ) → Nothing ≡ searchIn false d log at → foundOn d log at ≡ []
   none-found at e = by (foundOn d log at) refl (e ∙ first-from (suc (length log)) at)
     where
-      by : (fs : List Found) → foundOn d log at ≡ fs → Nothing ≡ firstOf fs → foundOn d log at ≡ []
+      by : (fs : List Found) → foundOn d log at ≡ fs → Nothing ≡ firstFound fs → foundOn d log at ≡ []
       by [] q h = q
       by (g ∷ gs) q h = let z : _≡_ {A = ℕ} 0 1 = cc in absurd (omega arith)
 
@@ -229,6 +229,6 @@ module _ (d : Directory) (log : List ℕ) where
   pub none-open : (at p : ℕ) → Open p ≡ searchIn false d log at → ⊥
   none-open at p e = by (foundOn d log at) (e ∙ first-from (suc (length log)) at)
     where
-      by : (fs : List Found) → Open p ≡ firstOf fs → ⊥
+      by : (fs : List Found) → Open p ≡ firstFound fs → ⊥
       by [] h = let z : _≡_ {A = ℕ} 0 1 = cc in omega arith
       by (g ∷ gs) h = let z : _≡_ {A = ℕ} 0 1 = cc in omega arith

@@ -15,7 +15,7 @@ use Rattle.replay.specs.Replay.{restIn, wholeOf}
 use Rattle.replay.specs.declared.whole.WholeAnswer.{WholeAnswer}
 use Rattle.replay.specs.declared.whole.WholeAnswer.the-variants.{Whole, NotWhole}
 use Rattle.output.specs.Put.{put}
-use Rattle.salvaging.specs.Salvage.{Line, kept, lost, listWords, keptBytes}
+use Rattle.salvaging.specs.Salvage.{Line, kept, lost, wordsOfLines, keptBytes}
 use Rattle.salvaging.specs.declared.lines.Lines.{Lines}
 use Rattle.salvaging.specs.declared.salvaged.Salvaged.{Salvaged}
 use Rattle.salvaging.specs.declared.search.Found.{Found}
@@ -31,13 +31,13 @@ pub record NextBegin (log : List ℕ) (from r : ℕ) : Type 0 where
   pub tag : r < length log → getD log r 0 ≡ 1
 
 -- a refusal that more bytes could lift: 1 and 2
-abbrev pub isOpen : Bool → Refusal → Bool
-isOpen more x = more && leb (numberOf (x .answer)) 2
+abbrev pub undecided : Bool → Refusal → Bool
+undecided more x = more && leb (numberOf (x .answer)) 2
 
 -- at a begin tag's byte: the record; where more bytes may follow and could decide, that it is open; else what comes behind
 abbrev pub seen : Bool → ℕ → Search → WholeAnswer → Search
 seen more at rest (Whole w) = Record (record { position = at; id = w .opened .record_id; end = w .end })
-seen more at rest (NotWhole x) = if isOpen more x then Open at else rest
+seen more at rest (NotWhole x) = if undecided more x then Open at else rest
 
 -- the first record from a position on; at most n positions are tried
 unfoldable pub searchFrom : ℕ → Bool → Directory → List ℕ → ℕ → Search
@@ -51,9 +51,9 @@ abbrev pub searchIn : Bool → Directory → List ℕ → ℕ → Search
 searchIn more d log at = searchFrom (suc (length log)) more d log at
 
 -- the first of a list
-abbrev pub firstOf : List Found → Search
-firstOf [] = Nothing
-firstOf (f ∷ fs) = Record f
+abbrev pub firstFound : List Found → Search
+firstFound [] = Nothing
+firstFound (f ∷ fs) = Record f
 
 -- what is seen lies behind the position where the search began, and in the log
 abbrev pub Inside : Search → ℕ → ℕ → Type 0
@@ -110,7 +110,7 @@ AllWithin room (lost p n ∷ ls) = AllWithin room ls
 pub record Lists (log : List ℕ) (l : Lines) (ls : List Line) : Type 0 where
   pub over : 64 < length ls → 64 < l .count
   pub all : length ls ≤ 64 → l .count ≡ length ls
-  pub words : length ls ≤ 64 → take (4 * length ls) (l .words) ≡ listWords ls
+  pub words : length ls ≤ 64 → take (4 * length ls) (l .words) ≡ wordsOfLines ls
   pub bytes : length ls ≤ 64 → l .bytes ≡ length (keptBytes log ls)
 
 -- a refusal, as it is handed back

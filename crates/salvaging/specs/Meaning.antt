@@ -6,7 +6,7 @@ use lib.ListN.{length, take, drop}
 use Rattle.directory.specs.declared.directory.Directory.{Directory}
 use Rattle.effect.specs.Effect.{Written}
 use Rattle.replay.specs.Replay.{walked, recordAt}
-use Rattle.salvaging.specs.Salvage.{Line, kept, lost, linesOf, listWords, keptBytes, Left}
+use Rattle.salvaging.specs.Salvage.{Line, kept, lost, linesOf, wordsOfLines, keptBytes, Left}
 
 -- no whole record, whatever its id, begins at any of n positions
 abbrev pub NoneBegins : Directory → List ℕ → ℕ → ℕ → Type 0
@@ -43,7 +43,7 @@ pub record Salvages (d : Directory) (log out list : List ℕ) (s : Left) : Type 
   pub room : s .written ≤ length out
   pub front : take (s .written) (s .out) ≡ keptBytes log (linesOf d log)
   pub behind : drop (s .written) (s .out) ≡ drop (s .written) out
-  pub listed : take (4 * s .lines) (s .list) ≡ listWords (linesOf d log)
+  pub listed : take (4 * s .lines) (s .list) ≡ wordsOfLines (linesOf d log)
   pub unlisted : drop (4 * s .lines) (s .list) ≡ drop (4 * s .lines) list
   pub in-turn : InTurn d log (s .out) 0 (linesOf d log) (s .written)
 

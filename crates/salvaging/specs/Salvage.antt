@@ -21,14 +21,14 @@ use Rattle.salvaging.specs.declared.search.Found.{Found}
 -- ---- the records
 
 -- what the check of a position found there: the record's id and the place behind it, or none
-abbrev pub foundIn : ℕ → WholeAnswer → Option Found
-foundIn at (NotWhole x) = none
-foundIn at (Whole w) = some (record { position = at; id = w .opened .record_id; end = w .end })
+abbrev pub foundBy : ℕ → WholeAnswer → Option Found
+foundBy at (NotWhole x) = none
+foundBy at (Whole w) = some (record { position = at; id = w .opened .record_id; end = w .end })
 
 -- "a whole record acceptable under the directory begins, with any id": as replay reads it, the test of the id left out. So it is what replay
 -- takes under some id (`found-accepted`, `accepted-found`, proofs/Accepted)
 unfoldable pub foundAt : Directory → List ℕ → ℕ → Option Found
-foundAt d log at = foundIn at (wholeOf (restIn d log) (stepOf d log (readerAt at true)))
+foundAt d log at = foundBy at (wholeOf (restIn d log) (stepOf d log (readerAt at true)))
 
 -- "after one is found it continues behind it", else at the next byte
 abbrev pub byFound : (ℕ → List Found) → ℕ → Option Found → List Found
@@ -70,21 +70,21 @@ wordsOf (kept p n id) = 1 ∷ p ∷ n ∷ id ∷ []
 wordsOf (lost p n) = 0 ∷ p ∷ n ∷ 0 ∷ []
 
 -- the list in words
-unfoldable pub listWords : List Line → List ℕ
-listWords [] = []
-listWords (l ∷ ls) = wordsOf l ++ listWords ls
+unfoldable pub wordsOfLines : List Line → List ℕ
+wordsOfLines [] = []
+wordsOfLines (l ∷ ls) = wordsOf l ++ wordsOfLines ls
 
 -- ---- the output
 
 -- the bytes of a record that is kept
-abbrev pub bytesOf : List ℕ → Line → List ℕ
-bytesOf log (kept p n id) = take n (drop p log)
-bytesOf log (lost p n) = []
+abbrev pub lineBytes : List ℕ → Line → List ℕ
+lineBytes log (kept p n id) = take n (drop p log)
+lineBytes log (lost p n) = []
 
 -- "It copies those records into an output in order"
 unfoldable pub keptBytes : List ℕ → List Line → List ℕ
 keptBytes log [] = []
-keptBytes log (l ∷ ls) = bytesOf log l ++ keptBytes log ls
+keptBytes log (l ∷ ls) = lineBytes log l ++ keptBytes log ls
 
 -- ---- the call
 
@@ -107,7 +107,7 @@ salvaged log ls out list = record {
   lines = length ls;
   written = length (keptBytes log ls);
   out = put out 0 (keptBytes log ls);
-  list = put list 0 (listWords ls);
+  list = put list 0 (wordsOfLines ls);
 }
 
 -- "At most 64 lines; more gives 9, a short output 10, 9 first"

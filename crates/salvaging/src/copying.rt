@@ -5,12 +5,12 @@ ghost use Prim.Native.Nat.{_+_, _*_, _<_, _≤_};
 ghost use lib.ListN.{length, drop};
 ghost use Rattle.output.specs.Put.{put, Wrote};
 ghost use Rattle.salvaging.specs.Inner.{lineOf, linesIn, AllWithin};
-ghost use Rattle.salvaging.specs.Salvage.{bytesOf, keptBytes};
+ghost use Rattle.salvaging.specs.Salvage.{lineBytes, keptBytes};
 
 // The record of one line, if it has one, behind those before it.
 fn put_record(words: &[u64; 256], i: usize, log: &[u8], out: &mut [u8], at: usize) -> usize
-    requires { ⌜ (i < 64) × (AllWithin (length (now log)) (lineOf (drop (4 * i) (now words)) ∷ [])) × (at + length (bytesOf (now log) (lineOf (drop (4 * i) (now words)))) ≤ length (now out)) ⌝ }
-    ensures { λ r. ⌜ Wrote (now (out .entry)) at (bytesOf (now (log .entry)) (lineOf (drop (4 * i) (now (words .entry))))) (now (out .exit)) r ⌝ }
+    requires { ⌜ (i < 64) × (AllWithin (length (now log)) (lineOf (drop (4 * i) (now words)) ∷ [])) × (at + length (lineBytes (now log) (lineOf (drop (4 * i) (now words)))) ≤ length (now out)) ⌝ }
+    ensures { λ r. ⌜ Wrote (now (out .entry)) at (lineBytes (now (log .entry)) (lineOf (drop (4 * i) (now (words .entry))))) (now (out .exit)) r ⌝ }
 {
     let row = 4 * i;
     if words[row] == 0 {

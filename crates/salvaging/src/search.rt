@@ -4,7 +4,7 @@ ghost use mathlib.Core.Bool.{true};
 ghost use lib.ListN.{length};
 ghost use Rattle.directory.specs.Directory.{directoryKept};
 ghost use Rattle.directory.specs.Inner.{directoryIn, Flat};
-ghost use Rattle.salvaging.specs.Inner.{NextBegin, isOpen, searchIn, Inside};
+ghost use Rattle.salvaging.specs.Inner.{NextBegin, undecided, searchIn, Inside};
 use answer::Refusal;
 use directory::Directory;
 use replay::WholeAnswer;
@@ -38,7 +38,7 @@ fn next_begin(log: &[u8], from: usize) -> usize
 }
 
 fn is_open(more: bool, x: Refusal) -> bool
-    ensures { λ r. ⌜ r ≡ isOpen more x ⌝ }
+    ensures { λ r. ⌜ r ≡ undecided more x ⌝ }
 {
     let answer = x.answer;
     if more { answer.number() <= 2 } else { false }

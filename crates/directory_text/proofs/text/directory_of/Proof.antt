@@ -4,14 +4,14 @@ use Prim.Native.Nat.{_+_, _-_, _≤_}
 use native.Mathlib.Omega.{arith}
 use borrow.Author.Needs.{needs}
 use lib.ListN.{length, drop}
-use Rattle.directory_text.specs.Scan.{linesOf}
+use Rattle.directory_text.specs.Scan.{textLines}
 use Rattle.directory_text.specs.Text.{fromLines, parsed}
 use Rattle.directory_text.proofs.Whole.{line-stops, line-goes, line-counts, lines-end, all-lines}
 use Rattle.directory_text.proofs.text.directory_of.Statement.{statement}
 use Rattle.directory_text.proofs.text.directory_of.Tie as tie
 
 abbrev Inv-loop : tie.InvT-loop
-Inv-loop text so-far₀ at₀ so-far at = (so-far .line ≤ at) × (at ≤ length text + 1) × (fromLines so-far (linesOf (drop at text)) ≡ parsed text)
+Inv-loop text so-far₀ at₀ so-far at = (so-far .line ≤ at) × (at ≤ length text + 1) × (fromLines so-far (textLines (drop at text)) ≡ parsed text)
 
 abbrev μ-loop : tie.MeasureT-loop
 μ-loop text so-far₀ at₀ so-far at = length text + 1 - at

@@ -1,7 +1,7 @@
 -- `named_at` meets its contract: one line a tag. Assumes nothing.
 use mathlib.Core.Path.{refl, _∙_}
 use denote.Ref.{now}
-use Rattle.record.specs.Inner.{namedBy}
+use Rattle.record.specs.Inner.{namedByTag}
 use Rattle.record.proofs.Naming.{unnamed, named-tag, named-none}
 use borrow.Author.Needs.{needs}
 use Rattle.record.proofs.search.named_at.Statement.{statement}
@@ -20,23 +20,23 @@ shared-slice-read-match : tie.Need-shared-slice-read-match
 shared-slice-read-match c = search needs
 
 returns-2 : tie.Need-returns-2
-unfolding namedBy
+unfolding namedByTag
 returns-2 c = named-tag (now (c .before .before .before .before .before .args .log)) (c .before .before .before .before .before .args .at) 2 _ (c .match .keys1) (c .before .before .number-at .ensures)
 
 returns-3 : tie.Need-returns-3
-unfolding namedBy
+unfolding namedByTag
 returns-3 c = named-tag (now (c .before .before .before .before .before .args .log)) (c .before .before .before .before .before .args .at) 3 _ (c .match .keys2) (c .before .before .number-at .ensures)
 
 returns-4 : tie.Need-returns-4
-unfolding namedBy
+unfolding namedByTag
 returns-4 c = named-tag (now (c .before .before .before .before .before .args .log)) (c .before .before .before .before .before .args .at) 5 _ (c .match .keys3) (c .before .before .number-at .ensures)
 
 returns-5 : tie.Need-returns-5
-unfolding namedBy
+unfolding namedByTag
 returns-5 c = named-tag (now (c .before .before .before .before .before .args .log)) (c .before .before .before .before .before .args .at) 6 _ (c .match .keys4) (c .before .before .number-at .ensures)
 
 returns-6 : tie.Need-returns-6
-unfolding namedBy
+unfolding namedByTag
 returns-6 c = named-tag (now (c .before .before .before .before .before .args .log)) (c .before .before .before .before .before .args .at) 7 _ (c .match .keys5) (c .before .before .number-at .ensures)
 
 returns-7 : tie.Need-returns-7

@@ -5,7 +5,7 @@ use native.Mathlib.Omega.{arith}
 use denote.Ref.{now}
 use lib.ListN.{length, getD, take, drop}
 use Rattle.output.proofs.Laws.{wrote-nil}
-use Rattle.salvaging.specs.Salvage.{bytesOf}
+use Rattle.salvaging.specs.Salvage.{lineBytes}
 use Rattle.salvaging.specs.Inner.{lineOf}
 use Rattle.salvaging.proofs.Copied.{lost-bytes, kept-within, kept-bytes}
 use borrow.Author.Needs.{needs}
@@ -53,7 +53,7 @@ inside c =
 
 -- and these are its bytes
 bytes : (c : tie.Else1)
-    → bytesOf (now (c .before .before .before .before .args .log)) (lineOf (drop (4 * c .before .before .before .before .args .i) (now (c .before .before .before .before .args .words))))
+    → lineBytes (now (c .before .before .before .before .args .log)) (lineOf (drop (4 * c .before .before .before .before .args .i) (now (c .before .before .before .before .args .words))))
     ≡ take (getD (now (c .before .before .before .before .args .words)) (4 * c .before .before .before .before .args .i + 1) 0 + getD (now (c .before .before .before .before .args .words)) (4 * c .before .before .before .before .args .i + 2) 0 - getD (now (c .before .before .before .before .args .words)) (4 * c .before .before .before .before .args .i + 1) 0) (drop (getD (now (c .before .before .before .before .args .words)) (4 * c .before .before .before .before .args .i + 1) 0) (now (c .before .before .before .before .args .log)))
 bytes c =
     let a = c .before .before .before .before .args in
