@@ -10,7 +10,7 @@ use Rattle.words.specs.Choice.{if_then_else_}
 use Rattle.words.proofs.Choices.{if-true, if-false}
 use Rattle.checksum.specs.Checksum.{allOnes, updated}
 use Rattle.directory.specs.declared.directory.Directory.{Directory}
-use Rattle.record.specs.Next.{forwardTo, beginning, readerAt, openingOf, stepOf}
+use Rattle.record.specs.Next.{forwardTo, beginning, readerAt, stepOf}
 use Rattle.answer.specs.Answer.{refusal}
 use Rattle.answer.specs.declared.answer.Answer.the-variants.{WrongId}
 use Rattle.answer.specs.declared.answer.Refusal.{Refusal}
@@ -23,11 +23,6 @@ use Rattle.effect.specs.Effect.{Written}
 use Rattle.replay.specs.Inner.{Opened}
 use Rattle.replay.specs.Replay.{fault, walked, restOf, byOpening, recordAt}
 use Rattle.replay.proofs.Places.{EndsIn, ends-in}
-
--- no directory has a say in an opening
-pub opening-step : (d : Directory) (log : List ℕ) (at : ℕ) (validate : Bool) → openingOf log (readerAt at validate) ≡ stepOf d log (readerAt at validate)
-unfolding openingOf stepOf
-opening-step d log at validate = refl
 
 module _ (d : Directory) (log : List ℕ) (at : ℕ) where
   opened-read : {s : Stepped} → at < s .reader .position → s .reader .position ≤ length log → Read d log (readerAt at true) s → Opened log at (s .reader)

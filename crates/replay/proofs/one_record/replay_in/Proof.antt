@@ -1,5 +1,5 @@
 -- `replay_in` meets its contract. Assumes nothing.
-use mathlib.Core.Path.{_≡_, sym, ap, _∙_}
+use mathlib.Core.Path.{_≡_, refl, sym, ap, _∙_}
 use mathlib.Core.Bool.{true}
 use denote.Ref.{now}
 use Rattle.directory.specs.Inner.{directoryIn}
@@ -8,7 +8,8 @@ use Rattle.record.specs.Next.{readerAt, openingOf, stepOf}
 use Rattle.record.specs.declared.reader.LogReader.{LogReader}
 use Rattle.replay.specs.declared.check.EndAnswer.the-variants.{NotEnded}
 use Rattle.replay.specs.Replay.{imageAfter, endIn}
-use Rattle.replay.proofs.Opening.{opening-step, opening, record-refused, record-wrong, record-opened}
+use Rattle.record.proofs.Steps.{step-opens}
+use Rattle.replay.proofs.Opening.{opening, record-refused, record-wrong, record-opened}
 use borrow.Author.Needs.{needs}
 use Rattle.replay.proofs.one_record.replay_in.Statement.{statement}
 use Rattle.replay.proofs.one_record.replay_in.Tie as tie
@@ -23,7 +24,7 @@ open-requires c κs = search needs
 stepped : (u : tie.After-open) → u .open .result ≡ stepOf (directoryIn (now (u .before .before .before .before .args .t))) (now (u .before .before .before .before .args .log)) (readerAt (u .before .before .before .before .args .at) true)
 stepped u =
     let a = u .before .before .before .before .args in
-    u .open .ensures ∙ ap (λ (r : LogReader). openingOf (now (a .log)) r) (u .before .new .ensures) ∙ opening-step (directoryIn (now (a .t))) (now (a .log)) (a .at) true
+    u .open .ensures ∙ ap (λ (r : LogReader). openingOf (now (a .log)) r) (u .before .new .ensures) ∙ sym (step-opens (directoryIn (now (a .t))) (now (a .log)) (readerAt (a .at) true) refl)
 
 enum-known-x : tie.Need-enum-known-x
 enum-known-x c = search needs

@@ -1,5 +1,5 @@
 -- `check_record_in` meets its contract. Assumes nothing.
-use mathlib.Core.Path.{_≡_, sym, ap, _∙_}
+use mathlib.Core.Path.{_≡_, refl, sym, ap, _∙_}
 use mathlib.Core.Bool.{true}
 use Prim.Native.Nat.{suc}
 use denote.Ref.{now}
@@ -8,7 +8,8 @@ use lib.ListN.{length}
 use Rattle.record.specs.Next.{readerAt, openingOf, stepOf}
 use Rattle.record.specs.declared.reader.LogReader.{LogReader}
 use Rattle.replay.specs.Replay.{restOf, wholeOf}
-use Rattle.replay.proofs.Opening.{opening-step, opening}
+use Rattle.record.proofs.Steps.{step-opens}
+use Rattle.replay.proofs.Opening.{opening}
 use Rattle.replay.proofs.AnyId.{whole-not, whole-is}
 use borrow.Author.Needs.{needs}
 use Rattle.replay.proofs.whole.check_record_in.Statement.{statement}
@@ -24,7 +25,7 @@ open-requires c κs = search needs
 stepped : (u : tie.After-open) → u .open .result ≡ stepOf (directoryIn (now (u .before .before .before .args .t))) (now (u .before .before .before .args .log)) (readerAt (u .before .before .before .args .at) true)
 stepped u =
     let a = u .before .before .before .args in
-    u .open .ensures ∙ ap (λ (r : LogReader). openingOf (now (a .log)) r) (u .before .new .ensures) ∙ opening-step (directoryIn (now (a .t))) (now (a .log)) (a .at) true
+    u .open .ensures ∙ ap (λ (r : LogReader). openingOf (now (a .log)) r) (u .before .new .ensures) ∙ sym (step-opens (directoryIn (now (a .t))) (now (a .log)) (readerAt (a .at) true) refl)
 
 enum-known-x : tie.Need-enum-known-x
 enum-known-x c = search needs
