@@ -1,12 +1,14 @@
-// The calls of reader and replay, in the form that the script asks for.
+// The calls of reader, replay and salvage, in the form that the script asks for.
 use super::slices::next;
 use super::slices::replay;
 use super::slices::run;
+use super::slices::salvage;
 use super::tables::Tables;
 use record::LogReader;
 use record::Step;
 use replay::Ran;
 use replay::Replayed;
+use salvaging::Salvaged;
 
 impl Tables {
     pub fn next(self, reader: LogReader, log: &[u8]) -> Step {
@@ -31,5 +33,13 @@ impl Tables {
             return run(rows, self.shown(), log, at, expected, image);
         }
         replay::run(self.directory(), log, at, expected, image)
+    }
+
+    pub fn salvage(self, log: &[u8], out: &mut [u8], list: &mut [u64]) -> Salvaged {
+        if self.lent {
+            let rows = self.rows;
+            return salvage(rows, self.shown(), log, out, list);
+        }
+        salvaging::salvage(self.directory(), log, out, list)
     }
 }

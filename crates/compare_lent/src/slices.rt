@@ -16,6 +16,7 @@ use record::LogReader;
 use record::Step;
 use replay::Ran;
 use replay::Replayed;
+use salvaging::Salvaged;
 
 pub fn next(reader: LogReader, rows: [TableDescription; 17], n: usize, log: &[u8]) -> Step
     requires { ⌜ n ≤ 17 ⌝ }
@@ -47,6 +48,18 @@ pub fn run(
     requires { ⌜ n ≤ 17 ⌝ }
 {
     lent::run(&rows[..n], log, at, expected, image)
+}
+
+pub fn salvage(
+    rows: [TableDescription; 17],
+    n: usize,
+    log: &[u8],
+    out: &mut [u8],
+    list: &mut [u64],
+) -> Salvaged
+    requires { ⌜ n ≤ 17 ⌝ }
+{
+    lent::salvage(&rows[..n], log, out, list)
 }
 
 pub fn insert_index(

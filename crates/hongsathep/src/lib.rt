@@ -67,5 +67,8 @@ pub use replay::replay;
 pub use replay::replay_kept;
 pub use replay::run;
 pub use replay::run_kept;
+pub use salvaging::Salvaged;
+pub use salvaging::salvage;
+pub use salvaging::salvage_kept;
 pub use writer::flush_to_file;
 pub use writer::flush_to_file_kept;

@@ -15,4 +15,5 @@ pub use lent::next;
 pub use lent::record_size;
 pub use lent::replay;
 pub use lent::run;
+pub use lent::salvage;
 pub use lent::start;

@@ -1,8 +1,9 @@
-// The calls of reader and replay, of the same names.
+// The calls of reader, replay and salvage, of the same names.
 ghost use mathlib.Core.Path.{_≡_};
 ghost use Rattle.record.specs.Next.{nextOf};
 ghost use Rattle.replay.specs.Replay.{judged, replayedAs, imageAfter};
 ghost use Rattle.replay.specs.Run.{runOf};
+ghost use Rattle.salvaging.specs.Salvage.{leftOf, salvageOf};
 ghost use Rattle.lent.specs.Lent.{gathered};
 use super::slice::gather;
 use directory::TableDescription;
@@ -10,6 +11,7 @@ use record::LogReader;
 use record::Step;
 use replay::Ran;
 use replay::Replayed;
+use salvaging::Salvaged;
 
 pub fn next(reader: LogReader, tables: &[TableDescription], log: &[u8]) -> Step
     ensures { λ r. ⌜ r ≡ nextOf (gathered (now (tables .entry))) (now (log .entry)) reader ⌝ }
@@ -42,4 +44,16 @@ pub fn run(
 {
     let d = gather(tables);
     replay::run(d, log, at, expected, image)
+}
+
+pub fn salvage(
+    tables: &[TableDescription],
+    log: &[u8],
+    out: &mut [u8],
+    list: &mut [u64],
+) -> Salvaged
+    ensures { λ r. ⌜ leftOf r (now (out .exit)) (now (list .exit)) ≡ salvageOf (gathered (now (tables .entry))) (now (log .entry)) (now (out .entry)) (now (list .entry)) ⌝ }
+{
+    let d = gather(tables);
+    salvaging::salvage(d, log, out, list)
 }

@@ -8,6 +8,7 @@ mod tables;
 pub use entries::next;
 pub use entries::replay;
 pub use entries::run;
+pub use entries::salvage;
 pub use lists::drop_ref_count_table;
 pub use lists::drop_table;
 pub use lists::insert_index;

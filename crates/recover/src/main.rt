@@ -1,5 +1,4 @@
 // Replays the records of a log onto the image of a directory's tables.
-mod fault;
 mod files;
 mod message;
 
@@ -9,8 +8,6 @@ use directory::Directory;
 use directory_text::Number;
 use directory_text::number_of;
 use files::Image;
-use files::TEXT_ROOM;
-use files::read_directory;
 use files::read_image;
 use files::replace_image;
 use libc::STDOUT_FILENO;
@@ -18,11 +15,13 @@ use log_input::Outcome;
 use log_input::ROOM;
 use log_input::Stop;
 use log_input::replay_file;
-use message::tell;
 use message::tell_answer;
 use message::tell_ids;
-use message::tell_lengths;
-use message::tell_record;
+use program_files::TEXT_ROOM;
+use program_files::read_directory;
+use program_files::tell;
+use program_files::tell_lengths;
+use program_files::tell_record;
 
 // The image is replaced before anything is printed, so that whoever reads the line finds the image.
 fn finish(stop: Stop, path: &[u8], is_new: bool, image: &[u8])
@@ -65,6 +64,7 @@ fn replay_onto(
     match replay_file(file, directory, first, window, image) {
         Outcome::Unreadable => os::fail(log),
         Outcome::TooLong(position) => tell_record(
+            b"recover",
             log,
             position,
             b" has more than 2097152 bytes; nothing was written",
@@ -102,7 +102,7 @@ fn recover(
 )
     requires { ⌜ length (now path) ≤ 4096 ⌝ }
 {
-    let read = read_directory(listed, text);
+    let read = read_directory(b"recover", listed, text);
     if !read.good {
         return;
     }
@@ -110,6 +110,7 @@ fn recover(
     let length = directory.image_length();
     if image.len() < length {
         tell_lengths(
+            b"recover",
             listed,
             length as u64,
             b" bytes of image; there is room for ",
@@ -134,7 +135,7 @@ fn with_id(
     let m = os::arg(2, &mut log);
     let k = os::arg(3, &mut path);
     if n == 0 || m == 0 || k == 0 {
-        tell(b"a path is empty, or too long", b"");
+        tell(b"recover", b"a path is empty, or too long", b"");
         return;
     }
     recover(
@@ -151,14 +152,18 @@ fn with_id(
 // The program's own name counts as an argument.
 fn with_arguments(text: &mut [u8; TEXT_ROOM], window: &mut [u8; ROOM], image: &mut [u8; ROOM]) {
     if os::arg_count() != 5 {
-        tell(b"usage: recover DIRECTORY LOG IMAGE FIRST-ID", b"");
+        tell(
+            b"recover",
+            b"usage: recover DIRECTORY LOG IMAGE FIRST-ID",
+            b"",
+        );
         return;
     }
     let mut word = io::buffer();
     let n = os::arg(4, &mut word);
     match number_of(&word[..n]) {
-        Number::NotDecimal => tell(b"FIRST-ID is no decimal number: ", &word[..n]),
-        Number::TooLarge => tell(b"FIRST-ID isn't below 2^64: ", &word[..n]),
+        Number::NotDecimal => tell(b"recover", b"FIRST-ID is no decimal number: ", &word[..n]),
+        Number::TooLarge => tell(b"recover", b"FIRST-ID isn't below 2^64: ", &word[..n]),
         Number::Is(first) => with_id(first, text, window, image),
     }
 }

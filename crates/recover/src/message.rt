@@ -1,33 +1,6 @@
-// What standard error is told, besides the faults of a directory's text.
+// What standard error is told of the answer.
 use answer::Answer;
 use libc::STDERR_FILENO;
-
-pub fn tell(what: &[u8], text: &[u8]) {
-    io::write_all(STDERR_FILENO, b"recover: ");
-    io::write_all(STDERR_FILENO, what);
-    io::write_all(STDERR_FILENO, text);
-    io::write_all(STDERR_FILENO, b"\n");
-}
-
-// A number of bytes that differs from, or passes, the one due.
-pub fn tell_lengths(path: &[u8], has: u64, text: &[u8], due: u64) {
-    io::write_all(STDERR_FILENO, b"recover: ");
-    io::write_all(STDERR_FILENO, path);
-    io::write_all(STDERR_FILENO, b": ");
-    io::print_decimal(STDERR_FILENO, has);
-    io::write_all(STDERR_FILENO, text);
-    io::print_decimal(STDERR_FILENO, due);
-    io::write_all(STDERR_FILENO, b"\n");
-}
-
-pub fn tell_record(path: &[u8], position: u64, text: &[u8]) {
-    io::write_all(STDERR_FILENO, b"recover: ");
-    io::write_all(STDERR_FILENO, path);
-    io::write_all(STDERR_FILENO, b": the record at ");
-    io::print_decimal(STDERR_FILENO, position);
-    io::write_all(STDERR_FILENO, text);
-    io::write_all(STDERR_FILENO, b"\n");
-}
 
 // What an answer means, in words. A run gives those from 1 to 8, 12 and 13.
 fn tell_meaning(answer: Answer) -> bool {
