@@ -2,6 +2,7 @@
 // the program's name, for its messages.
 mod directory_file;
 mod fault;
+mod meaning;
 mod message;
 mod replacing;
 mod same;
@@ -9,6 +10,7 @@ mod same;
 pub use directory_file::Read;
 pub use directory_file::TEXT_ROOM;
 pub use directory_file::read_directory;
+pub use meaning::tell_answer;
 pub use message::tell;
 pub use message::tell_lengths;
 pub use message::tell_record;
