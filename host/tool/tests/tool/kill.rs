@@ -5,7 +5,7 @@ use crate::{
     sample::Scratch,
 };
 use std::{
-    fs, io,
+    fs, io, mem,
     os::unix::process::CommandExt,
     process::Stdio,
     ptr,
@@ -23,9 +23,9 @@ fn begin() -> (Scratch, Vec<u8>) {
 const RECOVER: [&str; 4] = ["recover", "directory", "image", "log"];
 const SALVAGE: [&str; 4] = ["salvage", "directory", "log", "out"];
 
-/// Runs the tool up to a number of stops, one where each call of the system begins and one where it ends, and kills it
-/// there. Whether it came so far.
-fn killed_at(scratch: &Scratch, arguments: &[&str], stops: usize) -> io::Result<bool> {
+/// Runs the tool with a stop where each call of the system begins and one where it ends, and kills it where it is told
+/// to. Whether it was killed.
+fn traced(scratch: &Scratch, arguments: &[&str], mut is_last: impl FnMut(i32) -> bool) -> io::Result<bool> {
     let mut run = command(scratch.path(), arguments);
     run.stdout(Stdio::null()).stderr(Stdio::null());
     // Between fork and exec: the call is allowed there, and memory isn't touched.
@@ -37,21 +37,32 @@ fn killed_at(scratch: &Scratch, arguments: &[&str], stops: usize) -> io::Result<
     }
     let mut child = run.spawn()?;
     let pid = child.id() as i32;
-    let mut status = 0;
-    for _ in 0..stops {
+    let none = ptr::null_mut::<u8>();
+    loop {
         // The first wait is for the stop at exec.
-        unsafe {
-            libc::waitpid(pid, &mut status, 0);
-            if libc::WIFEXITED(status) {
-                assert_eq!(libc::WEXITSTATUS(status), 0);
-                return Ok(false);
-            }
-            libc::ptrace(libc::PTRACE_SYSCALL, pid, ptr::null_mut::<u8>(), ptr::null_mut::<u8>());
+        let mut status = 0;
+        unsafe { libc::waitpid(pid, &mut status, 0) };
+        if libc::WIFEXITED(status) {
+            assert_eq!(libc::WEXITSTATUS(status), 0);
+            return Ok(false);
         }
+        if is_last(pid) {
+            break;
+        }
+        unsafe { libc::ptrace(libc::PTRACE_SYSCALL, pid, none, none) };
     }
     child.kill()?;
     child.wait()?;
     Ok(true)
+}
+
+/// The number of the call at which a process stands.
+fn call_of(pid: i32) -> i64 {
+    unsafe {
+        let mut registers: libc::user_regs_struct = mem::zeroed();
+        libc::ptrace(libc::PTRACE_GETREGS, pid, ptr::null_mut::<u8>(), &mut registers);
+        registers.orig_rax as i64
+    }
 }
 
 /// Kills a run at each of its stops in turn, and shows what it leaves; how many stops there are, none where the machine
@@ -59,7 +70,12 @@ fn killed_at(scratch: &Scratch, arguments: &[&str], stops: usize) -> io::Result<
 fn at_every_stop(scratch: &Scratch, arguments: &[&str], before: impl Fn(), mut left: impl FnMut(usize)) -> usize {
     for stops in 1.. {
         before();
-        match killed_at(scratch, arguments, stops) {
+        let mut stop = 0;
+        let is_last = |_| {
+            stop += 1;
+            stop == stops
+        };
+        match traced(scratch, arguments, is_last) {
             Ok(true) => left(stops),
             Ok(false) => return stops - 1,
             Err(error) => {
@@ -82,10 +98,12 @@ fn recover_at_every_call() {
         let bytes = fs::read(&image).unwrap();
         assert!(bytes == old_image() || bytes == new, "killed at stop {stops}: {} bytes", bytes.len());
         is_new += usize::from(bytes == new);
-        left += usize::from(scratch.path().join("image.new").exists());
         // The next run takes over what is left.
-        assert_eq!(run(scratch.path(), &RECOVER).status, Some(0), "behind stop {stops}");
-        assert!(fs::read(&image).unwrap() == new && !scratch.path().join("image.new").exists());
+        if scratch.path().join("image.new").exists() {
+            left += 1;
+            assert_eq!(run(scratch.path(), &RECOVER).status, Some(0), "behind stop {stops}");
+            assert!(fs::read(&image).unwrap() == new && !scratch.path().join("image.new").exists());
+        }
     });
     println!(
         "recover killed at {stops} stops: the new image stood after {is_new} of them, image.new was left by {left}"
@@ -109,6 +127,29 @@ fn salvage_at_every_call() {
         "salvage killed at {stops} stops: its output was whole after {whole} of them, and not there after the others"
     );
     assert!(stops == 0 || whole > 0 && whole < stops);
+}
+
+/// The image is on its device before it is renamed, and the folder's names are behind that.
+#[test]
+fn file_and_folder_are_synced() {
+    let (scratch, new) = begin();
+    for (arguments, name) in [(RECOVER, "image"), (SALVAGE, "out")] {
+        let mut calls = Vec::new();
+        let noted = |pid| {
+            calls.push(call_of(pid));
+            false
+        };
+        match traced(&scratch, &arguments, noted) {
+            Ok(_) => {}
+            Err(error) => return println!("no process can be stopped here: {error}"),
+        }
+        // Each call stops twice.
+        let told: Vec<i64> =
+            calls.into_iter().filter(|call| [libc::SYS_fsync, libc::SYS_rename].contains(call)).collect();
+        assert_eq!(told, [libc::SYS_fsync, libc::SYS_rename, libc::SYS_fsync].map(|call| [call, call]).concat());
+        assert!(scratch.path().join(name).exists());
+    }
+    assert!(fs::read(scratch.path().join("image")).unwrap() == new);
 }
 
 /// Inside of calls too: a large image on a device.
