@@ -15,10 +15,11 @@ ghost use Rattle.host_words.specs.Tables.{directoryFrom};
 ghost use Rattle.host_words.specs.Head.{headRoom, headAfter};
 ghost use Rattle.host_words.specs.Change.{listSize, listFrom, listWords, countsIn};
 ghost use Rattle.host_words.specs.Overlays.{overlaysSize, overlaysFrom, overlaysWords, overlaysLeft};
-ghost use Rattle.host_queues.specs.Queues.{queuesSize, queuesFrom, queuesWords};
-ghost use Rattle.edge_log.specs.Ending.{sourceNumber, beginIn};
+ghost use Rattle.host_queues.specs.Queues.{queuesFrom};
+ghost use Rattle.edge_log.specs.Ending.{sourceNumber, beginIn, headsOf, ClearLeft, EndedLeft, EndLeft};
 use answer::Answer;
 use change::LogChange;
+use ending::Ended;
 use files::FileSource;
 use host_queues::keep_queues;
 use host_queues::queues_of;
@@ -29,6 +30,7 @@ use host_words::keep_overlays;
 use host_words::list_of;
 use host_words::overlays_of;
 use log::Begun;
+use log::LogsCleared;
 use memory::LogOverlays;
 
 #[no_mangle]
@@ -71,6 +73,38 @@ fn begin(next: u64, words: usize) -> Begun
     log::begin_record(next)
 }
 
+// What a call hands back, stored where the host lent room for it: one for both doors.
+fn keep_ended(
+    overlays: &mut [u64],
+    queues: &mut [u64],
+    done: Ended,
+    size: &mut u64,
+    source: &mut u64,
+    file: &mut u64,
+) -> u64
+    ensures { λ r. ⌜ EndedLeft done (headsOf (now (overlays .entry)) (now (queues .entry))) r (headsOf (now (overlays .exit)) (now (queues .exit))) (now (size .exit)) (now (source .exit)) (now (file .exit)) ⌝ }
+{
+    *size = done.length as u64;
+    let from = done.source;
+    *source = source_number(from);
+    *file = done.number;
+    let answer = done.answer;
+    let o = done.overlays;
+    let q = done.queues;
+    keep_overlays(overlays, answer, o);
+    keep_queues(queues, answer, q)
+}
+
+fn keep_cleared(overlays: &mut [u64], queues: &mut [u64], done: LogsCleared) -> u64
+    ensures { λ r. ⌜ ClearLeft done (headsOf (now (overlays .entry)) (now (queues .entry))) r (headsOf (now (overlays .exit)) (now (queues .exit))) ⌝ }
+{
+    let answer = done.answer;
+    let o = done.overlays;
+    let q = done.queues;
+    keep_overlays(overlays, answer, o);
+    keep_queues(queues, answer, q)
+}
+
 #[no_mangle]
 pub extern "C" fn hongsathep_begin_record(next: &mut u64, list: &mut [u64]) -> u64
     ensures answer { λ r. ⌜ r ≡ numberOf (beginIn (now (next .entry)) (length (now (list .entry))) .answer) ⌝ }
@@ -101,36 +135,14 @@ pub extern "C" fn hongsathep_end_record<'a>(
     source: &mut u64,
     file: &mut u64,
 ) -> u64
-    ensures answer { λ r. ⌜ r ≡ numberOf (endRecord (directoryFrom (now (tables .entry))) (handedOf (listFrom (now (list .entry))) (now (items .entry)) (now (chunks .entry)) (overlaysFrom (now (overlays .entry))) (now (words .entry)) (now (bytes .entry)) (queuesFrom (now (queues .entry))) next (now (out .entry))) .answer) ⌝ }
-    ensures overlays { λ r. ⌜ now (overlays .exit) ≡ headAfter overlaysSize (numberOf (endRecord (directoryFrom (now (tables .entry))) (handedOf (listFrom (now (list .entry))) (now (items .entry)) (now (chunks .entry)) (overlaysFrom (now (overlays .entry))) (now (words .entry)) (now (bytes .entry)) (queuesFrom (now (queues .entry))) next (now (out .entry))) .answer)) (now (overlays .entry)) (overlaysWords (overlaysLeft (endRecord (directoryFrom (now (tables .entry))) (handedOf (listFrom (now (list .entry))) (now (items .entry)) (now (chunks .entry)) (overlaysFrom (now (overlays .entry))) (now (words .entry)) (now (bytes .entry)) (queuesFrom (now (queues .entry))) next (now (out .entry))) .overlays))) ⌝ }
-    ensures memory { λ r. ⌜ partsOf Shared (countsIn (endRecord (directoryFrom (now (tables .entry))) (handedOf (listFrom (now (list .entry))) (now (items .entry)) (now (chunks .entry)) (overlaysFrom (now (overlays .entry))) (now (words .entry)) (now (bytes .entry)) (queuesFrom (now (queues .entry))) next (now (out .entry))) .overlays .parts)) (now (words .exit)) (now (bytes .exit)) ≡ endRecord (directoryFrom (now (tables .entry))) (handedOf (listFrom (now (list .entry))) (now (items .entry)) (now (chunks .entry)) (overlaysFrom (now (overlays .entry))) (now (words .entry)) (now (bytes .entry)) (queuesFrom (now (queues .entry))) next (now (out .entry))) .overlays .parts ⌝ }
-    ensures queues { λ r. ⌜ now (queues .exit) ≡ headAfter queuesSize (numberOf (endRecord (directoryFrom (now (tables .entry))) (handedOf (listFrom (now (list .entry))) (now (items .entry)) (now (chunks .entry)) (overlaysFrom (now (overlays .entry))) (now (words .entry)) (now (bytes .entry)) (queuesFrom (now (queues .entry))) next (now (out .entry))) .answer)) (now (queues .entry)) (queuesWords (endRecord (directoryFrom (now (tables .entry))) (handedOf (listFrom (now (list .entry))) (now (items .entry)) (now (chunks .entry)) (overlaysFrom (now (overlays .entry))) (now (words .entry)) (now (bytes .entry)) (queuesFrom (now (queues .entry))) next (now (out .entry))) .queues)) ⌝ }
-    ensures out { λ r. ⌜ now (out .exit) ≡ endRecord (directoryFrom (now (tables .entry))) (handedOf (listFrom (now (list .entry))) (now (items .entry)) (now (chunks .entry)) (overlaysFrom (now (overlays .entry))) (now (words .entry)) (now (bytes .entry)) (queuesFrom (now (queues .entry))) next (now (out .entry))) .output ⌝ }
-    ensures size { λ r. ⌜ now (size .exit) ≡ endRecord (directoryFrom (now (tables .entry))) (handedOf (listFrom (now (list .entry))) (now (items .entry)) (now (chunks .entry)) (overlaysFrom (now (overlays .entry))) (now (words .entry)) (now (bytes .entry)) (queuesFrom (now (queues .entry))) next (now (out .entry))) .length ⌝ }
-    ensures source { λ r. ⌜ now (source .exit) ≡ sourceNumber (endRecord (directoryFrom (now (tables .entry))) (handedOf (listFrom (now (list .entry))) (now (items .entry)) (now (chunks .entry)) (overlaysFrom (now (overlays .entry))) (now (words .entry)) (now (bytes .entry)) (queuesFrom (now (queues .entry))) next (now (out .entry))) .source) ⌝ }
-    ensures file { λ r. ⌜ now (file .exit) ≡ endRecord (directoryFrom (now (tables .entry))) (handedOf (listFrom (now (list .entry))) (now (items .entry)) (now (chunks .entry)) (overlaysFrom (now (overlays .entry))) (now (words .entry)) (now (bytes .entry)) (queuesFrom (now (queues .entry))) next (now (out .entry))) .number ⌝ }
+    ensures { λ r. ⌜ EndLeft (endRecord (directoryFrom (now (tables .entry))) (handedOf (listFrom (now (list .entry))) (now (items .entry)) (now (chunks .entry)) (overlaysFrom (now (overlays .entry))) (now (words .entry)) (now (bytes .entry)) (queuesFrom (now (queues .entry))) next (now (out .entry)))) (headsOf (now (overlays .entry)) (now (queues .entry))) r (headsOf (now (overlays .exit)) (now (queues .exit))) (now (words .exit)) (now (bytes .exit)) (now (out .exit)) (now (size .exit)) (now (source .exit)) (now (file .exit)) ⌝ }
 {
-    let done = ending::end_record(
-        directory_of(tables),
-        list_of(list),
-        items,
-        chunks,
-        overlays_of(overlays),
-        words,
-        bytes,
-        queues_of(queues),
-        next,
-        out,
-    );
-    *size = done.length as u64;
-    let from = done.source;
-    *source = source_number(from);
-    *file = done.number;
-    let answer = done.answer;
-    let o = done.overlays;
-    let q = done.queues;
-    keep_overlays(overlays, answer, o);
-    keep_queues(queues, answer, q)
+    let d = directory_of(tables);
+    let l = list_of(list);
+    let o = overlays_of(overlays);
+    let q = queues_of(queues);
+    let done = ending::end_record(d, l, items, chunks, o, words, bytes, q, next, out);
+    keep_ended(overlays, queues, done, size, source, file)
 }
 
 #[no_mangle]
@@ -150,36 +162,14 @@ pub extern "C" fn hongsathep_end_record_kept<'a>(
     file: &mut u64,
 ) -> u64
     requires { ⌜ handedKept (directoryFrom (now tables)) (handedOf (listFrom (now list)) (now items) (now chunks) (overlaysFrom (now overlays)) (now words) (now bytes) (queuesFrom (now queues)) next (now out)) ≡ true ⌝ }
-    ensures answer { λ r. ⌜ r ≡ numberOf (endRecord (directoryFrom (now (tables .entry))) (handedOf (listFrom (now (list .entry))) (now (items .entry)) (now (chunks .entry)) (overlaysFrom (now (overlays .entry))) (now (words .entry)) (now (bytes .entry)) (queuesFrom (now (queues .entry))) next (now (out .entry))) .answer) ⌝ }
-    ensures overlays { λ r. ⌜ now (overlays .exit) ≡ headAfter overlaysSize (numberOf (endRecord (directoryFrom (now (tables .entry))) (handedOf (listFrom (now (list .entry))) (now (items .entry)) (now (chunks .entry)) (overlaysFrom (now (overlays .entry))) (now (words .entry)) (now (bytes .entry)) (queuesFrom (now (queues .entry))) next (now (out .entry))) .answer)) (now (overlays .entry)) (overlaysWords (overlaysLeft (endRecord (directoryFrom (now (tables .entry))) (handedOf (listFrom (now (list .entry))) (now (items .entry)) (now (chunks .entry)) (overlaysFrom (now (overlays .entry))) (now (words .entry)) (now (bytes .entry)) (queuesFrom (now (queues .entry))) next (now (out .entry))) .overlays))) ⌝ }
-    ensures memory { λ r. ⌜ partsOf Shared (countsIn (endRecord (directoryFrom (now (tables .entry))) (handedOf (listFrom (now (list .entry))) (now (items .entry)) (now (chunks .entry)) (overlaysFrom (now (overlays .entry))) (now (words .entry)) (now (bytes .entry)) (queuesFrom (now (queues .entry))) next (now (out .entry))) .overlays .parts)) (now (words .exit)) (now (bytes .exit)) ≡ endRecord (directoryFrom (now (tables .entry))) (handedOf (listFrom (now (list .entry))) (now (items .entry)) (now (chunks .entry)) (overlaysFrom (now (overlays .entry))) (now (words .entry)) (now (bytes .entry)) (queuesFrom (now (queues .entry))) next (now (out .entry))) .overlays .parts ⌝ }
-    ensures queues { λ r. ⌜ now (queues .exit) ≡ headAfter queuesSize (numberOf (endRecord (directoryFrom (now (tables .entry))) (handedOf (listFrom (now (list .entry))) (now (items .entry)) (now (chunks .entry)) (overlaysFrom (now (overlays .entry))) (now (words .entry)) (now (bytes .entry)) (queuesFrom (now (queues .entry))) next (now (out .entry))) .answer)) (now (queues .entry)) (queuesWords (endRecord (directoryFrom (now (tables .entry))) (handedOf (listFrom (now (list .entry))) (now (items .entry)) (now (chunks .entry)) (overlaysFrom (now (overlays .entry))) (now (words .entry)) (now (bytes .entry)) (queuesFrom (now (queues .entry))) next (now (out .entry))) .queues)) ⌝ }
-    ensures out { λ r. ⌜ now (out .exit) ≡ endRecord (directoryFrom (now (tables .entry))) (handedOf (listFrom (now (list .entry))) (now (items .entry)) (now (chunks .entry)) (overlaysFrom (now (overlays .entry))) (now (words .entry)) (now (bytes .entry)) (queuesFrom (now (queues .entry))) next (now (out .entry))) .output ⌝ }
-    ensures size { λ r. ⌜ now (size .exit) ≡ endRecord (directoryFrom (now (tables .entry))) (handedOf (listFrom (now (list .entry))) (now (items .entry)) (now (chunks .entry)) (overlaysFrom (now (overlays .entry))) (now (words .entry)) (now (bytes .entry)) (queuesFrom (now (queues .entry))) next (now (out .entry))) .length ⌝ }
-    ensures source { λ r. ⌜ now (source .exit) ≡ sourceNumber (endRecord (directoryFrom (now (tables .entry))) (handedOf (listFrom (now (list .entry))) (now (items .entry)) (now (chunks .entry)) (overlaysFrom (now (overlays .entry))) (now (words .entry)) (now (bytes .entry)) (queuesFrom (now (queues .entry))) next (now (out .entry))) .source) ⌝ }
-    ensures file { λ r. ⌜ now (file .exit) ≡ endRecord (directoryFrom (now (tables .entry))) (handedOf (listFrom (now (list .entry))) (now (items .entry)) (now (chunks .entry)) (overlaysFrom (now (overlays .entry))) (now (words .entry)) (now (bytes .entry)) (queuesFrom (now (queues .entry))) next (now (out .entry))) .number ⌝ }
+    ensures { λ r. ⌜ EndLeft (endRecord (directoryFrom (now (tables .entry))) (handedOf (listFrom (now (list .entry))) (now (items .entry)) (now (chunks .entry)) (overlaysFrom (now (overlays .entry))) (now (words .entry)) (now (bytes .entry)) (queuesFrom (now (queues .entry))) next (now (out .entry)))) (headsOf (now (overlays .entry)) (now (queues .entry))) r (headsOf (now (overlays .exit)) (now (queues .exit))) (now (words .exit)) (now (bytes .exit)) (now (out .exit)) (now (size .exit)) (now (source .exit)) (now (file .exit)) ⌝ }
 {
-    let done = ending::end_record_kept(
-        directory_of(tables),
-        list_of(list),
-        items,
-        chunks,
-        overlays_of(overlays),
-        words,
-        bytes,
-        queues_of(queues),
-        next,
-        out,
-    );
-    *size = done.length as u64;
-    let from = done.source;
-    *source = source_number(from);
-    *file = done.number;
-    let answer = done.answer;
-    let o = done.overlays;
-    let q = done.queues;
-    keep_overlays(overlays, answer, o);
-    keep_queues(queues, answer, q)
+    let d = directory_of(tables);
+    let l = list_of(list);
+    let o = overlays_of(overlays);
+    let q = queues_of(queues);
+    let done = ending::end_record_kept(d, l, items, chunks, o, words, bytes, q, next, out);
+    keep_ended(overlays, queues, done, size, source, file)
 }
 
 #[no_mangle]
@@ -268,29 +258,17 @@ pub extern "C" fn hongsathep_clear_replay_logs(
     bytes: &[u8],
     queues: &mut [u64],
 ) -> u64
-    ensures answer { λ r. ⌜ r ≡ numberOf (logsCleared (overlaysFrom (now (overlays .entry))) (now (words .entry)) (now (bytes .entry)) (queuesFrom (now (queues .entry))) .answer) ⌝ }
-    ensures overlays { λ r. ⌜ now (overlays .exit) ≡ headAfter overlaysSize (numberOf (logsCleared (overlaysFrom (now (overlays .entry))) (now (words .entry)) (now (bytes .entry)) (queuesFrom (now (queues .entry))) .answer)) (now (overlays .entry)) (overlaysWords (logsCleared (overlaysFrom (now (overlays .entry))) (now (words .entry)) (now (bytes .entry)) (queuesFrom (now (queues .entry))) .overlays)) ⌝ }
-    ensures queues { λ r. ⌜ now (queues .exit) ≡ headAfter queuesSize (numberOf (logsCleared (overlaysFrom (now (overlays .entry))) (now (words .entry)) (now (bytes .entry)) (queuesFrom (now (queues .entry))) .answer)) (now (queues .entry)) (queuesWords (logsCleared (overlaysFrom (now (overlays .entry))) (now (words .entry)) (now (bytes .entry)) (queuesFrom (now (queues .entry))) .queues)) ⌝ }
+    ensures { λ r. ⌜ ClearLeft (logsCleared (overlaysFrom (now (overlays .entry))) (now (words .entry)) (now (bytes .entry)) (queuesFrom (now (queues .entry)))) (headsOf (now (overlays .entry)) (now (queues .entry))) r (headsOf (now (overlays .exit)) (now (queues .exit))) ⌝ }
 {
     let done = log::clear_replay_logs(overlays_of(overlays), words, bytes, queues_of(queues));
-    let answer = done.answer;
-    let o = done.overlays;
-    let q = done.queues;
-    keep_overlays(overlays, answer, o);
-    keep_queues(queues, answer, q)
+    keep_cleared(overlays, queues, done)
 }
 
 #[no_mangle]
 pub extern "C" fn hongsathep_clear_replay_logs_kept(overlays: &mut [u64], queues: &mut [u64]) -> u64
     requires { ⌜ queuesKept (queuesFrom (now queues)) ≡ true ⌝ }
-    ensures answer { λ r. ⌜ r ≡ numberOf (logsClearedKept (queuesFrom (now (queues .entry))) .answer) ⌝ }
-    ensures overlays { λ r. ⌜ now (overlays .exit) ≡ headAfter overlaysSize (numberOf (logsClearedKept (queuesFrom (now (queues .entry))) .answer)) (now (overlays .entry)) (overlaysWords (logsClearedKept (queuesFrom (now (queues .entry))) .overlays)) ⌝ }
-    ensures queues { λ r. ⌜ now (queues .exit) ≡ headAfter queuesSize (numberOf (logsClearedKept (queuesFrom (now (queues .entry))) .answer)) (now (queues .entry)) (queuesWords (logsClearedKept (queuesFrom (now (queues .entry))) .queues)) ⌝ }
+    ensures { λ r. ⌜ ClearLeft (logsClearedKept (queuesFrom (now (queues .entry)))) (headsOf (now (overlays .entry)) (now (queues .entry))) r (headsOf (now (overlays .exit)) (now (queues .exit))) ⌝ }
 {
     let done = log::clear_replay_logs_kept(queues_of(queues));
-    let answer = done.answer;
-    let o = done.overlays;
-    let q = done.queues;
-    keep_overlays(overlays, answer, o);
-    keep_queues(queues, answer, q)
+    keep_cleared(overlays, queues, done)
 }

@@ -1,74 +1,35 @@
 -- `hongsathep_clear_replay_logs` meets its contract. Assumes nothing.
-use mathlib.Core.Path.{_≡_, sym, ap, ap₂, _∙_}
-use Rattle.answer.specs.Answer.{numberOf}
-use Rattle.directory.specs.declared.directory.Directory.{Directory}
+use mathlib.Core.Path.{ap₂, _∙_}
 use Rattle.memory.specs.declared.overlays.LogOverlays.{LogOverlays}
-use Rattle.host_words.specs.Head.{headAfter}
-use Rattle.host_words.specs.Overlays.{overlaysSize, overlaysWords, overlaysLeft}
-use Rattle.files.specs.Queues.{queuesKept}
 use Rattle.files.specs.declared.queues.Queues.{Queues}
-use Rattle.log.specs.ClearReplay.{logsClearedKept, logsCleared}
-use Rattle.log.specs.declared.clear_replay.LogsCleared.{LogsCleared}
-use Rattle.host_queues.specs.Queues.{queuesSize, queuesWords}
-use borrow.Author.Needs.{needs}
+use Rattle.log.specs.ClearReplay.{logsCleared}
+use Rattle.edge_log.proofs.Memories.{clear-left}
 use Rattle.edge_log.proofs.ending_words.hongsathep_clear_replay_logs.Statement.{statement}
 use Rattle.edge_log.proofs.ending_words.hongsathep_clear_replay_logs.Tie as tie
-use Rattle.edge_log.proofs.ending_words.hongsathep_clear_replay_logs.Reads as reads
-use Rattle.edge_log.proofs.ending_words.hongsathep_clear_replay_logs.Lts as lts
-use Rattle.host_queues.proofs.keep_queues.Reads as keep-queues-reads
-use Rattle.host_queues.proofs.queues_of.Reads as queues-of-reads
-use Rattle.host_words.proofs.keep_overlays.Reads as keep-overlays-reads
-use Rattle.host_words.proofs.overlays_of.Reads as overlays-of-reads
-use Rattle.log.proofs.clear_replay_logs.Reads as clear-replay-logs-reads
 
--- src/ending_words.rt:269:39
 overlays-of-requires : tie.Need-overlays-of-requires
-overlays-of-requires c κs = search needs
+overlays-of-requires c κs = tt
 
--- src/ending_words.rt:269:76
 queues-of-requires : tie.Need-queues-of-requires
-queues-of-requires c κs = search needs
+queues-of-requires c κs = tt
 
--- src/ending_words.rt:269:9
 clear-replay-logs-requires : tie.Need-clear-replay-logs-requires
-clear-replay-logs-requires c κs = search needs
+clear-replay-logs-requires c κs = tt
 
--- src/ending_words.rt:273:5
-keep-overlays-requires : tie.Need-keep-overlays-requires
-keep-overlays-requires c κs = search needs
+keep-cleared-requires : tie.Need-keep-cleared-requires
+keep-cleared-requires c κs = tt
 
--- src/ending_words.rt:274:5
-keep-queues-requires : tie.Need-keep-queues-requires
-keep-queues-requires c κs = search needs
-
--- src/ending_words.rt:258:1
 same-length : tie.Need-same-length
-same-length c = search needs
+same-length c = c .before .before .before .overlays .given
 
--- src/ending_words.rt:258:1
 same-length-2 : tie.Need-same-length-2
-same-length-2 c = search needs
+same-length-2 c = c .before .queues .given
 
--- src/ending_words.rt:258:1
 returns : tie.Need-returns
 returns c =
-    let e = c .before .before .before .before .before .before .before .before .before .before .clear-replay-logs .ensures ∙ ap₂ (λ (o : LogOverlays) (q : Queues). logsCleared o (c .before .before .before .before .before .before .before .before .before .before .before .before .before .before .before .before .before .before .before .args .words .now) (c .before .before .before .before .before .before .before .before .before .before .before .before .before .before .before .before .before .before .before .args .bytes .now) q) (c .before .before .before .before .before .before .before .before .before .before .before .before .before .overlays-of .ensures) (c .before .before .before .before .before .before .before .before .before .before .before .queues-of .ensures) in (
-      c .before .before .keep-queues .ensures .0 ∙ ap (λ (x : LogsCleared). numberOf (x .answer)) e,
-      (
-        c .before .before .before .before .before .before .keep-overlays .ensures .1 ∙ ap (λ (x : LogsCleared). headAfter overlaysSize (numberOf (x .answer)) (c .before .before .before .before .before .before .before .before .before .before .before .before .before .before .before .before .before .before .before .args .overlays .now) (overlaysWords (x .overlays))) e,
-        c .before .before .keep-queues .ensures .1 ∙ ap (λ (x : LogsCleared). headAfter queuesSize (numberOf (x .answer)) (c .before .before .before .before .before .before .before .before .before .before .before .before .before .before .before .before .before .before .before .args .queues .now) (queuesWords (x .queues))) e,
-      ),
-    )
+    let a = c .before .before .before .before .before .before .before .before .before .before .before .before .before .before .before .before .args in
+    clear-left (c .before .before .before .before .before .before .before .clear-replay-logs .ensures ∙ ap₂ (λ (o : LogOverlays) (q : Queues). logsCleared o (a .words .now) (a .bytes .now) q) (c .before .before .before .before .before .before .before .before .before .before .overlays-of .ensures) (c .before .before .before .before .before .before .before .before .queues-of .ensures)) (c .before .before .before .before .keep-cleared .ensures)
 
 pub hongsathep-clear-replay-logs-spec : {M : Type 1} → statement M
 hongsathep-clear-replay-logs-spec =
-    tie.close
-    (tie.spec
-    overlays-of-requires
-    queues-of-requires
-    clear-replay-logs-requires
-    keep-overlays-requires
-    keep-queues-requires
-    same-length
-    same-length-2
-    returns)
+    tie.close (tie.spec overlays-of-requires queues-of-requires clear-replay-logs-requires keep-cleared-requires same-length same-length-2 returns)

@@ -74,13 +74,4 @@ returns c =
 
 pub hongsathep-end-read-spec : {M : Type 1} → statement M
 hongsathep-end-read-spec =
-    tie.close
-    (tie.spec
-    directory-of-requires
-    overlays-of-requires
-    end-read-requires
-    keep-overlays-requires
-    same-length
-    same-length-2
-    same-length-3
-    returns)
+    tie.close (tie.spec directory-of-requires overlays-of-requires end-read-requires keep-overlays-requires same-length same-length-2 same-length-3 returns)

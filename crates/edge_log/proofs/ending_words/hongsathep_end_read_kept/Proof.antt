@@ -75,13 +75,4 @@ returns c =
 
 pub hongsathep-end-read-kept-spec : {M : Type 1} → statement M
 hongsathep-end-read-kept-spec =
-    tie.close
-    (tie.spec
-    directory-of-requires
-    overlays-of-requires
-    end-read-kept-requires
-    keep-overlays-requires
-    same-length
-    same-length-2
-    same-length-3
-    returns)
+    tie.close (tie.spec directory-of-requires overlays-of-requires end-read-kept-requires keep-overlays-requires same-length same-length-2 same-length-3 returns)
