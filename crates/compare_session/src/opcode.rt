@@ -4,6 +4,8 @@ ghost use lib.ListN.{length};
 ghost use Rattle.compare_reading.specs.Bounds.{Kept};
 use super::session::Served;
 use super::session::Session;
+use compare_lines::Place;
+use compare_reading::Reading;
 
 fn read(
     session: Session,
@@ -145,6 +147,34 @@ fn live<'a>(
     kept.replied(reply)
 }
 
+fn placed(reading: Reading, place: Place) -> Reading
+    requires { ⌜ Kept reading ⌝ }
+    ensures { λ r. ⌜ Kept r ⌝ }
+{
+    let mut r = reading;
+    r.place = place;
+    r
+}
+
+fn check(session: Session, command: &[u8], answer: &mut [u8; 65536]) -> Served
+    requires { ⌜ (Kept (session .reading)) × (1 ≤ length (now command)) ⌝ }
+    ensures { λ r. ⌜ Kept (r .session .reading) ⌝ }
+{
+    let reading = session.reading;
+    let tables = reading.tables;
+    let place = reading.place;
+    let before = session.checker;
+    let done = compare_checker::serve(before, place, tables, command, answer);
+    let told = done.place;
+    let read = placed(reading, told);
+    let after = done.checker;
+    let mut kept = session;
+    kept.reading = read;
+    kept.checker = after;
+    let reply = done.reply;
+    kept.replied(reply)
+}
+
 pub fn serve(
     session: Session,
     command: &[u8],
@@ -167,6 +197,7 @@ pub fn serve(
             list(session, command, items, chunks, room, answer)
         }
         0x14..=0x17 | 0x19 | 0x1f => queue(session, command, log, answer),
+        0x36..=0x38 => check(session, command, answer),
         0x1a | 0x1b | 0x1d | 0x1e | 0x22 => {
             on_overlays(session, command, items, chunks, room, words, bytes, answer)
         }

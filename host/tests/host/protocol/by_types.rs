@@ -51,7 +51,7 @@ impl ByTypes {
     pub fn answer(&mut self, command: &[u8]) -> Option<Vec<u8>> {
         let mut fields = Fields(&command[1..]);
         let f = &mut fields;
-        if matches!(command[0], 0x0b..=0x0e | 0x13) {
+        if matches!(command[0], 0x0b..=0x0e | 0x13 | 0x36..=0x38) {
             self.place = None;
         }
         match command[0] {

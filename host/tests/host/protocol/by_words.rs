@@ -15,8 +15,23 @@ pub struct ByWords {
     overlays: Keys,
     queues: Vec<u64>,
     next: u64,
+    checking: Checking,
     /// The place of the last refusal of a call that reads; none after one that was done.
     place: Option<u64>,
+}
+
+/// A log checked in pieces, by the request's own words: what a run over all that was taken reports.
+struct Checking {
+    tables: Vec<u64>,
+    first: u64,
+    taken: Vec<u8>,
+    closed: bool,
+}
+
+impl Checking {
+    fn new(tables: Vec<u64>, first: u64) -> Checking {
+        Checking { tables, first, taken: Vec::new(), closed: false }
+    }
 }
 
 /// A list or the overlays: head and two memories. The counts stand at a place of the head.
@@ -75,6 +90,7 @@ impl ByWords {
             overlays: Keys::overlays(),
             queues: vec![0; QUEUES_WORDS],
             next: 1,
+            checking: Checking::new(Vec::new(), 1),
             place: None,
         };
         hongsathep_reader_new(&mut words.reader, 0, false);
@@ -110,6 +126,7 @@ impl ByWords {
             0x14..=0x17 | 0x19 | 0x1f => self.answer_of_queues(command[0], f),
             0x1a | 0x1b | 0x1d | 0x1e | 0x22 => self.answer_of_overlays(command[0], f),
             0x30 => Row::of(self.place.is_some().into()).number(self.place.unwrap_or(0), 8).0,
+            0x36..=0x38 => self.answer_of_checker(command[0], f),
             0x39 => self.salvage(f.number(4) as usize),
             // The form in which a directory is handed on: here it is always words.
             0xf1 => vec![0],
@@ -151,6 +168,34 @@ impl ByWords {
         let answer = hongsathep_salvage(&self.tables, &self.log, &mut out, &mut list, &mut lines, &mut size);
         let words: Vec<[u64; 4]> = list.chunks(4).take(lines as usize).map(|line| line.try_into().unwrap()).collect();
         salvaged(answer, &words, &out, size as usize)
+    }
+
+    fn answer_of_checker(&mut self, opcode: u8, f: &mut Fields) -> Vec<u8> {
+        if opcode == 0x36 {
+            self.checking = Checking::new(self.tables.clone(), f.number(8));
+        }
+        let c = &mut self.checking;
+        let mut joined = c.taken.clone();
+        if opcode == 0x37 {
+            joined.extend(f.blob());
+        }
+        let (mut end, mut count, mut fault) = (0, 0, 0);
+        let image = &mut vec![0; hongsathep_image_length(&c.tables)];
+        let run = hongsathep_run(&c.tables, &joined, 0, c.first, image, &mut end, &mut count, &mut fault);
+        let answer = match run {
+            13 => 13,
+            _ if c.closed => 14,
+            1 | 2 if opcode != 0x38 => 0,
+            _ => run,
+        };
+        if answer > 12 {
+            (end, count, fault) = (c.taken.len() as u64, 0, c.taken.len() as u64);
+        } else {
+            (c.taken, c.closed) = (joined, opcode == 0x38);
+        }
+        self.place = (answer != 0).then_some(fault);
+        let row = Row::of(answer);
+        if opcode == 0x38 { row.number(end, 8).number(count, 8).0 } else { row.0 }
     }
 
     fn step(&mut self) -> Vec<u8> {
