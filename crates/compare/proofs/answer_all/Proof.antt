@@ -6,11 +6,11 @@ use Rattle.compare.proofs.answer_all.Statement.{statement}
 use Rattle.compare.proofs.answer_all.Tie as tie
 
 abbrev Inv-loop : tie.InvT-loop
-Inv-loop chunk₀ command₀ log₀ image₀ list-words₀ list-bytes₀ written₀ words₀ bytes₀ answer₀ output₀ run₀ turns₀ chunk command log image list-words list-bytes written words bytes answer output run turns =
+Inv-loop chunk₀ command₀ log₀ image₀ list-words₀ list-bytes₀ written₀ words₀ bytes₀ answer₀ long₀ output₀ run₀ turns₀ chunk command log image list-words list-bytes written words bytes answer long output run turns =
     Running run
 
 abbrev μ-loop : tie.MeasureT-loop
-μ-loop chunk₀ command₀ log₀ image₀ list-words₀ list-bytes₀ written₀ words₀ bytes₀ answer₀ output₀ run₀ turns₀ chunk command log image list-words list-bytes written words bytes answer output run turns =
+μ-loop chunk₀ command₀ log₀ image₀ list-words₀ list-bytes₀ written₀ words₀ bytes₀ answer₀ long₀ output₀ run₀ turns₀ chunk command log image list-words list-bytes written words bytes answer long output run turns =
     turns
 
 started-requires : tie.Need-started-requires Inv-loop μ-loop
