@@ -1,57 +1,28 @@
--- A place is where the entry's bytes lie; what the memories' rules give to the lookups. Assumes nothing.
-use mathlib.Core.Path.{_≡_, refl, sym, ap, subst, _∙_}
+-- What the memories' rules give to the lookups, and a place as one in its memory. Assumes nothing.
+use mathlib.Core.Path.{_≡_, sym, ap, subst, _∙_}
 use mathlib.Core.Bool.{Bool, true, false, _&&_}
-use mathlib.Core.List.{List, []}
-use mathlib.Core.Option.{none}
-use Prim.Native.Nat.{ℕ, _+_, _*_, _≤_, _<_}
+use mathlib.Core.List.{List}
+use Prim.Native.Nat.{ℕ, _+_, _≤_}
 use native.Mathlib.Omega.{arith}
 use borrow.Author.Tests.{eqb-true, eq-eqb, ne-eqb}
 use lib.Dec.{eqb}
-use lib.ListN.{length, take, drop, getD, length-take, length-drop}
-use lib.Seq.{getD-take}
+use lib.ListN.{length, take, drop, length-take, length-drop}
 use Rattle.directory.specs.declared.table.TableKind.{TableKind}
 use Rattle.directory.specs.declared.table.TableKind.the-variants.{Index, Value, RefCount}
 use Rattle.numbers.proofs.Laws.{left-of, right-of}
-use Rattle.keys.specs.Keys.{markAt}
-use Rattle.overlay.specs.Rules.{Overlay, slotSize, storedLength, overlayOf, overlayKept}
-use Rattle.overlay.specs.Inner.{seatIn}
-use Rattle.overlay.specs.declared.seat.Seat.{Seat}
-use Rattle.overlay.specs.declared.seat.Seat.the-variants.{Over, Next}
+use Rattle.overlay.specs.Rules.{Overlay, overlayKept}
 use Rattle.memory.specs.Parts.{spanOf, wordsAll, bytesAll, partOf, partsOf, partsKept}
 use Rattle.memory.specs.declared.counts.Counts.{Counts}
 use Rattle.memory.specs.declared.span.Holder.{Holder}
 use Rattle.memory.specs.declared.span.Holder.the-variants as holder
 use Rattle.memory.proofs.OneKind.{shared-room}
 use Rattle.memory.proofs.Spans.{words-all, bytes-all, of-parts, AllKept, all-shows}
-use Rattle.query.specs.Inner.{foundIn}
-use Rattle.query.proofs.Found.{FoundAt, found, not-found}
-use Rattle.edge_lookups.specs.Lookups.{noPlace, placeBy, storedPlace, memoryNumber, spotBy, sharedKept}
-use Rattle.edge_lookups.specs.declared.place.Place.{Place}
+use Rattle.edge_lookups.specs.Lookups.{memoryNumber, spotBy, sharedKept}
+use Rattle.query.specs.declared.find.Place.{Place}
 use Rattle.edge_lookups.specs.declared.lookups.Spotted.{Spotted}
 use Rattle.answer.specs.Answer.{numberOf}
 use Rattle.answer.specs.declared.answer.Answer.the-variants.{Done}
 use Rattle.memory.specs.declared.span.Span.{Span}
-
--- the bytes in the place are the entry's; where there is none, there is no entry
-pub place-bytes : (kind : TableKind) (room : ℕ) (o : Overlay) → overlayKept kind room o ≡ true → (key : ℕ) → take (storedPlace kind o key .length) (drop (storedPlace kind o key .at) (o .bytes)) ≡ foundIn kind o key
-unfolding storedPlace
-place-bytes kind room o ok key = by (seatIn o key) refl
-  where
-    by : (s : Seat) → seatIn o key ≡ s → take (placeBy kind o (seatIn o key) .length) (drop (placeBy kind o (seatIn o key) .at) (o .bytes)) ≡ foundIn kind o key
-    by (Over p) e = rw e (found kind room o ok key p e .bytes)
-    by (Next j) e = rw e (not-found kind room o ok key j e)
-
--- the place that the code has
-pub place-over : (kind : TableKind) (room : ℕ) (words bytes : List ℕ) (n key p s u : ℕ) → p < room → seatIn (overlayOf room words bytes n) key ≡ Over p → s ≡ slotSize kind
-    → u ≡ storedLength kind (getD words (4 * p + 3) 0) → record { found = true; at = s * p; length = u } ≡ storedPlace kind (overlayOf room words bytes n) key
-unfolding storedPlace
-place-over kind room words bytes n key p s u low e d q =
-    let m : u ≡ storedLength kind (markAt (take (4 * room) words) p) = q ∙ ap (storedLength kind) (sym (getD-take (4 * room) words (4 * p + 3) 0 (omega arith))) in
-    rw (e, d, m)
-
-pub place-none : (kind : TableKind) (o : Overlay) (key j : ℕ) → seatIn o key ≡ Next j → noPlace ≡ storedPlace kind o key
-unfolding storedPlace
-place-none kind o key j e = rw e
 
 pub part-le : (n b : ℕ) (l : List ℕ) → length (take n (drop b l)) ≤ length l
 part-le n b l = simp (length-take, length-drop) (omega arith)

@@ -1,9 +1,9 @@
 -- Lookups over words. A part of a lent memory can't be handed across: which memory it lies in, its place and its length are (document 01: "answers
--- with the stored bytes themselves, from the local memory or the shared one"). That they are those bytes: proofs/Places.
-use mathlib.Core.Bool.{Bool, true, false, _&&_}
+-- with the stored bytes themselves, from the local memory or the shared one"). That they are those bytes: `place-bytes`, crates/query/proofs/Places.
+use mathlib.Core.Bool.{Bool, false, _&&_}
 use mathlib.Core.List.{List}
 use mathlib.Core.Option.{none}
-use Prim.Native.Nat.{ℕ, _+_, _*_}
+use Prim.Native.Nat.{ℕ, _+_}
 use lib.Dec.{eqb}
 use lib.ListN.{length}
 use Rattle.words.specs.Choice.{if_then_else_}
@@ -11,11 +11,7 @@ use Rattle.answer.specs.declared.answer.Answer.{Answer}
 use Rattle.answer.specs.declared.answer.Answer.the-variants.{Done, BadState}
 use Rattle.directory.specs.declared.table.TableKind.{TableKind}
 use Rattle.directory.specs.declared.table.TableKind.the-variants.{Value}
-use Rattle.keys.specs.Keys.{markAt}
-use Rattle.overlay.specs.Rules.{Overlay, slotSize, storedLength, overlayKept}
-use Rattle.overlay.specs.Inner.{seatIn}
-use Rattle.overlay.specs.declared.seat.Seat.{Seat}
-use Rattle.overlay.specs.declared.seat.Seat.the-variants.{Over, Next}
+use Rattle.overlay.specs.Rules.{overlayKept}
 use Rattle.memory.specs.Parts.{spanOf, partOf}
 use Rattle.memory.specs.declared.counts.Counts.{Counts}
 use Rattle.memory.specs.declared.overlays.LogOverlays.{LogOverlays}
@@ -24,21 +20,9 @@ use Rattle.memory.specs.declared.span.Holder.the-variants as holder
 use Rattle.change.specs.Change.{changeOf, changeRuled}
 use Rattle.change.specs.declared.change.LogChange.{LogChange}
 use Rattle.query.specs.Query.{Looked, lookedIf, sharedLook, listedLook}
-use Rattle.edge_lookups.specs.declared.place.Place.{Place}
+use Rattle.query.specs.Places.{storedPlace}
+use Rattle.query.specs.declared.find.Place.{Place}
 use Rattle.edge_lookups.specs.declared.lookups.Spotted.{Spotted}
-
--- where a key's bytes lie in its kind's part of a memory, and how many there are
-abbrev pub noPlace : Place
-noPlace = record { found = false; at = 0; length = 0 }
-
--- where an entry's bytes lie in its kind's part, by its seat
-abbrev pub placeBy : TableKind → Overlay → Seat → Place
-placeBy kind o (Over p) = record { found = true; at = slotSize kind * p; length = storedLength kind (markAt (o .rows) p) }
-placeBy kind o (Next j) = noPlace
-
--- the same of a key
-unfoldable pub storedPlace : TableKind → Overlay → ℕ → Place
-storedPlace kind o key = placeBy kind o (seatIn o key)
 
 -- an answer that shows nothing
 abbrev pub nowhere : Answer → Spotted

@@ -4,47 +4,15 @@ ghost use mathlib.Core.Bool.{true};
 ghost use Prim.Native.Nat.{_≤_};
 ghost use lib.ListN.{length};
 ghost use Rattle.keys.specs.Keys.{rank};
-ghost use Rattle.overlay.specs.Rules.{overlayOf, overlayKept};
+ghost use Rattle.overlay.specs.Rules.{overlayKept};
 ghost use Rattle.memory.specs.Parts.{spanOf, wordsAll, bytesAll, partOf};
-ghost use Rattle.edge_lookups.specs.Lookups.{storedPlace};
+ghost use Rattle.query.specs.Places.{storedPlace};
 use directory::TableKind;
 use memory::Counts;
 use memory::Holder;
-use overlay::Seat;
+use query::Place;
+use query::place_in;
 
-pub struct Place {
-    pub found: bool,
-    pub at: usize,
-    pub length: usize,
-}
-
-fn place_in(
-    kind: TableKind,
-    room: usize,
-    words: &[u64],
-    bytes: &[u8],
-    n: usize,
-    table: u16,
-    index: u64,
-) -> Place
-    requires { ⌜ overlayKept kind room (overlayOf room (now words) (now bytes) n) ≡ true ⌝ }
-    ensures { λ r. ⌜ (r ≡ storedPlace kind (overlayOf room (now (words .entry)) (now (bytes .entry)) n) (rank table index)) × (r .at ≤ length (now (bytes .entry))) ⌝ }
-{
-    match overlay::seat_of(room, words, n, table as u64, index) {
-        Seat::Over(p) => Place {
-            found: true,
-            at: overlay::slot_size(kind) * p,
-            length: overlay::stored_length(kind, words[4 * p + 3]),
-        },
-        Seat::Next(_) => Place {
-            found: false,
-            at: 0,
-            length: 0,
-        },
-    }
-}
-
-// The same of a kind in its holder's two memories.
 pub(crate) fn place_of(
     holder: Holder,
     kind: TableKind,
@@ -68,7 +36,7 @@ pub(crate) fn place_of(
         &words[a..e],
         &bytes[b..f],
         counts.of(kind),
-        table,
+        table as u64,
         index,
     )
 }

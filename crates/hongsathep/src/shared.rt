@@ -1,4 +1,6 @@
 // Lookups in the shared overlays alone.
+pub use query::shared::places_of;
+pub use query::shared::places_of_kept;
 pub use query::shared::ref_count;
 pub use query::shared::ref_count_kept;
 pub use query::shared::value;

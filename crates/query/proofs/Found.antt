@@ -103,7 +103,7 @@ pub some-first : (a b : Option Entry) → ltb 0 (length (bytesOf a)) ≡ isThere
 some-first none b p q = q
 some-first (some e) b p q = p
 
--- the part that the code takes: a slot's start, and as many bytes as the row says
+-- a slot's start, and as many bytes as the row says: within the memory
 module _ (kind : TableKind) (room : ℕ) (words bytes : List ℕ) (n : ℕ) (ok : overlayKept kind room (overlayOf room words bytes n) ≡ true) (key p : ℕ) (e : seatIn (overlayOf room words bytes n) key ≡ Over p)
     (s u : ℕ) (size : s ≡ slotSize kind) (un : u ≡ storedLength kind (getD words (4 * p + 3) 0)) where
   f : FoundAt kind room (overlayOf room words bytes n) ok key p
@@ -114,8 +114,3 @@ module _ (kind : TableKind) (room : ℕ) (words bytes : List ℕ) (n : ℕ) (ok 
 
   pub part-fits : s * p + u ≤ length bytes
   part-fits = rw (size, as-marked) (f .at .stored)
-
-  pub part-is : take (s * p + u - s * p) (drop (s * p) bytes) ≡ foundIn kind (overlayOf room words bytes n) key
-  part-is =
-      let d : s * p + u - s * p ≡ u = omega arith in
-      ap (λ (k : ℕ). take k (drop (s * p) bytes)) d ∙ rw (size, as-marked) (f .bytes)

@@ -9,6 +9,8 @@ ghost use Rattle.query.specs.Query.{sharedPart, sharedLook, bytesOf, Han
 use super::copy::Copied;
 use super::copy::copy_value;
 use super::find::find_in;
+pub use super::several::places_of;
+pub use super::several::places_of_kept;
 use directory::IndexTableId;
 use directory::RefCountTableId;
 use directory::TableKind;

@@ -55,7 +55,31 @@ pub fn rows(setting: &Setting, f: &mut Figures) {
             f.time(&format!("{name}, 255 keys shared{which}"), shared(255, what, door), rust);
         }
     }
+    several(f, &log);
     listed(f, &log, l);
+}
+
+/// Places of values, so many keys a call: ns a key, beside the Rust's lookups one by one.
+fn several(f: &mut Figures, log: &Log) {
+    let keys = keys(0, 255);
+    let rust = rust_each(&keys, |i| {
+        assert!(black_box(log.overlays().value_ref(value_table(), i)).is_some())
+    });
+    let mut s = Shared::with(255);
+    for each in [16, 64, 256] {
+        let n = keys.len() / each * each;
+        let pairs: Vec<u64> = keys[..n].iter().flat_map(|&k| [2, k]).collect();
+        for (door, which) in DOORS {
+            let ours = best(|| {
+                assert_eq!(port::look_several(&mut s, door, 2 * each, &pairs), (n * VALUE) as u64)
+            });
+            f.time(
+                &format!("places_of, {each} keys a call, 255 shared{which}"),
+                ours * 1e9 / n as f64,
+                rust,
+            );
+        }
+    }
 }
 
 fn listed(f: &mut Figures, log: &Log, mut l: Listed) {

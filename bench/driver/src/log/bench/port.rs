@@ -95,6 +95,17 @@ extern "C" {
         dest: S,
         r: S,
     );
+    fn bench_several(
+        head: S,
+        words: S,
+        bytes: S,
+        kept: u64,
+        last: usize,
+        each: usize,
+        keys: S,
+        places: S,
+        r: S,
+    );
     fn bench_listed(
         tables: S,
         items: S,
@@ -365,6 +376,28 @@ pub fn look(s: &mut Shared, door: Door, what: What, keys: &[u64]) -> u64 {
             table,
             &lent(keys),
             dest,
+            &open(&mut r),
+        )
+    };
+    r[0]
+}
+
+/// The same for values, so many words of pairs a call: the bytes found.
+pub fn look_several(s: &mut Shared, door: Door, each: usize, pairs: &[u64]) -> u64 {
+    let (mut r, mut places) = ([0u64; 4], vec![0u64; each]);
+    let words = &open(&mut s.words[1280..2560]);
+    let bytes = &lent(&s.bytes[131072..262144]);
+    let (head, places) = (&lent(&s.head), &open(&mut places));
+    unsafe {
+        bench_several(
+            head,
+            words,
+            bytes,
+            door as u64,
+            UNUSED,
+            each,
+            &lent(pairs),
+            places,
             &open(&mut r),
         )
     };

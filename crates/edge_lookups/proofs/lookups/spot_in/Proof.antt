@@ -5,7 +5,7 @@ use native.Mathlib.Omega.{arith}
 use borrow.Author.Tests.{not-true, not-false}
 use Rattle.memory.specs.declared.span.Span.{Span}
 use Rattle.edge_lookups.specs.Lookups.{spottedIn}
-use Rattle.edge_lookups.specs.declared.place.Place.{Place}
+use Rattle.query.specs.declared.find.Place.{Place}
 use Rattle.edge_lookups.proofs.Places.{span-low, bytes-low, spot-none, spot-some}
 use borrow.Author.Needs.{needs}
 use Rattle.edge_lookups.proofs.lookups.spot_in.Statement.{statement}

@@ -7,7 +7,7 @@ use lib.ListN.{length}
 use Rattle.keys.specs.Keys.{rank}
 use Rattle.overlay.specs.Rules.{Overlay}
 use Rattle.memory.proofs.Lent.{Fits, fits, lent-is, kept-as}
-use Rattle.edge_lookups.specs.Lookups.{storedPlace}
+use Rattle.query.specs.Places.{storedPlace}
 use Rattle.edge_lookups.proofs.Places.{part-le}
 use borrow.Author.Needs.{needs}
 use Rattle.edge_lookups.proofs.place.place_of.Statement.{statement}

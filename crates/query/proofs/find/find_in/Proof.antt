@@ -1,79 +1,16 @@
--- `find_in` meets its contract. Assumes nothing.
-use mathlib.Core.Path.{_≡_, sym, _∙_}
-use mathlib.Core.List.{[]}
-use Prim.Native.Nat.{ℕ, _*_}
-use native.Mathlib.Omega.{arith}
+-- `find_in` meets its contract: the part that the place says. Assumes nothing.
 use denote.Ref.{now}
-use lib.ListN.{length}
 use Rattle.keys.specs.Keys.{rank}
-use Rattle.overlay.specs.Rules.{Overlay, rowsOf, orderOf, overlayOf}
-use Rattle.overlay.specs.Inner.{seatIn}
-use Rattle.overlay.specs.declared.seat.Seat.the-variants.{Over}
-use Rattle.overlay.proofs.Ruled.{Kept, shows}
-use Rattle.overlay.proofs.Parts.{words-long}
-use Rattle.overlay.proofs.Seats.{seat-keys}
-use Rattle.query.proofs.Found.{FoundAt, found, not-found, part-fits, part-is}
+use Rattle.query.proofs.Places.{part-of}
 use borrow.Author.Needs.{needs}
 use Rattle.query.proofs.find.find_in.Statement.{statement}
 use Rattle.query.proofs.find.find_in.Tie as tie
 
-module _ (s : tie.Start) where
-  abbrev over : Overlay
-  over = overlayOf (s .args .room) (now (s .args .words)) (now (s .args .bytes)) (s .args .n)
-
-  abbrev key : ℕ
-  key = rank (s .args .table) (s .args .index)
-
-  known : Kept (s .args .kind) (s .args .room) over
-  known = shows (s .args .kind) (s .args .room) over (s .pre)
-
-  long : length (now (s .args .words)) ≡ 5 * s .args .room
-  long = words-long (s .args .room) (now (s .args .words)) (known .rows-long) (known .order-long)
-
-  seat-is : seatIn (overlayOf (s .args .room) (now (s .args .words)) [] (s .args .n)) key ≡ seatIn over key
-  seat-is = seat-keys (rowsOf (s .args .room) (now (s .args .words))) (orderOf (s .args .room) (now (s .args .words))) (now (s .args .bytes)) (s .args .n) key
-
-module _ (c : tie.After-known-told) where
-  abbrev s : tie.Start
-  s = c .before .before .before .before .before .before
-
-  seat : seatIn (over s) (key s) ≡ Over (c .before .p .given .0 .0)
-  seat = sym (c .before .before .before .seat-of .ensures ∙ seat-is s) ∙ c .before .p .given .1
-
-  at : FoundAt (s .args .kind) (s .args .room) (over s) (s .pre) (key s) (c .before .p .given .0 .0)
-  at = found (s .args .kind) (s .args .room) (over s) (s .pre) (key s) (c .before .p .given .0 .0) seat
-
-seat-of-requires : tie.Need-seat-of-requires
-seat-of-requires c κs = let k = known (c .before .before) in (long (c .before .before), k .fits, k .in-order)
-
-enum-known-p : tie.Need-enum-known-p
-enum-known-p c = search needs
-
-slot-size-requires : tie.Need-slot-size-requires
-slot-size-requires c κs = search needs
-
-mul-a : tie.Need-mul-a
-mul-a c = rw (c .slot-size .ensures .0) (omega (arith, at (c .before) .at .stored))
-
-mul-stored-length : tie.Need-mul-stored-length
-mul-stored-length c = omega (arith, at (c .before) .at .low, long (c .before .before .before .before .before .before .before))
-
-add-stored-length : tie.Need-add-stored-length
-add-stored-length c = omega (arith, at (c .before) .at .low, long (c .before .before .before .before .before .before .before))
-
-mul-stored-length-2 : tie.Need-mul-stored-length-2
-mul-stored-length-2 c = omega (arith, at (c .before) .at .low, long (c .before .before .before .before .before .before .before))
-
-shared-slice-read-stored-length : tie.Need-shared-slice-read-stored-length
-shared-slice-read-stored-length c = omega (arith, at (c .before .before) .at .low, long (c .before .before .before .before .before .before .before .before))
-
-stored-length-requires : tie.Need-stored-length-requires
-stored-length-requires c κs = search needs
+place-in-requires : tie.Need-place-in-requires
+place-in-requires c κs = c .before .before .pre
 
 add-e : tie.Need-add-e
-add-e c =
-    let a = c .before .before .before .before .before .before .before .before .before .args in
-    omega (arith, part-fits (a .kind) (a .room) (now (a .words)) (now (a .bytes)) (a .n) (c .before .before .before .before .before .before .before .before .before .pre) (key (c .before .before .before .before .before .before .before .before .before)) (c .before .before .before .before .p .given .0 .0) (seat (c .before .before .before)) (c .before .before .slot-size .result) (c .stored-length .result) (c .before .before .slot-size .ensures .0) (c .stored-length .ensures))
+add-e c = search needs
 
 sub-result : tie.Need-sub-result
 sub-result c = search needs
@@ -82,52 +19,14 @@ part-result-start : tie.Need-part-result-start
 part-result-start c = search needs
 
 part-result-end : tie.Need-part-result-end
-part-result-end c =
-    let a = c .before .before .before .before .before .before .before .before .before .args in
-    part-fits (a .kind) (a .room) (now (a .words)) (now (a .bytes)) (a .n) (c .before .before .before .before .before .before .before .before .before .pre) (key (c .before .before .before .before .before .before .before .before .before)) (c .before .before .before .before .p .given .0 .0) (seat (c .before .before .before)) (c .before .before .slot-size .result) (c .stored-length .result) (c .before .before .slot-size .ensures .0) (c .stored-length .ensures)
-
-enum-told : tie.Need-enum-told
-enum-told c = search needs
-
-sub-result-2 : tie.Need-sub-result-2
-sub-result-2 c = search needs
-
-part-result-start-2 : tie.Need-part-result-start-2
-part-result-start-2 c = search needs
-
-part-result-end-2 : tie.Need-part-result-end-2
-part-result-end-2 c = search needs
+part-result-end c = search needs
 
 returns : tie.Need-returns
 returns c =
-    let a = c .before .before .before .before .before .before .before .before .before .before .args in
-    part-is (a .kind) (a .room) (now (a .words)) (now (a .bytes)) (a .n) (c .before .before .before .before .before .before .before .before .before .before .pre) (key (c .before .before .before .before .before .before .before .before .before .before)) (c .before .before .before .before .before .p .given .0 .0) (seat (c .before .before .before .before)) (c .before .before .before .slot-size .result) (c .before .stored-length .result) (c .before .before .before .slot-size .ensures .0) (c .before .stored-length .ensures)
-
-returns-2 : tie.Need-returns-2
-returns-2 c =
-    let a = c .before .before .before .before .before .before .args in
-    not-found (a .kind) (a .room) (over (c .before .before .before .before .before .before)) (c .before .before .before .before .before .before .pre) (key (c .before .before .before .before .before .before)) (c .before .enum-told .given .0 .0) (sym (c .before .before .before .seat-of .ensures ∙ seat-is (c .before .before .before .before .before .before)) ∙ c .before .enum-told .given .1)
+    let a = c .before .before .before .before .before .args in
+    part-of (a .kind) (a .room) (now (a .words)) (now (a .bytes)) (a .n) (c .before .before .before .before .before .pre) (rank (a .table) (a .index)) (c .before .before .place-in .result) (c .before .before .place-in .ensures .0)
 
 pub find-in-spec : {M : Type 1} → statement M
 find-in-spec =
     tie.close
-    (tie.spec
-    seat-of-requires
-    enum-known-p
-    slot-size-requires
-    mul-a
-    mul-stored-length
-    add-stored-length
-    mul-stored-length-2
-    shared-slice-read-stored-length
-    stored-length-requires
-    add-e
-    sub-result
-    part-result-start
-    part-result-end
-    enum-told
-    sub-result-2
-    part-result-start-2
-    part-result-end-2
-    returns
-    returns-2)
+    (tie.spec place-in-requires add-e sub-result part-result-start part-result-end returns)

@@ -12,11 +12,11 @@ use Rattle.overlay.specs.declared.seat.Seat.the-variants.{Over}
 use Rattle.overlay.proofs.Ruled.{Kept, shows}
 use Rattle.overlay.proofs.Parts.{words-long}
 use Rattle.overlay.proofs.Seats.{seat-keys}
-use Rattle.query.proofs.Found.{FoundAt, found}
-use Rattle.edge_lookups.proofs.Places.{place-over, place-none}
+use Rattle.query.proofs.Found.{FoundAt, found, part-fits}
+use Rattle.query.proofs.Places.{place-over, place-none}
 use borrow.Author.Needs.{needs}
-use Rattle.edge_lookups.proofs.place.place_in.Statement.{statement}
-use Rattle.edge_lookups.proofs.place.place_in.Tie as tie
+use Rattle.query.proofs.find.place_in.Statement.{statement}
+use Rattle.query.proofs.find.place_in.Tie as tie
 
 module _ (s : tie.Start) where
   abbrev over : Overlay
@@ -53,8 +53,8 @@ enum-known-p c = search needs
 slot-size-requires : tie.Need-slot-size-requires
 slot-size-requires c κs = search needs
 
-mul-t13 : tie.Need-mul-t13
-mul-t13 c = rw (c .slot-size .ensures .0) (omega (arith, at (c .before) .at .stored))
+mul-t12 : tie.Need-mul-t12
+mul-t12 c = rw (c .slot-size .ensures .0) (omega (arith, at (c .before) .at .stored))
 
 mul-stored-length : tie.Need-mul-stored-length
 mul-stored-length c = omega (arith, at (c .before) .at .low, long (c .before .before .before .before .before .before .before))
@@ -80,7 +80,7 @@ returns c =
     let b = c .before .before .before in
     let f = at b in (
       place-over (a .kind) (a .room) (now (a .words)) (now (a .bytes)) (a .n) (key (c .before .before .before .before .before .before .before .before .before)) (b .before .p .given .0 .0) (c .before .before .slot-size .result) (c .stored-length .result) (f .at .low) (seat b) (c .before .before .slot-size .ensures .0) (c .stored-length .ensures),
-      rw (c .before .before .slot-size .ensures .0) (omega (arith, f .at .stored)),
+      part-fits (a .kind) (a .room) (now (a .words)) (now (a .bytes)) (a .n) (c .before .before .before .before .before .before .before .before .before .pre) (key (c .before .before .before .before .before .before .before .before .before)) (b .before .p .given .0 .0) (seat b) (c .before .before .slot-size .result) (c .stored-length .result) (c .before .before .slot-size .ensures .0) (c .stored-length .ensures),
     )
 
 returns-2 : tie.Need-returns-2
@@ -94,7 +94,7 @@ place-in-spec =
     seat-of-requires
     enum-known-p
     slot-size-requires
-    mul-t13
+    mul-t12
     mul-stored-length
     add-stored-length
     mul-stored-length-2
