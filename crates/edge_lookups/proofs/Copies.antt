@@ -22,7 +22,7 @@ use Rattle.change.specs.Change.{changeOf, changeRuled}
 use Rattle.change.specs.declared.change.LogChange.{LogChange}
 use Rattle.query.specs.Query.{Looked, lookedIf, sharedPart, sharedLook, listedLook, bytesOf, isThere, copiedOver, copiedBy, CopiesOut}
 use Rattle.query.specs.declared.copy.Copied.{Copied}
-use Rattle.edge_lookups.specs.Lookups.{sharedKept, valueLook, valueListedLook}
+use Rattle.edge_lookups.specs.Lookups.{sharedKept, valueLook, valueListedLook, CopyLeft}
 use Rattle.edge_lookups.proofs.Places.{Ready, shared-ready}
 
 -- a copy by another name of what was looked up
@@ -95,12 +95,9 @@ module _ (o : LogOverlays) (words bytes : List ℕ) (key : ℕ) where
     listed-kept h s e = let k = r h in rw (eq-eqb (length words) 3840 (k .words-long), eq-eqb (length bytes) 524288 (k .bytes-long), e)
 
 -- as words: the answer's number, the destination, and whether there was a value
-pub told : (l m : Looked) → l ≡ m → (r : Copied) (dest after : List ℕ) → CopiesOut l r dest after → {n f : ℕ} → n ≡ numberOf (r .answer) → f ≡ oneIf (r .found)
-    → (n ≡ numberOf (m .answer)) × ((after ≡ copiedOver (bytesOf (m .entry)) dest) × (f ≡ oneIf (isThere (m .entry))))
-told l m e r dest after d a b = (
-  a ∙ ap (λ (x : Copied). numberOf (x .answer)) (d .0) ∙ ap (λ (x : Looked). numberOf (x .answer)) e,
-  (
-    d .1 ∙ ap (λ (x : Looked). copiedOver (bytesOf (x .entry)) dest) e,
-    b ∙ ap (λ (x : Copied). oneIf (x .found)) (d .0) ∙ ap (λ (x : Looked). oneIf (isThere (x .entry))) e,
-  ),
-)
+pub told : (l : Looked) {m : Looked} → l ≡ m → (r : Copied) (dest after : List ℕ) → CopiesOut l r dest after → {n f : ℕ} → (n ≡ numberOf (r .answer)) × (f ≡ oneIf (r .found)) → CopyLeft m dest n after f
+told l e r dest after d a = record {
+  number = a .0 ∙ ap (λ (x : Copied). numberOf (x .answer)) (d .0) ∙ ap (λ (x : Looked). numberOf (x .answer)) e;
+  copy = d .1 ∙ ap (λ (x : Looked). copiedOver (bytesOf (x .entry)) dest) e;
+  some = a .1 ∙ ap (λ (x : Copied). oneIf (x .found)) (d .0) ∙ ap (λ (x : Looked). oneIf (isThere (x .entry))) e;
+}

@@ -17,10 +17,9 @@ use Rattle.memory.specs.declared.span.Holder.{Holder}
 use Rattle.memory.specs.declared.span.Holder.the-variants as holder
 use Rattle.memory.proofs.OneKind.{shared-room}
 use Rattle.memory.proofs.Spans.{words-all, bytes-all, of-parts, AllKept, all-shows}
-use Rattle.edge_lookups.specs.Lookups.{memoryNumber, spotBy, sharedKept}
+use Rattle.edge_lookups.specs.Lookups.{memoryNumber, spotBy, sharedKept, SpotLeft}
 use Rattle.query.specs.declared.find.Place.{Place}
 use Rattle.edge_lookups.specs.declared.lookups.Spotted.{Spotted}
-use Rattle.answer.specs.Answer.{numberOf}
 use Rattle.answer.specs.declared.answer.Answer.the-variants.{Done}
 use Rattle.memory.specs.declared.span.Span.{Span}
 
@@ -89,10 +88,6 @@ module _ (h : Holder) (kind : TableKind) (p q : Place) (e : p ≡ q) (otherwise 
       let g : q .found ≡ true = ap (λ (x : Place). x .found) (sym e) ∙ f in
       rw (g, a, b, e)
 
--- as words: the answer's number, the memory, the place and the length
-pub told : (s t : Spotted) → s ≡ t → {n : ℕ} → n ≡ numberOf (s .answer)
-    → (n ≡ numberOf (t .answer)) × ((s .memory ≡ t .memory) × ((s .place ≡ t .place) × (s .length ≡ t .length)))
-told s t e a = (
-  a ∙ ap (λ (x : Spotted). numberOf (x .answer)) e,
-  (ap (λ (x : Spotted). x .memory) e, (ap (λ (x : Spotted). x .place) e, ap (λ (x : Spotted). x .length) e)),
-)
+-- as words: of what is handed back, and of what the definition says
+pub told : {s t : Spotted} {answer memory place long : ℕ} → s ≡ t → SpotLeft s answer memory place long → SpotLeft t answer memory place long
+told {answer = answer} {memory = memory} {place = place} {long = long} e p = subst (λ (x : Spotted). SpotLeft x answer memory place long) e p

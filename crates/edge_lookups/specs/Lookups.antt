@@ -1,5 +1,6 @@
 -- Lookups over words. A part of a lent memory can't be handed across: which memory it lies in, its place and its length are (document 01: "answers
 -- with the stored bytes themselves, from the local memory or the shared one"). That they are those bytes: `place-bytes`, crates/query/proofs/Places.
+use mathlib.Core.Path.{_≡_}
 use mathlib.Core.Bool.{Bool, false, _&&_}
 use mathlib.Core.List.{List}
 use mathlib.Core.Option.{none}
@@ -7,10 +8,12 @@ use Prim.Native.Nat.{ℕ, _+_}
 use lib.Dec.{eqb}
 use lib.ListN.{length}
 use Rattle.words.specs.Choice.{if_then_else_}
+use Rattle.answer.specs.Answer.{numberOf}
 use Rattle.answer.specs.declared.answer.Answer.{Answer}
 use Rattle.answer.specs.declared.answer.Answer.the-variants.{Done, BadState}
 use Rattle.directory.specs.declared.table.TableKind.{TableKind}
 use Rattle.directory.specs.declared.table.TableKind.the-variants.{Value}
+use Rattle.numbers.specs.Numbers.{oneIf}
 use Rattle.overlay.specs.Rules.{overlayKept}
 use Rattle.memory.specs.Parts.{spanOf, partOf}
 use Rattle.memory.specs.declared.counts.Counts.{Counts}
@@ -19,7 +22,7 @@ use Rattle.memory.specs.declared.span.Holder.{Holder}
 use Rattle.memory.specs.declared.span.Holder.the-variants as holder
 use Rattle.change.specs.Change.{changeOf, changeRuled}
 use Rattle.change.specs.declared.change.LogChange.{LogChange}
-use Rattle.query.specs.Query.{Looked, lookedIf, sharedLook, listedLook}
+use Rattle.query.specs.Query.{Looked, lookedIf, sharedLook, listedLook, bytesOf, isThere, copiedOver}
 use Rattle.query.specs.Places.{storedPlace}
 use Rattle.query.specs.declared.find.Place.{Place}
 use Rattle.edge_lookups.specs.declared.lookups.Spotted.{Spotted}
@@ -73,3 +76,16 @@ valueListedLook l items chunks o words bytes key =
     if eqb (length words) 3840 && eqb (length bytes) 524288
     then listedLook Value (changeOf l items chunks) (partOf holder.Shared Value (o .counts) words bytes) key
     else lookedIf false none
+
+-- what a lookup leaves: its answer's number; the memory, the place in it, and how many bytes lie there
+pub record SpotLeft (s : Spotted) (answer memory place long : ℕ) : Type 0 where
+  pub number : answer ≡ numberOf (s .answer)
+  pub holder : memory ≡ s .memory
+  pub first : place ≡ s .place
+  pub count : long ≡ s .length
+
+-- what `value` leaves: its answer's number, the destination from as it was to as it then is, whether there was a value
+pub record CopyLeft (l : Looked) (dest : List ℕ) (answer : ℕ) (after : List ℕ) (found : ℕ) : Type 0 where
+  pub number : answer ≡ numberOf (l .answer)
+  pub copy : after ≡ copiedOver (bytesOf (l .entry)) dest
+  pub some : found ≡ oneIf (isThere (l .entry))

@@ -2,7 +2,6 @@
 ghost use mathlib.Core.Path.{_≡_};
 ghost use mathlib.Core.Bool.{true};
 ghost use lib.ListN.{length};
-ghost use Rattle.answer.specs.Answer.{numberOf};
 ghost use Rattle.keys.specs.Keys.{rank};
 ghost use Rattle.overlay.specs.Rules.{overlayKept};
 ghost use Rattle.memory.specs.Parts.{spanOf, wordsAll, bytesAll, partOf};
@@ -12,7 +11,7 @@ ghost use Rattle.change.specs.Change.{changeOf, changeRuled};
 ghost use Rattle.host_words.specs.Tables.{kindFrom};
 ghost use Rattle.host_words.specs.Change.{listFrom};
 ghost use Rattle.host_words.specs.Overlays.{overlaysFrom};
-ghost use Rattle.edge_lookups.specs.Lookups.{nowhere, memoryNumber, spottedIn, sharedKept, sharedSpot, listedSpot};
+ghost use Rattle.edge_lookups.specs.Lookups.{nowhere, memoryNumber, spottedIn, sharedKept, sharedSpot, listedSpot, SpotLeft};
 use super::place::place_of;
 use answer::Answer;
 use change::LogChange;
@@ -182,6 +181,17 @@ fn listed_spot(
     )
 }
 
+// What a lookup found, stored where the host lent room for it: one for all of them.
+fn keep_spot(spot: Spotted, memory: &mut u64, place: &mut u64, length: &mut u64) -> u64
+    ensures { λ r. ⌜ SpotLeft spot r (now (memory .exit)) (now (place .exit)) (now (length .exit)) ⌝ }
+{
+    *memory = spot.memory;
+    *place = spot.place as u64;
+    *length = spot.length as u64;
+    let answer = spot.answer;
+    number(answer)
+}
+
 #[no_mangle]
 pub extern "C" fn hongsathep_lookup(
     kind: u64,
@@ -194,18 +204,12 @@ pub extern "C" fn hongsathep_lookup(
     place: &mut u64,
     length: &mut u64,
 ) -> u64
-    ensures answer { λ r. ⌜ r ≡ numberOf (sharedSpot (kindFrom kind) (overlaysFrom (now (overlays .entry)) .counts) (now (words .entry)) (now (bytes .entry)) (rank table index) .answer) ⌝ }
-    ensures memory { λ r. ⌜ now (memory .exit) ≡ sharedSpot (kindFrom kind) (overlaysFrom (now (overlays .entry)) .counts) (now (words .entry)) (now (bytes .entry)) (rank table index) .memory ⌝ }
-    ensures place { λ r. ⌜ now (place .exit) ≡ sharedSpot (kindFrom kind) (overlaysFrom (now (overlays .entry)) .counts) (now (words .entry)) (now (bytes .entry)) (rank table index) .place ⌝ }
-    ensures length { λ r. ⌜ now (length .exit) ≡ sharedSpot (kindFrom kind) (overlaysFrom (now (overlays .entry)) .counts) (now (words .entry)) (now (bytes .entry)) (rank table index) .length ⌝ }
+    ensures { λ r. ⌜ SpotLeft (sharedSpot (kindFrom kind) (overlaysFrom (now (overlays .entry)) .counts) (now (words .entry)) (now (bytes .entry)) (rank table index)) r (now (memory .exit)) (now (place .exit)) (now (length .exit)) ⌝ }
 {
     let counts = overlays_of(overlays).counts;
-    let spot = shared_spot(kind_of(kind), counts, words, bytes, table, index);
-    *memory = spot.memory;
-    *place = spot.place as u64;
-    *length = spot.length as u64;
-    let answer = spot.answer;
-    number(answer)
+    let k = kind_of(kind);
+    let spot = shared_spot(k, counts, words, bytes, table, index);
+    keep_spot(spot, memory, place, length)
 }
 
 #[no_mangle]
@@ -223,28 +227,13 @@ pub extern "C" fn hongsathep_lookup_listed(
     place: &mut u64,
     length: &mut u64,
 ) -> u64
-    ensures answer { λ r. ⌜ r ≡ numberOf (listedSpot (kindFrom kind) (listFrom (now (list .entry))) (now (items .entry)) (now (chunks .entry)) (overlaysFrom (now (overlays .entry)) .counts) (now (words .entry)) (now (bytes .entry)) (rank table index) .answer) ⌝ }
-    ensures memory { λ r. ⌜ now (memory .exit) ≡ listedSpot (kindFrom kind) (listFrom (now (list .entry))) (now (items .entry)) (now (chunks .entry)) (overlaysFrom (now (overlays .entry)) .counts) (now (words .entry)) (now (bytes .entry)) (rank table index) .memory ⌝ }
-    ensures place { λ r. ⌜ now (place .exit) ≡ listedSpot (kindFrom kind) (listFrom (now (list .entry))) (now (items .entry)) (now (chunks .entry)) (overlaysFrom (now (overlays .entry)) .counts) (now (words .entry)) (now (bytes .entry)) (rank table index) .place ⌝ }
-    ensures length { λ r. ⌜ now (length .exit) ≡ listedSpot (kindFrom kind) (listFrom (now (list .entry))) (now (items .entry)) (now (chunks .entry)) (overlaysFrom (now (overlays .entry)) .counts) (now (words .entry)) (now (bytes .entry)) (rank table index) .length ⌝ }
+    ensures { λ r. ⌜ SpotLeft (listedSpot (kindFrom kind) (listFrom (now (list .entry))) (now (items .entry)) (now (chunks .entry)) (overlaysFrom (now (overlays .entry)) .counts) (now (words .entry)) (now (bytes .entry)) (rank table index)) r (now (memory .exit)) (now (place .exit)) (now (length .exit)) ⌝ }
 {
     let counts = overlays_of(overlays).counts;
-    let spot = listed_spot(
-        kind_of(kind),
-        list_of(list),
-        items,
-        chunks,
-        counts,
-        words,
-        bytes,
-        table,
-        index,
-    );
-    *memory = spot.memory;
-    *place = spot.place as u64;
-    *length = spot.length as u64;
-    let answer = spot.answer;
-    number(answer)
+    let k = kind_of(kind);
+    let l = list_of(list);
+    let spot = listed_spot(k, l, items, chunks, counts, words, bytes, table, index);
+    keep_spot(spot, memory, place, length)
 }
 
 #[no_mangle]
@@ -260,18 +249,12 @@ pub extern "C" fn hongsathep_lookup_kept(
     length: &mut u64,
 ) -> u64
     requires { ⌜ sharedKept (kindFrom kind) (overlaysFrom (now overlays) .counts) (now words) (now bytes) ≡ true ⌝ }
-    ensures answer { λ r. ⌜ r ≡ numberOf (spottedIn Shared (kindFrom kind) (overlaysFrom (now (overlays .entry)) .counts) (now (words .entry)) (now (bytes .entry)) (rank table index) (nowhere Done) .answer) ⌝ }
-    ensures memory { λ r. ⌜ now (memory .exit) ≡ spottedIn Shared (kindFrom kind) (overlaysFrom (now (overlays .entry)) .counts) (now (words .entry)) (now (bytes .entry)) (rank table index) (nowhere Done) .memory ⌝ }
-    ensures place { λ r. ⌜ now (place .exit) ≡ spottedIn Shared (kindFrom kind) (overlaysFrom (now (overlays .entry)) .counts) (now (words .entry)) (now (bytes .entry)) (rank table index) (nowhere Done) .place ⌝ }
-    ensures length { λ r. ⌜ now (length .exit) ≡ spottedIn Shared (kindFrom kind) (overlaysFrom (now (overlays .entry)) .counts) (now (words .entry)) (now (bytes .entry)) (rank table index) (nowhere Done) .length ⌝ }
+    ensures { λ r. ⌜ SpotLeft (spottedIn Shared (kindFrom kind) (overlaysFrom (now (overlays .entry)) .counts) (now (words .entry)) (now (bytes .entry)) (rank table index) (nowhere Done)) r (now (memory .exit)) (now (place .exit)) (now (length .exit)) ⌝ }
 {
     let counts = overlays_of(overlays).counts;
-    let spot = shared_spot_kept(kind_of(kind), counts, words, bytes, table, index);
-    *memory = spot.memory;
-    *place = spot.place as u64;
-    *length = spot.length as u64;
-    let answer = spot.answer;
-    number(answer)
+    let k = kind_of(kind);
+    let spot = shared_spot_kept(k, counts, words, bytes, table, index);
+    keep_spot(spot, memory, place, length)
 }
 
 #[no_mangle]
@@ -290,26 +273,11 @@ pub extern "C" fn hongsathep_lookup_listed_kept(
     length: &mut u64,
 ) -> u64
     requires { ⌜ (changeRuled (changeOf (listFrom (now list)) (now items) (now chunks)) ≡ true) × (sharedKept (kindFrom kind) (overlaysFrom (now overlays) .counts) (now words) (now bytes) ≡ true) ⌝ }
-    ensures answer { λ r. ⌜ r ≡ numberOf (spottedIn List (kindFrom kind) (listFrom (now (list .entry)) .counts) (now (items .entry)) (now (chunks .entry)) (rank table index) (spottedIn Shared (kindFrom kind) (overlaysFrom (now (overlays .entry)) .counts) (now (words .entry)) (now (bytes .entry)) (rank table index) (nowhere Done)) .answer) ⌝ }
-    ensures memory { λ r. ⌜ now (memory .exit) ≡ spottedIn List (kindFrom kind) (listFrom (now (list .entry)) .counts) (now (items .entry)) (now (chunks .entry)) (rank table index) (spottedIn Shared (kindFrom kind) (overlaysFrom (now (overlays .entry)) .counts) (now (words .entry)) (now (bytes .entry)) (rank table index) (nowhere Done)) .memory ⌝ }
-    ensures place { λ r. ⌜ now (place .exit) ≡ spottedIn List (kindFrom kind) (listFrom (now (list .entry)) .counts) (now (items .entry)) (now (chunks .entry)) (rank table index) (spottedIn Shared (kindFrom kind) (overlaysFrom (now (overlays .entry)) .counts) (now (words .entry)) (now (bytes .entry)) (rank table index) (nowhere Done)) .place ⌝ }
-    ensures length { λ r. ⌜ now (length .exit) ≡ spottedIn List (kindFrom kind) (listFrom (now (list .entry)) .counts) (now (items .entry)) (now (chunks .entry)) (rank table index) (spottedIn Shared (kindFrom kind) (overlaysFrom (now (overlays .entry)) .counts) (now (words .entry)) (now (bytes .entry)) (rank table index) (nowhere Done)) .length ⌝ }
+    ensures { λ r. ⌜ SpotLeft (spottedIn List (kindFrom kind) (listFrom (now (list .entry)) .counts) (now (items .entry)) (now (chunks .entry)) (rank table index) (spottedIn Shared (kindFrom kind) (overlaysFrom (now (overlays .entry)) .counts) (now (words .entry)) (now (bytes .entry)) (rank table index) (nowhere Done))) r (now (memory .exit)) (now (place .exit)) (now (length .exit)) ⌝ }
 {
     let counts = overlays_of(overlays).counts;
-    let spot = listed_spot_kept(
-        kind_of(kind),
-        list_of(list),
-        items,
-        chunks,
-        counts,
-        words,
-        bytes,
-        table,
-        index,
-    );
-    *memory = spot.memory;
-    *place = spot.place as u64;
-    *length = spot.length as u64;
-    let answer = spot.answer;
-    number(answer)
+    let k = kind_of(kind);
+    let l = list_of(list);
+    let spot = listed_spot_kept(k, l, items, chunks, counts, words, bytes, table, index);
+    keep_spot(spot, memory, place, length)
 }

@@ -7,10 +7,10 @@ ghost use Rattle.directory.specs.declared.table.TableKind.the-variants.{Value};
 ghost use Rattle.numbers.specs.Numbers.{oneIf};
 ghost use Rattle.keys.specs.Keys.{rank};
 ghost use Rattle.change.specs.Change.{changeOf, changeRuled};
-ghost use Rattle.query.specs.Query.{bytesOf, isThere, lookedIf, copiedOver, copiedBy, CopiesOut};
+ghost use Rattle.query.specs.Query.{lookedIf, copiedBy, CopiesOut};
 ghost use Rattle.host_words.specs.Change.{listFrom};
 ghost use Rattle.host_words.specs.Overlays.{overlaysFrom};
-ghost use Rattle.edge_lookups.specs.Lookups.{sharedKept, valueLook, valueListedLook};
+ghost use Rattle.edge_lookups.specs.Lookups.{sharedKept, valueLook, valueListedLook, CopyLeft};
 use super::lookups::shared_kept;
 use answer::Answer;
 use change::LogChange;
@@ -142,6 +142,15 @@ fn copied_listed<'a>(
     )
 }
 
+// What a copy came to, stored where the host lent room for it: one for all of them.
+fn keep_copied(done: Copied, found: &mut u64) -> u64
+    ensures { λ r. ⌜ (r ≡ numberOf (done .answer)) × (now (found .exit) ≡ oneIf (done .found)) ⌝ }
+{
+    *found = flag(done.found);
+    let answer = done.answer;
+    number(answer)
+}
+
 #[no_mangle]
 pub extern "C" fn hongsathep_value<'a>(
     overlays: &[u64],
@@ -152,14 +161,10 @@ pub extern "C" fn hongsathep_value<'a>(
     dest: &mut [u8],
     found: &mut u64,
 ) -> u64
-    ensures answer { λ r. ⌜ r ≡ numberOf (valueLook (overlaysFrom (now (overlays .entry))) (now (words .entry)) (now (bytes .entry)) (rank table index) .answer) ⌝ }
-    ensures dest { λ r. ⌜ now (dest .exit) ≡ copiedOver (bytesOf (valueLook (overlaysFrom (now (overlays .entry))) (now (words .entry)) (now (bytes .entry)) (rank table index) .entry)) (now (dest .entry)) ⌝ }
-    ensures found { λ r. ⌜ now (found .exit) ≡ oneIf (isThere (valueLook (overlaysFrom (now (overlays .entry))) (now (words .entry)) (now (bytes .entry)) (rank table index) .entry)) ⌝ }
+    ensures { λ r. ⌜ CopyLeft (valueLook (overlaysFrom (now (overlays .entry))) (now (words .entry)) (now (bytes .entry)) (rank table index)) (now (dest .entry)) r (now (dest .exit)) (now (found .exit)) ⌝ }
 {
     let done = copied(overlays_of(overlays), words, bytes, table, index, dest);
-    *found = flag(done.found);
-    let answer = done.answer;
-    number(answer)
+    keep_copied(done, found)
 }
 
 #[no_mangle]
@@ -173,14 +178,10 @@ pub extern "C" fn hongsathep_value_kept<'a>(
     found: &mut u64,
 ) -> u64
     requires { ⌜ sharedKept Value (overlaysFrom (now overlays) .counts) (now words) (now bytes) ≡ true ⌝ }
-    ensures answer { λ r. ⌜ r ≡ numberOf (valueLook (overlaysFrom (now (overlays .entry))) (now (words .entry)) (now (bytes .entry)) (rank table index) .answer) ⌝ }
-    ensures dest { λ r. ⌜ now (dest .exit) ≡ copiedOver (bytesOf (valueLook (overlaysFrom (now (overlays .entry))) (now (words .entry)) (now (bytes .entry)) (rank table index) .entry)) (now (dest .entry)) ⌝ }
-    ensures found { λ r. ⌜ now (found .exit) ≡ oneIf (isThere (valueLook (overlaysFrom (now (overlays .entry))) (now (words .entry)) (now (bytes .entry)) (rank table index) .entry)) ⌝ }
+    ensures { λ r. ⌜ CopyLeft (valueLook (overlaysFrom (now (overlays .entry))) (now (words .entry)) (now (bytes .entry)) (rank table index)) (now (dest .entry)) r (now (dest .exit)) (now (found .exit)) ⌝ }
 {
     let done = copied_kept(overlays_of(overlays), words, bytes, table, index, dest);
-    *found = flag(done.found);
-    let answer = done.answer;
-    number(answer)
+    keep_copied(done, found)
 }
 
 #[no_mangle]
@@ -196,24 +197,12 @@ pub extern "C" fn hongsathep_value_listed<'a>(
     dest: &mut [u8],
     found: &mut u64,
 ) -> u64
-    ensures answer { λ r. ⌜ r ≡ numberOf (valueListedLook (listFrom (now (list .entry))) (now (items .entry)) (now (chunks .entry)) (overlaysFrom (now (overlays .entry))) (now (words .entry)) (now (bytes .entry)) (rank table index) .answer) ⌝ }
-    ensures dest { λ r. ⌜ now (dest .exit) ≡ copiedOver (bytesOf (valueListedLook (listFrom (now (list .entry))) (now (items .entry)) (now (chunks .entry)) (overlaysFrom (now (overlays .entry))) (now (words .entry)) (now (bytes .entry)) (rank table index) .entry)) (now (dest .entry)) ⌝ }
-    ensures found { λ r. ⌜ now (found .exit) ≡ oneIf (isThere (valueListedLook (listFrom (now (list .entry))) (now (items .entry)) (now (chunks .entry)) (overlaysFrom (now (overlays .entry))) (now (words .entry)) (now (bytes .entry)) (rank table index) .entry)) ⌝ }
+    ensures { λ r. ⌜ CopyLeft (valueListedLook (listFrom (now (list .entry))) (now (items .entry)) (now (chunks .entry)) (overlaysFrom (now (overlays .entry))) (now (words .entry)) (now (bytes .entry)) (rank table index)) (now (dest .entry)) r (now (dest .exit)) (now (found .exit)) ⌝ }
 {
-    let done = copied_listed(
-        list_of(list),
-        items,
-        chunks,
-        overlays_of(overlays),
-        words,
-        bytes,
-        table,
-        index,
-        dest,
-    );
-    *found = flag(done.found);
-    let answer = done.answer;
-    number(answer)
+    let l = list_of(list);
+    let o = overlays_of(overlays);
+    let done = copied_listed(l, items, chunks, o, words, bytes, table, index, dest);
+    keep_copied(done, found)
 }
 
 #[no_mangle]
@@ -230,22 +219,10 @@ pub extern "C" fn hongsathep_value_listed_kept<'a>(
     found: &mut u64,
 ) -> u64
     requires { ⌜ (changeRuled (changeOf (listFrom (now list)) (now items) (now chunks)) ≡ true) × (sharedKept Value (overlaysFrom (now overlays) .counts) (now words) (now bytes) ≡ true) ⌝ }
-    ensures answer { λ r. ⌜ r ≡ numberOf (valueListedLook (listFrom (now (list .entry))) (now (items .entry)) (now (chunks .entry)) (overlaysFrom (now (overlays .entry))) (now (words .entry)) (now (bytes .entry)) (rank table index) .answer) ⌝ }
-    ensures dest { λ r. ⌜ now (dest .exit) ≡ copiedOver (bytesOf (valueListedLook (listFrom (now (list .entry))) (now (items .entry)) (now (chunks .entry)) (overlaysFrom (now (overlays .entry))) (now (words .entry)) (now (bytes .entry)) (rank table index) .entry)) (now (dest .entry)) ⌝ }
-    ensures found { λ r. ⌜ now (found .exit) ≡ oneIf (isThere (valueListedLook (listFrom (now (list .entry))) (now (items .entry)) (now (chunks .entry)) (overlaysFrom (now (overlays .entry))) (now (words .entry)) (now (bytes .entry)) (rank table index) .entry)) ⌝ }
+    ensures { λ r. ⌜ CopyLeft (valueListedLook (listFrom (now (list .entry))) (now (items .entry)) (now (chunks .entry)) (overlaysFrom (now (overlays .entry))) (now (words .entry)) (now (bytes .entry)) (rank table index)) (now (dest .entry)) r (now (dest .exit)) (now (found .exit)) ⌝ }
 {
-    let done = copied_listed_kept(
-        list_of(list),
-        items,
-        chunks,
-        overlays_of(overlays),
-        words,
-        bytes,
-        table,
-        index,
-        dest,
-    );
-    *found = flag(done.found);
-    let answer = done.answer;
-    number(answer)
+    let l = list_of(list);
+    let o = overlays_of(overlays);
+    let done = copied_listed_kept(l, items, chunks, o, words, bytes, table, index, dest);
+    keep_copied(done, found)
 }
