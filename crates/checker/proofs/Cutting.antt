@@ -47,6 +47,16 @@ use Rattle.checker.proofs.Sound.{check-settles, check-waits, Waits}
 front-bytes : (xs ys : List ℕ) → Bytes (xs ++ ys) → Bytes xs
 front-bytes xs ys h = subst Bytes (take-append-seam xs ys) (take-bytes (length xs) (xs ++ ys) h)
 
+-- 1 and 2 may change
+short : (b : Bool) → mayChange (if b then Cut else EndOfLog) ≡ true
+short true = refl
+short false = refl
+
+-- what a piece tells of a run's report: its answer, 0 in place of 1 and 2, and beside any other the place of the fault
+pub record Told (x : Checked) (ran : Ran) : Type 0 where
+  pub answers : x .answer ≡ openAs0 (ran .answer)
+  pub place : mayChange (ran .answer) ≡ false → x .«fault_at» ≡ ran .«fault_at»
+
 module _ (d : Directory) (ok : directoryKept d ≡ true) (first : ℕ) where
   abbrev begin : Standing
   begin = firstStanding first
@@ -101,7 +111,7 @@ module _ (d : Directory) (ok : directoryKept d ≡ true) (first : ℕ) where
 
     -- what is to be shown of the piece's answer
     abbrev After : Checked → Type 0
-    After x = Means (x .checker) (all ++ bytes) × (x .answer ≡ openAs0 (reportIn 0 (checkIn d (all ++ bytes) 0 begin) .answer))
+    After x = Means (x .checker) (all ++ bytes) × Told x (reportIn 0 (checkIn d (all ++ bytes) 0 begin))
 
     within : (k : Check) → checkIn d all 0 begin ≡ k → checkIn d (all ++ bytes) 0 begin ≡ resumed (checkIn d (all ++ bytes) 0) k
     within k e = check-append d ok all (front-bytes all bytes known) bytes 0 begin (omega arith) ∙ ap (resumed (checkIn d (all ++ bytes) 0)) e
@@ -121,7 +131,10 @@ module _ (d : Directory) (ok : directoryKept d ≡ true) (first : ℕ) where
             going = m .going;
             holds = subst (Holds (counted c (length bytes)) (all ++ bytes)) (sym q) (h .0, h .1);
           },
-          ap (λ (x : Ran). x .answer) (h .1) ∙ sym (ap (λ (k : Check). openAs0 (reportIn 0 k .answer)) q ∙ if-false (mayChange (ran .answer)) _ _ (no-change (ran .answer) r)),
+          record {
+            answers = ap (λ (x : Ran). x .answer) (h .1) ∙ sym (ap (λ (k : Check). openAs0 (reportIn 0 k .answer)) q ∙ if-false (mayChange (ran .answer)) _ _ (no-change (ran .answer) r));
+            place = λ m. ap (λ (x : Ran). x .«fault_at») (h .1) ∙ sym (ap (λ (k : Check). reportIn 0 k .«fault_at») q);
+          },
         )
 
     module _ (s : Standing) (e : checkIn d all 0 begin ≡ check.Waiting s) where
@@ -195,7 +208,10 @@ module _ (d : Directory) (ok : directoryKept d ≡ true) (first : ℕ) where
                 refl,
               );
             },
-            sym (ap (λ (k : Check). openAs0 (reportIn 0 k .answer)) g ∙ either (s2 .reader .inside)),
+            record {
+              answers = sym (ap (λ (k : Check). openAs0 (reportIn 0 k .answer)) g ∙ either (s2 .reader .inside));
+              place = λ m. absurd (true≢false (sym (short (s2 .reader .inside)) ∙ sym (ap (λ (k : Check). mayChange (reportIn 0 k .answer)) g) ∙ m));
+            },
           )
 
       settles-now : (ran : Ran) → checkIn (c .directory) (unread c ++ bytes) (c .total - c .held) (c .standing) ≡ check.Settled ran → After (pieceBy (counted c (length bytes)) (unread c ++ bytes) (check.Settled ran))
@@ -210,7 +226,10 @@ module _ (d : Directory) (ok : directoryKept d ≡ true) (first : ℕ) where
               going = m .going;
               holds = subst (Holds (settled (counted c (length bytes)) ran) (all ++ bytes)) (sym g) (not-zero (ran .answer) f, refl);
             },
-            sym (ap (λ (k : Check). openAs0 (reportIn 0 k .answer)) g ∙ if-false (mayChange (ran .answer)) _ _ (no-change (ran .answer) f)),
+            record {
+              answers = sym (ap (λ (k : Check). openAs0 (reportIn 0 k .answer)) g ∙ if-false (mayChange (ran .answer)) _ _ (no-change (ran .answer) f));
+              place = λ m. sym (ap (λ (k : Check). reportIn 0 k .«fault_at») g);
+            },
           )
 
       was-waiting : After (pieceOf c bytes)
@@ -264,7 +283,7 @@ module _ (d : Directory) (ok : directoryKept d ≡ true) (first : ℕ) where
   pieces-close ps known few = closes (afterPieces (newChecker d first) ps) (allBytes ps) (pieces ps (newChecker d first) [] means-new known few)
 
   pub pieces-answer : (ps : List (List ℕ)) (bytes : List ℕ) → Bytes (allBytes ps ++ bytes) → length (allBytes ps ++ bytes) < 9223372036854775808
-      → pieceOf (afterPieces (newChecker d first) ps) bytes .answer ≡ openAs0 (reportIn 0 (checkIn d (allBytes ps ++ bytes) 0 begin) .answer)
+      → Told (pieceOf (afterPieces (newChecker d first) ps) bytes) (reportIn 0 (checkIn d (allBytes ps ++ bytes) 0 begin))
   pieces-answer ps bytes known few =
       let l : length (allBytes ps ++ bytes) ≡ length (allBytes ps) + length bytes = length-append (allBytes ps) bytes in
       let m = pieces ps (newChecker d first) [] means-new (front-bytes (allBytes ps) bytes known) (omega arith) in
@@ -313,17 +332,19 @@ module _ (d : Directory) (first : ℕ) (image : List ℕ) (long : length image �
           ∙ ap (λ (x : Closed). x .ran) (broken-close (newChecker d first) (broken-new d first e))
           ∙ sym (ap (λ (o : Outcome). o .ran) (run-bad d (allBytes ps) 0 first image (broken-tables e)))
 
-  -- A PIECE ANSWERS what a run over the bytes so far answers, and 0 in place of 1 and 2
+  -- A PIECE ANSWERS what a run over the bytes so far answers, and 0 in place of 1 and 2; beside any other answer it tells the run's place
   pub piece-as-run : (ps : List (List ℕ)) (bytes : List ℕ) → Bytes (allBytes ps ++ bytes) → length (allBytes ps ++ bytes) < 9223372036854775808
-      → pieceOf (afterPieces (newChecker d first) ps) bytes .answer ≡ openAs0 (runOf d (allBytes ps ++ bytes) 0 first image .ran .answer)
+      → Told (pieceOf (afterPieces (newChecker d first) ps) bytes) (runOf d (allBytes ps ++ bytes) 0 first image .ran)
   piece-as-run ps bytes known few = by (directoryKept d) refl
     where
-      by : (b : Bool) → directoryKept d ≡ b → pieceOf (afterPieces (newChecker d first) ps) bytes .answer ≡ openAs0 (runOf d (allBytes ps ++ bytes) 0 first image .ran .answer)
-      by true e = pieces-answer d e first ps bytes known few ∙ ap (λ (r : Ran). openAs0 (r .answer)) (sym (run-reports d (allBytes ps ++ bytes) first image (kept-tables e)))
+      by : (b : Bool) → directoryKept d ≡ b → Told (pieceOf (afterPieces (newChecker d first) ps) bytes) (runOf d (allBytes ps ++ bytes) 0 first image .ran)
+      by true e =
+          subst (Told (pieceOf (afterPieces (newChecker d first) ps) bytes)) (sym (run-reports d (allBytes ps ++ bytes) first image (kept-tables e))) (pieces-answer d e first ps bytes known few)
       by false e =
-          ap (λ (c : LogChecker). pieceOf c bytes .answer) (broken-pieces (newChecker d first) (broken-new d first e) ps)
-          ∙ ap (λ (x : Checked). x .answer) (broken-piece (newChecker d first) (broken-new d first e) bytes)
-          ∙ sym (ap (λ (o : Outcome). openAs0 (o .ran .answer)) (run-bad d (allBytes ps ++ bytes) 0 first image (broken-tables e)))
+          let p : pieceOf (afterPieces (newChecker d first) ps) bytes ≡ answered BadState (newChecker d first) =
+          ap (λ (c : LogChecker). pieceOf c bytes) (broken-pieces (newChecker d first) (broken-new d first e) ps) ∙ broken-piece (newChecker d first) (broken-new d first e) bytes in
+          subst (λ (o : Outcome). Told (pieceOf (afterPieces (newChecker d first) ps) bytes) (o .ran)) (sym (run-bad d (allBytes ps ++ bytes) 0 first image (broken-tables e)))
+          (record { answers = ap (λ (x : Checked). x .answer) p; place = λ m. ap (λ (x : Checked). x .«fault_at») p })
 
   -- WHAT A RUN REPORTS DOESN'T DEPEND ON THE IMAGE
   pub any-image : (other : List ℕ) → length other ≡ imageLength d → (log : List ℕ) → runOf d log 0 first image .ran ≡ runOf d log 0 first other .ran
@@ -340,10 +361,6 @@ module _ (d : Directory) (first : ℕ) (image : List ℕ) (long : length image �
   pub run-lasting : (log more : List ℕ) → Bytes log → mayChange (runOf d log 0 first image .ran .answer) ≡ false → runOf d (log ++ more) 0 first image .ran ≡ runOf d log 0 first image .ran
   run-lasting log more known m = by (directoryKept d) refl
     where
-      short : (b : Bool) → mayChange (if b then Cut else EndOfLog) ≡ true
-      short true = refl
-      short false = refl
-
       kept : (e : directoryKept d ≡ true) (k : Check) → checkIn d log 0 (firstStanding first) ≡ k → runOf d (log ++ more) 0 first image .ran ≡ runOf d log 0 first image .ran
       kept e (check.Settled ran) q =
           run-reports d (log ++ more) first image (kept-tables e)
