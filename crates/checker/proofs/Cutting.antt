@@ -28,7 +28,7 @@ use Rattle.replay.specs.declared.many_records.Ran.{Ran}
 use Rattle.replay.proofs.Records.{run-bad}
 use Rattle.numbers.proofs.Laws.{both}
 use Rattle.checker.specs.Check.{mayChange, decides, firstStanding, readingAt, reportOf, checkOn, checkIn}
-use Rattle.checker.specs.Checker.{checkerBytes, unread, padded, isOpen, newChecker, checkerKept, answered, counted, told, keeping, settled, pieceBy, pieceTaken, pieceKept, pieceOf, reportIn, reportNow, unclosed, closeKept, closeOf, afterPieces, allBytes, openAs0}
+use Rattle.checker.specs.Checker.{checkerBytes, unread, padded, isOpen, newChecker, checkerKept, answered, counted, told, keeping, settled, pieceBy, pieceTaken, pieceKept, pieceOf, reportIn, reportNow, unclosed, closeKept, closeOf, afterPieces, allBytes, openAs0, Told}
 use Rattle.checker.specs.declared.checker.LogChecker.{LogChecker}
 use Rattle.checker.specs.declared.checker.Checked.{Checked}
 use Rattle.checker.specs.declared.checker.Closed.{Closed}
@@ -51,11 +51,6 @@ front-bytes xs ys h = subst Bytes (take-append-seam xs ys) (take-bytes (length x
 short : (b : Bool) → mayChange (if b then Cut else EndOfLog) ≡ true
 short true = refl
 short false = refl
-
--- what a piece tells of a run's report: its answer, 0 in place of 1 and 2, and beside any other the place of the fault
-pub record Told (x : Checked) (ran : Ran) : Type 0 where
-  pub answers : x .answer ≡ openAs0 (ran .answer)
-  pub place : mayChange (ran .answer) ≡ false → x .«fault_at» ≡ ran .«fault_at»
 
 module _ (d : Directory) (ok : directoryKept d ≡ true) (first : ℕ) where
   abbrev begin : Standing

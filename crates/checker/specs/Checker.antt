@@ -1,6 +1,7 @@
 -- The checker (document 02, "One. Check a log off the card": "Our field recorder hands over a log in pieces, sometimes of no bytes. We want a
 -- checker that takes the pieces in turn, applies nothing, and at the close reports .."). Added.
 use mathlib.Core.Bool.{Bool, true, false, _&&_, _||_}
+use mathlib.Core.Path.{_≡_}
 use mathlib.Core.List.{List, [], _∷_, _++_}
 use Prim.Native.Nat.{ℕ, _+_, _-_, _*_}
 use lib.Dec.{eqb, leb, ltb}
@@ -176,3 +177,8 @@ allBytes (bytes ∷ more) = bytes ++ allBytes more
 -- "Answers 1 and 2 can be given only at the close": 0 in their place
 abbrev pub openAs0 : Answer → Answer
 openAs0 answer = if mayChange answer then Done else answer
+
+-- what a piece tells of a run's report: its answer, 0 in place of 1 and 2, and beside any other the place of the fault
+pub record Told (x : Checked) (ran : Ran) : Type 0 where
+  pub answers : x .answer ≡ openAs0 (ran .answer)
+  pub place : mayChange (ran .answer) ≡ false → x .«fault_at» ≡ ran .«fault_at»
