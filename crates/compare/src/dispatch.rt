@@ -19,6 +19,7 @@ pub fn dispatch(
     words: &mut [u64; 3840],
     bytes: &mut [u8; 524288],
     answer: &mut [u8; 65536],
+    long: &mut [u8; 81920],
 ) -> Served
     requires { ⌜ (Kept (session .reading)) × (CommandFits found) ⌝ }
     ensures { λ r. ⌜ Kept (r .session .reading) ⌝ }
@@ -39,6 +40,7 @@ pub fn dispatch(
                 words,
                 bytes,
                 answer,
+                long,
             )
         }
     }

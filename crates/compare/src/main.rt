@@ -37,7 +37,8 @@ fn turn(
     words: &mut [u64; 3840],
     bytes: &mut [u8; 524288],
     answer: &mut [u8; 65536],
-    output: &mut [u8; 262144],
+    long: &mut [u8; 81920],
+    output: &mut [u8; 294912],
 ) -> Run
     requires { ⌜ Running run ⌝ }
     ensures { λ r. ⌜ Running r ⌝ }
@@ -59,6 +60,7 @@ fn turn(
         words,
         bytes,
         answer,
+        long,
     );
     let reply = served.reply;
     let after = served.session;
@@ -66,7 +68,7 @@ fn turn(
     Run {
         input: input,
         session: after,
-        out: out.take(reply, input.line, answer, output),
+        out: out.take(reply, input.line, answer, long, output),
     }
 }
 
@@ -81,7 +83,8 @@ fn answer_all(
     words: &mut [u64; 3840],
     bytes: &mut [u8; 524288],
     answer: &mut [u8; 65536],
-    output: &mut [u8; 262144],
+    long: &mut [u8; 81920],
+    output: &mut [u8; 294912],
 ) {
     let mut run = started();
     let mut turns = TURNS;
@@ -98,6 +101,7 @@ fn answer_all(
             words,
             bytes,
             answer,
+            long,
             output,
         );
         turns -= 1;
@@ -106,7 +110,7 @@ fn answer_all(
     out.flushed(run.input.line, output);
 }
 
-// The longest command is a LOG. The longest answer has at most 65,535 bytes, and its line fits twice into the output.
+// The longest command is a LOG. The longest answer, to SALVAGE, has 81,615 bytes, and its line fits into the output behind one that waits.
 fn main() {
     let mut chunk = [0u8; 65536];
     let mut command = [0u8; 80005];
@@ -118,7 +122,8 @@ fn main() {
     let mut words = [0u64; 3840];
     let mut bytes = [0u8; 524288];
     let mut answer = [0u8; 65536];
-    let mut output = [0u8; 262144];
+    let mut long = [0u8; 81920];
+    let mut output = [0u8; 294912];
     answer_all(
         &mut chunk,
         &mut command,
@@ -130,6 +135,7 @@ fn main() {
         &mut words,
         &mut bytes,
         &mut answer,
+        &mut long,
         &mut output,
     );
 }

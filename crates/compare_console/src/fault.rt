@@ -11,7 +11,10 @@ fn write(fault: Fault) -> bool {
         Fault::LongCommand => io::write_all(STDERR_FILENO, b"too long for its opcode"),
         Fault::LongBlob => io::write_all(STDERR_FILENO, b"a blob of more than 80,000 bytes"),
         Fault::LongImage => io::write_all(STDERR_FILENO, b"an image of more than 300,000 bytes"),
-        Fault::LongOutput => io::write_all(STDERR_FILENO, b"an output of more than 60,000 bytes"),
+        Fault::LongOutput => io::write_all(
+            STDERR_FILENO,
+            b"an output longer than its opcode takes",
+        ),
         Fault::ManyNames => io::write_all(STDERR_FILENO, b"more than 80 names"),
         Fault::UnknownKind => io::write_all(STDERR_FILENO, b"a kind above 2"),
         Fault::NoInput => io::write_all(STDERR_FILENO, b"standard input can't be read"),

@@ -1,9 +1,11 @@
 // Standard output. Lines wait until there are many.
 ghost use Prim.Native.Nat.{_≤_};
+ghost use lib.ListN.{length};
 use super::fault::tell;
 use compare_lines::Fault;
 use compare_lines::Reply;
 use compare_lines::encode;
+use compare_lines::least;
 use compare_lines::put;
 use libc::STDOUT_FILENO;
 
@@ -24,8 +26,8 @@ impl Output {
     }
 
     // Writes what waits.
-    pub fn flushed(self, line: u64, output: &[u8; 262144]) -> Output
-        requires { ⌜ self .filled ≤ 262144 ⌝ }
+    pub fn flushed(self, line: u64, output: &[u8; 294912]) -> Output
+        requires { ⌜ self .filled ≤ 294912 ⌝ }
         ensures { λ r. ⌜ r .filled ≤ 131071 ⌝ }
     {
         let filled = self.filled;
@@ -54,18 +56,12 @@ impl Output {
     }
 
     // An answer's line. The next one has room, or what waits is written first.
-    fn with_line(
-        self,
-        count: u16,
-        line: u64,
-        answer: &[u8; 65536],
-        output: &mut [u8; 262144],
-    ) -> Output
-        requires { ⌜ self .filled ≤ 131071 ⌝ }
+    fn with_line(self, count: usize, line: u64, answer: &[u8], output: &mut [u8; 294912]) -> Output
+        requires { ⌜ (self .filled ≤ 131071) × (count ≤ length (now answer)) × (count ≤ 81920) ⌝ }
         ensures { λ r. ⌜ r .filled ≤ 131071 ⌝ }
     {
         let more = Output {
-            filled: encode(answer, count as usize, output, self.filled),
+            filled: encode(answer, count, output, self.filled),
             going: self.going,
         };
         if more.filled <= 131071 {
@@ -80,13 +76,17 @@ impl Output {
         reply: Reply,
         line: u64,
         answer: &mut [u8; 65536],
-        output: &mut [u8; 262144],
+        long: &[u8; 81920],
+        output: &mut [u8; 294912],
     ) -> Output
         requires { ⌜ self .filled ≤ 131071 ⌝ }
         ensures { λ r. ⌜ r .filled ≤ 131071 ⌝ }
     {
         match reply {
-            Reply::Line(count) => self.with_line(count, line, answer, output),
+            Reply::Line(count) => self.with_line(count as usize, line, answer, output),
+            Reply::Long(count) => {
+                self.with_line(least(count as usize, 81920), line, long, output)
+            }
             Reply::Unknown => {
                 put(answer, 0, 255, 1);
                 self.with_line(1, line, answer, output)

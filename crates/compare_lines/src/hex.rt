@@ -1,6 +1,7 @@
 // Hex digits to bytes and back.
 ghost use Prim.Native.Nat.{_+_, _*_, _≤_, _<_};
 ghost use mathlib.Core.Path.{_≡_};
+ghost use lib.ListN.{length};
 ghost use Rattle.compare_lines.specs.Bounds.{Decoding};
 
 // How far a chunk is decoded, how many digits the line has so far, and the first digit of a pair that waits for its second.
@@ -67,9 +68,9 @@ fn second_digit(byte: u8) -> u8 {
 }
 
 // Puts the digits of an answer, and a line's end, into the output behind what it holds. Answers how much it holds then.
-pub fn encode(answer: &[u8; 65536], count: usize, output: &mut [u8; 262144], filled: usize) -> usize
-    requires { ⌜ (count ≤ 65536) × (filled ≤ 131071) ⌝ }
-    ensures { λ r. ⌜ r ≤ 262144 ⌝ }
+pub fn encode(answer: &[u8], count: usize, output: &mut [u8; 294912], filled: usize) -> usize
+    requires { ⌜ (count ≤ length (now answer)) × (count ≤ 81920) × (filled ≤ 131071) ⌝ }
+    ensures { λ r. ⌜ r ≤ 294912 ⌝ }
 {
     let mut at = filled;
     let mut i = 0;

@@ -4,9 +4,10 @@ ghost use Rattle.compare_lines.specs.Fields.{wrongLength};
 use super::command::length_fault;
 use super::fault::Fault;
 
-// How many bytes the answer has; or an opcode that isn't known; or why the program stops.
+// How many bytes the answer has, a long one in a memory of its own; or an opcode that isn't known; or why the program stops.
 pub enum Reply {
     Line(u16),
+    Long(u32),
     Unknown,
     End,
     Broken(Fault),

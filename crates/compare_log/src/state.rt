@@ -10,12 +10,10 @@ use memory::LogOverlays;
 
 // A refused open has its number alone for an answer.
 fn is_opened(reply: Reply) -> bool {
-    match reply {
-        Reply::Line(length) => 1 < length,
-        Reply::Unknown => false,
-        Reply::End => false,
-        Reply::Broken(_) => false,
-    }
+    let Reply::Line(length) = reply else {
+        return false;
+    };
+    1 < length
 }
 
 pub fn open(life: Life, command: &[u8], answer: &mut [u8; 65536]) -> Lived {

@@ -42,6 +42,17 @@ fn queue(session: Session, command: &[u8], log: &[u8; 80000], answer: &mut [u8; 
     kept.replied(reply)
 }
 
+fn salvage(session: Session, command: &[u8], log: &[u8; 80000], long: &mut [u8; 81920]) -> Served
+    requires { ⌜ Kept (session .reading) ⌝ }
+    ensures { λ r. ⌜ Kept (r .session .reading) ⌝ }
+{
+    let reading = session.reading;
+    let tables = reading.tables;
+    let logged = reading.logged;
+    let room: &[u8] = log;
+    session.replied(compare_salvage::serve(tables, command, &room[0..logged], long))
+}
+
 fn list(
     session: Session,
     command: &[u8],
@@ -156,6 +167,7 @@ pub fn serve(
     words: &mut [u64; 3840],
     bytes: &mut [u8; 524288],
     answer: &mut [u8; 65536],
+    long: &mut [u8; 81920],
 ) -> Served
     requires { ⌜ (Kept (session .reading)) × (1 ≤ length (now command)) ⌝ }
     ensures { λ r. ⌜ Kept (r .session .reading) ⌝ }
@@ -167,6 +179,7 @@ pub fn serve(
             list(session, command, items, chunks, room, answer)
         }
         0x14..=0x17 | 0x19 | 0x1f => queue(session, command, log, answer),
+        0x39 => salvage(session, command, log, long),
         0x1a | 0x1b | 0x1d | 0x1e | 0x22 => {
             on_overlays(session, command, items, chunks, room, words, bytes, answer)
         }

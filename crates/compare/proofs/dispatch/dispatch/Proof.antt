@@ -32,7 +32,7 @@ part-serve-end c = omega (arith, command-of (c .before .before .found2 .given .1
 
 serve-requires : tie.Need-serve-requires
 serve-requires c κs =
-    (c .before .before .before .before .before .before .before .before .before .before .before .before .before .pre .0, simp (length-take, length-drop) (omega (arith, command-of (c .before .before .before .before .before .before .before .before .before .before .before .found2 .given .1) (c .before .before .before .before .before .before .before .before .before .before .before .before .before .pre .1))))
+    (c .before .before .before .before .before .before .before .before .before .before .before .before .before .before .pre .0, simp (length-take, length-drop) (omega (arith, command-of (c .before .before .before .before .before .before .before .before .before .before .before .before .found2 .given .1) (c .before .before .before .before .before .before .before .before .before .before .before .before .before .before .pre .1))))
 
 returns : tie.Need-returns
 returns c = search needs

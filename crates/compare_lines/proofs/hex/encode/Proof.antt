@@ -15,8 +15,8 @@ abbrev μ-loop : tie.MeasureT-loop
 loop-holds : tie.Need-loop-holds Inv-loop μ-loop
 loop-holds c = omega arith
 
-element-copy-out-first-digit : tie.Need-element-copy-out-first-digit Inv-loop μ-loop
-element-copy-out-first-digit c = omega arith
+shared-slice-read-first-digit : tie.Need-shared-slice-read-first-digit Inv-loop μ-loop
+shared-slice-read-first-digit c = omega arith
 
 first-digit-requires : tie.Need-first-digit-requires Inv-loop μ-loop
 first-digit-requires c κs = search needs
@@ -24,8 +24,8 @@ first-digit-requires c κs = search needs
 element-write-output : tie.Need-element-write-output Inv-loop μ-loop
 element-write-output c = omega arith
 
-element-copy-out-second-digit : tie.Need-element-copy-out-second-digit Inv-loop μ-loop
-element-copy-out-second-digit c = omega arith
+shared-slice-read-second-digit : tie.Need-shared-slice-read-second-digit Inv-loop μ-loop
+shared-slice-read-second-digit c = omega arith
 
 second-digit-requires : tie.Need-second-digit-requires Inv-loop μ-loop
 second-digit-requires c κs = search needs
@@ -64,10 +64,10 @@ encode-spec =
     Inv-loop
     μ-loop
     loop-holds
-    element-copy-out-first-digit
+    shared-slice-read-first-digit
     first-digit-requires
     element-write-output
-    element-copy-out-second-digit
+    shared-slice-read-second-digit
     second-digit-requires
     add-output
     element-write-output-2

@@ -1,0 +1,5 @@
+// SALVAGE: a damaged log salvaged into an output.
+mod answering;
+mod command;
+
+pub use command::serve;
