@@ -236,8 +236,11 @@ impl Generator {
 
     /// Changes the bytes of a log somewhere; starts and ends stay those of the whole log.
     pub fn damage(&mut self, log: &mut LogBytes) {
-        let place = self.random.below(log.bytes.len());
-        self.damage_at(log, place);
+        // Earlier damage may have left nothing.
+        if !log.bytes.is_empty() {
+            let place = self.random.below(log.bytes.len());
+            self.damage_at(log, place);
+        }
     }
 
     /// The same, most often in one of the last records or actions: so many bytes before the end.
