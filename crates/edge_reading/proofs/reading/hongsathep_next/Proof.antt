@@ -1,5 +1,5 @@
 -- `hongsathep_next` meets its contract. Assumes nothing.
-use Rattle.edge_reading.proofs.Left.{step-left}
+use Rattle.edge_reading.proofs.Told.{step-left}
 use Rattle.edge_reading.proofs.reading.hongsathep_next.Statement.{statement}
 use Rattle.edge_reading.proofs.reading.hongsathep_next.Tie as tie
 

@@ -2,7 +2,7 @@
 use mathlib.Core.Path.{ap, _∙_}
 use Rattle.directory.specs.declared.directory.Directory.{Directory}
 use Rattle.replay.specs.Replay.{judged, replayedAs, imageAfter}
-use Rattle.edge_reading.proofs.Left.{replayed-left}
+use Rattle.edge_reading.proofs.Told.{replayed-left}
 use Rattle.edge_reading.proofs.replaying.hongsathep_replay.Statement.{statement}
 use Rattle.edge_reading.proofs.replaying.hongsathep_replay.Tie as tie
 

@@ -3,7 +3,7 @@ use mathlib.Core.Path.{ap, _∙_}
 use Rattle.directory.specs.declared.directory.Directory.{Directory}
 use Rattle.replay.specs.Replay.{recordAt, tablesKept, imageAfter, endIn}
 use Rattle.edge_reading.specs.Reading.{replayedBy}
-use Rattle.edge_reading.proofs.Left.{replayed-left}
+use Rattle.edge_reading.proofs.Told.{replayed-left}
 use Rattle.edge_reading.proofs.replaying.hongsathep_replay_kept.Statement.{statement}
 use Rattle.edge_reading.proofs.replaying.hongsathep_replay_kept.Tie as tie
 

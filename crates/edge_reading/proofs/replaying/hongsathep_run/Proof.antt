@@ -2,7 +2,7 @@
 use mathlib.Core.Path.{ap, _∙_}
 use Rattle.directory.specs.declared.directory.Directory.{Directory}
 use Rattle.replay.specs.Run.{Outcome, runOf}
-use Rattle.edge_reading.proofs.Left.{ran-left}
+use Rattle.edge_reading.proofs.Told.{ran-left}
 use Rattle.edge_reading.proofs.replaying.hongsathep_run.Statement.{statement}
 use Rattle.edge_reading.proofs.replaying.hongsathep_run.Tie as tie
 

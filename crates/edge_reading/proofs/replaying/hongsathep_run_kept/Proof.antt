@@ -3,7 +3,7 @@ use mathlib.Core.Path.{ap, _∙_}
 use Rattle.directory.specs.declared.directory.Directory.{Directory}
 use Rattle.replay.specs.Replay.{tablesKept}
 use Rattle.replay.specs.Run.{Outcome, runIn}
-use Rattle.edge_reading.proofs.Left.{ran-left}
+use Rattle.edge_reading.proofs.Told.{ran-left}
 use Rattle.edge_reading.proofs.replaying.hongsathep_run_kept.Statement.{statement}
 use Rattle.edge_reading.proofs.replaying.hongsathep_run_kept.Tie as tie
 
