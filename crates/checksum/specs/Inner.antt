@@ -12,12 +12,12 @@ unfoldable pub ahead : ℕ → List ℕ → ℕ
 ahead n bs = shifts (8 * length bs) (bitXor n (little bs))
 
 -- what is carried to the words behind the next one, as one number
-abbrev pub above : Carried → ℕ
-above s = ((s .4 * 2 ^ 64 + s .3) * 2 ^ 64 + s .2) * 2 ^ 64 + s .1
+abbrev pub carriedBehind : Carried → ℕ
+carriedBehind s = ((s .4 * 2 ^ 64 + s .3) * 2 ^ 64 + s .2) * 2 ^ 64 + s .1
 
 -- the same with the next one
-abbrev pub numberIn : Carried → ℕ
-numberIn s = above s * 2 ^ 64 + s .0
+abbrev pub carriedNumber : Carried → ℕ
+carriedNumber s = carriedBehind s * 2 ^ 64 + s .0
 
 -- a word where it stands instead, counted from the next one on: 145, 183, 211 and 300 places further than before
 abbrev pub spread : ℕ → ℕ

@@ -5,7 +5,7 @@ ghost use mathlib.Core.Path.{_≡_};
 ghost use Prim.Native.Nat.{_+_, _-_, _*_, _%_, _≤_};
 ghost use lib.ListN.{length, drop};
 ghost use Rattle.checksum.specs.Checksum.{bitsIn, updated, finished, checksumOf};
-ghost use Rattle.checksum.specs.Inner.{ahead, numberIn};
+ghost use Rattle.checksum.specs.Inner.{ahead, carriedNumber};
 ghost use Rattle.checksum.specs.Tables.{shifts, Moved};
 
 mod long;
@@ -99,7 +99,7 @@ fn rest_in(t: &[u32; 256], register: u32, bytes: &[u8], from: usize) -> u32
 fn forty_in(t: &[u32; 256], s: Carried, bytes: &[u8], at: usize) -> u32
     requires { ⌜ Moved 4 16 (now t) ⌝ }
     requires { ⌜ at + 40 ≤ length (now bytes) ⌝ }
-    ensures { λ q. ⌜ updated q (drop (at + 40) (now (bytes .entry))) ≡ ahead (numberIn s) (drop at (now (bytes .entry))) ⌝ }
+    ensures { λ q. ⌜ updated q (drop (at + 40) (now (bytes .entry))) ≡ ahead (carriedNumber s) (drop at (now (bytes .entry))) ⌝ }
 {
     let a = word_in(t, s.0 ^ u64_at(bytes, at));
     let b = word_in(t, (s.1 ^ a as u64) ^ u64_at(bytes, at + 8));

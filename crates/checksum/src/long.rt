@@ -5,7 +5,7 @@ ghost use Prim.Native.Nat.{_+_, _%_, _^_, _≤_, _<_};
 ghost use lib.Bits.{bitXor};
 ghost use lib.ListN.{length, drop};
 ghost use Rattle.checksum.specs.Checksum.{updated};
-ghost use Rattle.checksum.specs.Inner.{ahead, above, numberIn, spread};
+ghost use Rattle.checksum.specs.Inner.{ahead, carriedBehind, carriedNumber, spread};
 use words::u64_at;
 
 // What is to be added to the next five words, the nearest one first.
@@ -14,7 +14,7 @@ pub struct Carried(pub u64, pub u64, pub u64, pub u64, pub u64);
 // The next word is passed: what it comes to is carried to those behind it. That a word has 64 bits is said for whoever carries one through a
 // loop.
 fn carry(s: Carried, word: u64) -> Carried
-    ensures { λ r. ⌜ (s .0 < 2 ^ 64) × (numberIn r ≡ bitXor (above s) (spread (bitXor (s .0) word))) ⌝ }
+    ensures { λ r. ⌜ (s .0 < 2 ^ 64) × (carriedNumber r ≡ bitXor (carriedBehind s) (spread (bitXor (s .0) word))) ⌝ }
 {
     let w = s.0 ^ word;
     Carried(
@@ -29,7 +29,7 @@ fn carry(s: Carried, word: u64) -> Carried
 // What is carried behind the bytes up to a place, with forty bytes or more left.
 pub fn carry_all(register: u32, bytes: &[u8], to: usize) -> Carried
     requires { ⌜ (to % 8 ≡ 0) × (to + 40 ≤ length (now bytes)) ⌝ }
-    ensures { λ r. ⌜ ahead (numberIn r) (drop to (now (bytes .entry))) ≡ updated register (now (bytes .entry)) ⌝ }
+    ensures { λ r. ⌜ ahead (carriedNumber r) (drop to (now (bytes .entry))) ≡ updated register (now (bytes .entry)) ⌝ }
 {
     let mut s = Carried(register as u64, 0, 0, 0, 0);
     let mut i = 0;

@@ -9,13 +9,13 @@ use lib.ListN.{drop}
 use denote.Ref.{now}
 use borrow.Author.Needs.{needs}
 use Rattle.checksum.specs.Checksum.{updated}
-use Rattle.checksum.specs.Inner.{ahead, above, numberIn, spread}
+use Rattle.checksum.specs.Inner.{ahead, carriedBehind, carriedNumber, spread}
 use Rattle.checksum.proofs.Carry.{carried-at, ahead-updated}
 use Rattle.checksum.proofs.long.carry_all.Statement.{statement}
 use Rattle.checksum.proofs.long.carry_all.Tie as tie
 
 abbrev Inv-loop : tie.InvT-loop
-Inv-loop register bytes to s₀ i₀ s i = (i ≤ to) × (i % 8 ≡ 0) × (ahead (numberIn s) (drop i bytes) ≡ updated register bytes)
+Inv-loop register bytes to s₀ i₀ s i = (i ≤ to) × (i % 8 ≡ 0) × (ahead (carriedNumber s) (drop i bytes) ≡ updated register bytes)
 
 abbrev μ-loop : tie.MeasureT-loop
 μ-loop register bytes to s₀ i₀ s i = to - i
@@ -48,8 +48,8 @@ loop-again c =
       omega arith,
       omega arith,
       ap (λ (n : ℕ). ahead n (drop (l .loop .i + 8) bs)) (c .carry .ensures .1)
-          ∙ ap (λ (n : ℕ). ahead (bitXor (above s) (spread (bitXor (s .0) n))) (drop (l .loop .i + 8) bs)) (c .before .u64-at .ensures)
-          ∙ sym (carried-at bs (λ k. l .before .shared-slice-known .given k .fits) (l .loop .i) (above s) (s .0) (c .carry .ensures .0) (omega arith))
+          ∙ ap (λ (n : ℕ). ahead (bitXor (carriedBehind s) (spread (bitXor (s .0) n))) (drop (l .loop .i + 8) bs)) (c .before .u64-at .ensures)
+          ∙ sym (carried-at bs (λ k. l .before .shared-slice-known .given k .fits) (l .loop .i) (carriedBehind s) (s .0) (c .carry .ensures .0) (omega arith))
           ∙ l .loop .inv .2,
     )
 
@@ -57,7 +57,7 @@ returns : tie.Need-returns Inv-loop μ-loop
 returns c =
     let l = c .before in
     let e : l .before .before .args .to ≡ l .loop .i = omega arith in
-    ap (λ (k : ℕ). ahead (numberIn (l .loop .s)) (drop k (now (l .before .before .args .bytes)))) e ∙ l .loop .inv .2
+    ap (λ (k : ℕ). ahead (carriedNumber (l .loop .s)) (drop k (now (l .before .before .args .bytes)))) e ∙ l .loop .inv .2
 
 pub carry-all-spec : {M : Type 1} → statement M
 carry-all-spec =
