@@ -28,5 +28,5 @@ abbrev pub refusal : Answer → ℕ → Refusal
 refusal answer position = record { answer = answer; position = position }
 
 -- 2^64-1, the largest id of 8 bytes
-abbrev pub lastRecordId : ℕ
-lastRecordId = 18446744073709551615
+abbrev pub last_record_id : ℕ
+last_record_id = 18446744073709551615

@@ -2,7 +2,7 @@
 use Rattle.cases.specs.Table.{Table}
 use Rattle.cases.proofs.Records as records
 use Rattle.cases.proofs.Openings as openings
-use Rattle.cases.proofs.Files.{k-no-flush, l-highest-removed}
+use Rattle.cases.proofs.Files.{k-no_flush, l_highest_removed}
 
 pub table : Table
 table = record {
@@ -23,7 +23,7 @@ table = record {
   j-63 = (records.cases).5;
   j-mask = (records.cases).6;
   j-64 = (records.cases).7;
-  k = k-no-flush;
-  l = l-highest-removed.0;
-  l-kept = l-highest-removed.1;
+  k = k-no_flush;
+  l = l_highest_removed.0;
+  l-kept = l_highest_removed.1;
 }

@@ -10,8 +10,8 @@ use borrow.Author.Tests.{lt-ltb, le-ltb, lt-leb, le-leb, ltb-false, leb-false, l
 use Rattle.words.specs.Choice.{if◌then◌else◌}
 use Rattle.answer.specs.declared.answer.Answer.{Answer}
 use Rattle.answer.specs.declared.answer.Answer.TheVariants.{Done, NoTable, NoIndex, NoRoom, BadArgument}
-use Rattle.directory.specs.Table.{sameKind, isTable, lengthFits, tableKept, unit_of}
-use Rattle.directory.specs.Directory.{tables_of, findFrom, findTable, eachKept, directoryKept}
+use Rattle.directory.specs.Table.{same_kind_of, is_table, length_fits, table_kept, unit_of}
+use Rattle.directory.specs.Directory.{tables_of, find_from, find_table, each_kept, directory_kept}
 use Rattle.directory.specs.declared.table.TableKind.{TableKind}
 use Rattle.directory.specs.declared.table.TableKind.TheVariants.{Index, Value, RefCount}
 use Rattle.directory.specs.declared.table.TableDescription.{TableDescription}
@@ -19,65 +19,65 @@ use Rattle.directory.specs.declared.directory.Directory.{Directory}
 use Rattle.directory.specs.declared.directory.Found.{Found}
 use Rattle.directory.specs.declared.directory.Found.TheVariants.{At, Nothing}
 use Rattle.numbers.proofs.Laws.{left-of, right_of}
-use Rattle.keys.specs.Keys.{rank, markAt, ruled}
-use Rattle.overlay.specs.Rules.{Overlay, slotSize, lists_of}
-use Rattle.overlay.specs.Overlay.{spotIn, standsIn, place_in}
-use Rattle.overlay.specs.Inner.{seatIn}
-use Rattle.overlay.specs.Entries.{Entry, entry_at, entriesOf, findEntry}
+use Rattle.keys.specs.Keys.{rank, mark_at, ruled}
+use Rattle.overlay.specs.Rules.{Overlay, slot_size, lists_of}
+use Rattle.overlay.specs.Overlay.{spot_in_of, stands_in, place_in}
+use Rattle.overlay.specs.Inner.{seat_in}
+use Rattle.overlay.specs.Entries.{Entry, entry_at, entries_of, find_entry}
 use Rattle.overlay.specs.declared.seat.Seat.TheVariants.{Over, Next}
 use Rattle.overlay.proofs.Ruled.{Kept, shows}
-use Rattle.overlay.proofs.Lookups.{findEntry-there, findEntry-none}
+use Rattle.overlay.proofs.Lookups.{find_entry-there, find_entry-none}
 use Rattle.overlay.proofs.Seats.{sits, lacking}
 use Rattle.memory.specs.declared.span.Holder.TheVariants as holder
-use Rattle.memory.specs.Parts.{Parts, span_of, ofKind, partsKept, Takes, putInto}
+use Rattle.memory.specs.Parts.{Parts, span_of, of_kind, parts_kept, Takes, put_into}
 use Rattle.memory.proofs.Spans.{all-shows}
 use Rattle.change.specs.declared.plans.Plan.{Plan}
 use Rattle.change.specs.declared.plans.Plan.TheVariants.{Refuse, Go}
-use Rattle.change.specs.Change.{Change, withParts}
-use Rattle.change.specs.Insert.{Made, notMade, mark_of, bytesFit, room_for, planIn, madeBy, insertedKept, markIn}
+use Rattle.change.specs.Change.{Change, with_parts}
+use Rattle.change.specs.Insert.{Made, not_made, mark_of, bytes_fit_of, room_for, plan_in, made_by, inserted_kept, mark_in}
 
 -- the last step: over the key's own place, or into the next one
 module _ (room : ℕ) (o : Overlay) (w : o.count ≤ length o.order) (in_order : ruled o.rows o.order o.count ≡ true) (key : ℕ) where
-  pub room-over : (p m : ℕ) → seatIn o key ≡ Over p → m ≡ markAt o.rows p → Go m ≡ room_for room o key
+  pub room-over : (p m : ℕ) → seat_in o key ≡ Over p → m ≡ mark_at o.rows p → Go m ≡ room_for room o key
   unfolding room_for
   room-over p m e d = let s = sits o w in_order key p e in sym (rw (s.there, s.place, d))
 
-  pub room-full : (j : ℕ) → seatIn o key ≡ Next j → room ≤ o.count → Refuse NoRoom ≡ room_for room o key
+  pub room-full : (j : ℕ) → seat_in o key ≡ Next j → room ≤ o.count → Refuse NoRoom ≡ room_for room o key
   unfolding room_for
   room-full j e h = sym (rw ((lacking o w in_order key j e).lacks, le-leb room o.count h))
 
-  pub room_next : (j : ℕ) → seatIn o key ≡ Next j → o.count < room → Go 0 ≡ room_for room o key
+  pub room_next : (j : ℕ) → seat_in o key ≡ Next j → o.count < room → Go 0 ≡ room_for room o key
   unfolding room_for
   room_next j e h = sym (rw ((lacking o w in_order key j e).lacks, lt-leb room o.count h))
 
 -- the steps before it
 module _ (kind : TableKind) (o : Overlay) (f : Found) (row : ℕ) (t : TableDescription) (e : f ≡ At row t) (number index sub : ℕ) (bytes : List ℕ) where
-  pub plan-7 : t.count ≤ index → Refuse NoIndex ≡ planIn kind o f number index sub bytes
-  unfolding planIn
+  pub plan-7 : t.count ≤ index → Refuse NoIndex ≡ plan_in kind o f number index sub bytes
+  unfolding plan_in
   plan-7 h = sym (rw (e, le-leb t.count index h))
 
-  pub plan-14 : index < t.count → 63 < sub → Refuse BadArgument ≡ planIn kind o f number index sub bytes
-  unfolding planIn
+  pub plan-14 : index < t.count → 63 < sub → Refuse BadArgument ≡ plan_in kind o f number index sub bytes
+  unfolding plan_in
   plan-14 h i = sym (rw (e, lt-leb t.count index h, lt-ltb 63 sub i))
 
-  pub plan-14-length : index < t.count → sub ≤ 63 → bytesFit kind t bytes ≡ false → Refuse BadArgument ≡ planIn kind o f number index sub bytes
-  unfolding planIn
+  pub plan-14-length : index < t.count → sub ≤ 63 → bytes_fit_of kind t bytes ≡ false → Refuse BadArgument ≡ plan_in kind o f number index sub bytes
+  unfolding plan_in
   plan-14-length h i b = let z : ltb 63 sub ≡ false = le-ltb _ _ i in sym (rw (e, lt-leb t.count index h, z, b))
 
-  pub plan-rest : index < t.count → sub ≤ 63 → bytesFit kind t bytes ≡ true → (room : ℕ) → room ≡ (span_of holder.List kind).room
-      → room_for room o (rank number index) ≡ planIn kind o f number index sub bytes
-  unfolding planIn
+  pub plan-rest : index < t.count → sub ≤ 63 → bytes_fit_of kind t bytes ≡ true → (room : ℕ) → room ≡ (span_of holder.List kind).room
+      → room_for room o (rank number index) ≡ plan_in kind o f number index sub bytes
+  unfolding plan_in
   plan-rest h i b room r = let z : ltb 63 sub ≡ false = le-ltb _ _ i in sym (rw (e, lt-leb t.count index h, z, b, r))
 
 -- the bytes are not asked
 pub plan-keys : (kind : TableKind) (f : Found) (number index sub : ℕ) (src rows order bytes : List ℕ) (n : ℕ)
-    → planIn kind (lists_of rows order [] n) f number index sub src ≡ planIn kind (lists_of rows order bytes n) f number index sub src
-unfolding planIn room_for standsIn spotIn place_in
+    → plan_in kind (lists_of rows order [] n) f number index sub src ≡ plan_in kind (lists_of rows order bytes n) f number index sub src
+unfolding plan_in room_for stands_in spot_in_of place_in
 plan-keys kind Nothing number index sub src rows order bytes n = refl
 plan-keys kind (At row t) number index sub src rows order bytes n = refl
 
 -- a table that a search finds is one of its kind, and it keeps its rules if all do
-pub same_kind : (a b : TableKind) → sameKind a b ≡ true → a ≡ b
+pub same_kind : (a b : TableKind) → same_kind_of a b ≡ true → a ≡ b
 same_kind Index Index e = refl
 same_kind Value Value e = refl
 same_kind RefCount RefCount e = refl
@@ -89,27 +89,27 @@ same_kind RefCount Index e = let z : ◌≡◌ {A = ℕ} 0 1 = cc in absurd (ome
 same_kind RefCount Value e = let z : ◌≡◌ {A = ℕ} 0 1 = cc in absurd (omega arith)
 
 found-kept : (row : ℕ) (ts : List TableDescription) (kind : TableKind) (number r : ℕ) (t : TableDescription)
-    → findFrom row ts kind number ≡ At r t → eachKept ts ≡ true → (isTable t kind number ≡ true) × (tableKept t ≡ true)
-unfolding findFrom eachKept
+    → find_from row ts kind number ≡ At r t → each_kept ts ≡ true → (is_table t kind number ≡ true) × (table_kept t ≡ true)
+unfolding find_from each_kept
 found-kept row [] kind number r t e k = let z : ◌≡◌ {A = ℕ} 0 1 = cc in absurd (omega arith)
-found-kept row (u ∷ ts) kind number r t e k = by (isTable u kind number) refl e (λ q. found-kept (row + 1) ts kind number r t q (right_of (tableKept u) _ k))
+found-kept row (u ∷ ts) kind number r t e k = by (is_table u kind number) refl e (λ q. found-kept (row + 1) ts kind number r t q (right_of (table_kept u) _ k))
   where
-    by : (b : Bool) → isTable u kind number ≡ b → (if b then At row u else findFrom (row + 1) ts kind number) ≡ At r t
-        → (findFrom (row + 1) ts kind number ≡ At r t → (isTable t kind number ≡ true) × (tableKept t ≡ true)) → (isTable t kind number ≡ true) × (tableKept t ≡ true)
+    by : (b : Bool) → is_table u kind number ≡ b → (if b then At row u else find_from (row + 1) ts kind number) ≡ At r t
+        → (find_from (row + 1) ts kind number ≡ At r t → (is_table t kind number ≡ true) × (table_kept t ≡ true)) → (is_table t kind number ≡ true) × (table_kept t ≡ true)
     by true i q f =
         let same-table : u ≡ t = cc in
-        (subst (λ (x : TableDescription). isTable x kind number ≡ true) same-table i, subst (λ (x : TableDescription). tableKept x ≡ true) same-table (left-of (tableKept u) _ k))
+        (subst (λ (x : TableDescription). is_table x kind number ≡ true) same-table i, subst (λ (x : TableDescription). table_kept x ≡ true) same-table (left-of (table_kept u) _ k))
     by false i q f = f q
 
-pub length-kept : (d : Directory) (kind : TableKind) (number r : ℕ) (t : TableDescription) → directoryKept d ≡ true → findTable d kind number ≡ At r t → lengthFits kind t.length ≡ true
-unfolding directoryKept findTable isTable tableKept
+pub length-kept : (d : Directory) (kind : TableKind) (number r : ℕ) (t : TableDescription) → directory_kept d ≡ true → find_table d kind number ≡ At r t → length_fits kind t.length ≡ true
+unfolding directory_kept find_table is_table table_kept
 length-kept d kind number r t k e =
-    let f = found-kept 0 (tables_of d) kind number r t e (left-of (eachKept (tables_of d)) _ (right_of (leb d.count 16) _ k)) in
-    let s : t.kind ≡ kind = same_kind t.kind kind (left-of (sameKind t.kind kind) _ f.0) in
-    subst (λ (x : TableKind). lengthFits x t.length ≡ true) s
+    let f = found-kept 0 (tables_of d) kind number r t e (left-of (each_kept (tables_of d)) _ (right_of (leb d.count 16) _ k)) in
+    let s : t.kind ≡ kind = same_kind t.kind kind (left-of (same_kind_of t.kind kind) _ f.0) in
+    subst (λ (x : TableKind). length_fits x t.length ≡ true) s
     (right_of (leb t.count 4096) _ (right_of (leb 1 t.count) _ (right_of (leb t.column 7) _ f.1)))
 
-pub size_fits : (kind : TableKind) (size len : ℕ) → lengthFits kind size ≡ true → len ≡ unit_of kind size → len ≤ slotSize kind
+pub size_fits : (kind : TableKind) (size len : ℕ) → length_fits kind size ≡ true → len ≡ unit_of kind size → len ≤ slot_size kind
 size_fits Index size len h e = omega arith
 size_fits Value size len h e = omega (arith, leb-true size 512 (right_of (leb 1 size) _ h))
 size_fits RefCount size len h e = omega arith
@@ -130,9 +130,9 @@ abbrev goes : Plan → ℕ
 goes (Refuse a) = 0
 goes (Go m) = m
 
-module _ (kind : TableKind) (p : Parts) (key old : ℕ) (ok : partsKept holder.List p ≡ true) where
+module _ (kind : TableKind) (p : Parts) (key old : ℕ) (ok : parts_kept holder.List p ≡ true) where
   abbrev o : Overlay
-  o = ofKind kind p
+  o = of_kind kind p
 
   k : Kept kind (span_of holder.List kind).room o
   k = shows kind (span_of holder.List kind).room o ((all-shows holder.List p ok).each kind)
@@ -140,51 +140,51 @@ module _ (kind : TableKind) (p : Parts) (key old : ℕ) (ok : partsKept holder.L
   few : o.count ≤ length o.order
   few = omega (arith, k.fits, k.order-long)
 
-  over-mark : standsIn o key ≡ true → markAt o.rows (place_in o key) ≡ markIn (findEntry key (entriesOf kind o))
-  unfolding standsIn spotIn place_in entry_at
+  over-mark : stands_in o key ≡ true → mark_at o.rows (place_in o key) ≡ mark_in (find_entry key (entries_of kind o))
+  unfolding stands_in spot_in_of place_in entry_at
   over-mark h =
-      ap (λ (b : Bool). markAt o.rows (if b then get_or o.order (spotIn o key) 0 else o.count)) h
-      ∙ sym (ap markIn (findEntry-there kind o few key (spotIn o key) refl h))
+      ap (λ (b : Bool). mark_at o.rows (if b then get_or o.order (spot_in_of o key) 0 else o.count)) h
+      ∙ sym (ap mark_in (find_entry-there kind o few key (spot_in_of o key) refl h))
 
-  next-mark : standsIn o key ≡ false → 0 ≡ markIn (findEntry key (entriesOf kind o))
-  unfolding standsIn spotIn
-  next-mark h = sym (ap markIn (findEntry-none kind o few key (spotIn o key) refl k.in_order h))
+  next-mark : stands_in o key ≡ false → 0 ≡ mark_in (find_entry key (entries_of kind o))
+  unfolding stands_in spot_in_of
+  next-mark h = sym (ap mark_in (find_entry-none kind o few key (spot_in_of o key) refl k.in_order h))
 
-  taken : room_for (span_of holder.List kind).room o key ≡ Go old → (Takes holder.List kind p key) × (old ≡ markIn (findEntry key (entriesOf kind o)))
+  taken : room_for (span_of holder.List kind).room o key ≡ Go old → (Takes holder.List kind p key) × (old ≡ mark_in (find_entry key (entries_of kind o)))
   unfolding room_for
-  taken e = by (standsIn o key) refl e
+  taken e = by (stands_in o key) refl e
     where
-      by : (b : Bool) → standsIn o key ≡ b → (if b then Go (markAt o.rows (place_in o key)) else if leb (span_of holder.List kind).room o.count then Refuse NoRoom else Go 0) ≡ Go old
-          → (Takes holder.List kind p key) × (old ≡ markIn (findEntry key (entriesOf kind o)))
+      by : (b : Bool) → stands_in o key ≡ b → (if b then Go (mark_at o.rows (place_in o key)) else if leb (span_of holder.List kind).room o.count then Refuse NoRoom else Go 0) ≡ Go old
+          → (Takes holder.List kind p key) × (old ≡ mark_in (find_entry key (entries_of kind o)))
       by true h q = ((λ f. let z : true ≡ false = sym h ∙ f in let y : ◌≡◌ {A = ℕ} 0 1 = cc in absurd (omega arith)), sym (ap goes q) ∙ over-mark h)
       by false h q =
           let r = past (leb (span_of holder.List kind).room o.count) q (refused NoRoom old) in
           ((λ f. leb-false (span_of holder.List kind).room o.count r.0), sym (ap goes r.1) ∙ next-mark h)
 
 -- the list with other entries, and 0
-abbrev pub doneWith : Change → Parts → Made
-doneWith l p = record { answer = Done; change = withParts l p }
+abbrev pub done_with : Change → Parts → Made
+done_with l p = record { answer = Done; change = with_parts l p }
 
 -- an insert that is refused nothing
 pub record Accepted (kind : TableKind) (d : Directory) (p : Parts) (number index sub : ℕ) (bytes : List ℕ) (old : ℕ) : Type 0 where
   pub row : ℕ
   pub table : TableDescription
-  pub found : findTable d kind number ≡ At row table
+  pub found : find_table d kind number ≡ At row table
   pub below : index < table.count
   pub slot : sub < 64
-  pub size : lengthFits kind table.length ≡ true
+  pub size : length_fits kind table.length ≡ true
   pub whole : length bytes ≡ unit_of kind table.length
-  pub fits : length bytes ≤ slotSize kind
+  pub fits : length bytes ≤ slot_size kind
   pub takes : Takes holder.List kind p (rank number index)
-  pub old-is : old ≡ markIn (findEntry (rank number index) (entriesOf kind (ofKind kind p)))
+  pub old-is : old ≡ mark_in (find_entry (rank number index) (entries_of kind (of_kind kind p)))
 
 module _ (kind : TableKind) (d : Directory) (p : Parts) (number index sub : ℕ) (bytes : List ℕ) (old : ℕ) where
-  pub accepted : directoryKept d ≡ true → partsKept holder.List p ≡ true → planIn kind (ofKind kind p) (findTable d kind number) number index sub bytes ≡ Go old
+  pub accepted : directory_kept d ≡ true → parts_kept holder.List p ≡ true → plan_in kind (of_kind kind p) (find_table d kind number) number index sub bytes ≡ Go old
       → Accepted kind d p number index sub bytes old
-  unfolding planIn bytesFit
-  accepted dir ok e = by (findTable d kind number) refl e
+  unfolding plan_in bytes_fit_of
+  accepted dir ok e = by (find_table d kind number) refl e
     where
-      by : (f : Found) → findTable d kind number ≡ f → planIn kind (ofKind kind p) f number index sub bytes ≡ Go old → Accepted kind d p number index sub bytes old
+      by : (f : Found) → find_table d kind number ≡ f → plan_in kind (of_kind kind p) f number index sub bytes ≡ Go old → Accepted kind d p number index sub bytes old
       by Nothing q s = absurd (refused NoTable old s)
       by (At row t) q s =
           let a = past (leb t.count index) s (refused NoIndex old) in
@@ -198,13 +198,13 @@ module _ (kind : TableKind) (d : Directory) (p : Parts) (number index sub : ℕ)
 
 -- what an insert comes to, by its plan: the list as it was, or one put
 module _ (kind : TableKind) (d : Directory) (l : Change) (number index sub : ℕ) (bytes : List ℕ) where
-  pub made-refused : (answer : Answer) → planIn kind (ofKind kind l.parts) (findTable d kind number) number index sub bytes ≡ Refuse answer
-      → notMade answer l ≡ insertedKept kind d l number index sub bytes
-  unfolding insertedKept
-  made-refused answer e = ap (λ (q : Plan). madeBy q kind l number index sub bytes) (sym e)
+  pub made-refused : (answer : Answer) → plan_in kind (of_kind kind l.parts) (find_table d kind number) number index sub bytes ≡ Refuse answer
+      → not_made answer l ≡ inserted_kept kind d l number index sub bytes
+  unfolding inserted_kept
+  made-refused answer e = ap (λ (q : Plan). made_by q kind l number index sub bytes) (sym e)
 
-  pub made-put : (old : ℕ) → planIn kind (ofKind kind l.parts) (findTable d kind number) number index sub bytes ≡ Go old → (mark : ℕ) → mark ≡ mark_of kind old sub bytes
-      → (after : Parts) → after ≡ putInto kind l.parts number index l.id mark bytes → doneWith l after ≡ insertedKept kind d l number index sub bytes
-  unfolding insertedKept
+  pub made-put : (old : ℕ) → plan_in kind (of_kind kind l.parts) (find_table d kind number) number index sub bytes ≡ Go old → (mark : ℕ) → mark ≡ mark_of kind old sub bytes
+      → (after : Parts) → after ≡ put_into kind l.parts number index l.id mark bytes → done_with l after ≡ inserted_kept kind d l number index sub bytes
+  unfolding inserted_kept
   made-put old e mark m after p =
-      ap (doneWith l) (p ∙ ap (λ (k : ℕ). putInto kind l.parts number index l.id k bytes) m) ∙ ap (λ (q : Plan). madeBy q kind l number index sub bytes) (sym e)
+      ap (done_with l) (p ∙ ap (λ (k : ℕ). put_into kind l.parts number index l.id k bytes) m) ∙ ap (λ (q : Plan). made_by q kind l number index sub bytes) (sym e)

@@ -4,14 +4,14 @@ use mathlib.Core.Bool.{Bool, true, false, ◌&&◌}
 use Prim.Native.Nat.{◌≤◌}
 use lib.Dec.{leb}
 use borrow.Author.Tests.{leb-true, le-leb}
-use Rattle.directory.specs.Directory.{directoryKept}
+use Rattle.directory.specs.Directory.{directory_kept}
 use Rattle.directory.specs.declared.table.TableKind.{TableKind}
 use Rattle.directory.specs.declared.table.TableKind.TheVariants.{Index, Value, RefCount}
 use Rattle.directory.specs.declared.directory.Directory.{Directory}
 use Rattle.numbers.proofs.Laws.{both, left-of, right_of}
-use Rattle.memory.specs.Parts.{ofKind, partsKept}
+use Rattle.memory.specs.Parts.{of_kind, parts_kept}
 use Rattle.memory.specs.declared.span.Holder.TheVariants as holder
-use Rattle.change.specs.Change.{Change, dropRoom, changeRuled, entriesFit, dropsFit, changeFits, changeKept}
+use Rattle.change.specs.Change.{Change, drop_room, change_ruled, entries_fit, drops_fit, change_fits, change_kept}
 
 -- a test of several rules, a return at a time
 pub stops : {a : Bool} (b : Bool) → a ≡ false → false ≡ (a && b)
@@ -22,86 +22,86 @@ goes_on e h = rw e h
 
 -- those that need no directory
 pub record RuledList (l : Change) : Type 0 where
-  pub parts : partsKept holder.List l.parts ≡ true
-  pub drops : l.drops.count ≤ dropRoom
-  pub count-drops : l.countDrops.count ≤ dropRoom
+  pub parts : parts_kept holder.List l.parts ≡ true
+  pub drops : l.drops.count ≤ drop_room
+  pub count-drops : l.count_drops.count ≤ drop_room
 
 module _ (l : Change) where
-  pub ruled-shows : changeRuled l ≡ true → RuledList l
-  unfolding changeRuled
+  pub ruled-shows : change_ruled l ≡ true → RuledList l
+  unfolding change_ruled
   ruled-shows e =
-      let r = right_of (partsKept holder.List l.parts) _ e in
+      let r = right_of (parts_kept holder.List l.parts) _ e in
       record {
-        parts = left-of (partsKept holder.List l.parts) _ e;
-        drops = leb-true l.drops.count dropRoom (left-of (leb l.drops.count dropRoom) _ r);
-        count-drops = leb-true l.countDrops.count dropRoom (right_of (leb l.drops.count dropRoom) _ r);
+        parts = left-of (parts_kept holder.List l.parts) _ e;
+        drops = leb-true l.drops.count drop_room (left-of (leb l.drops.count drop_room) _ r);
+        count-drops = leb-true l.count_drops.count drop_room (right_of (leb l.drops.count drop_room) _ r);
       }
 
-  pub ruled-makes : RuledList l → changeRuled l ≡ true
-  unfolding changeRuled
-  ruled-makes r = both r.parts (both (le-leb l.drops.count dropRoom r.drops) (le-leb l.countDrops.count dropRoom r.count-drops))
+  pub ruled-makes : RuledList l → change_ruled l ≡ true
+  unfolding change_ruled
+  ruled-makes r = both r.parts (both (le-leb l.drops.count drop_room r.drops) (le-leb l.count_drops.count drop_room r.count-drops))
 
-  pub ruled-parts : changeRuled l ≡ true → partsKept holder.List l.parts ≡ true
+  pub ruled-parts : change_ruled l ≡ true → parts_kept holder.List l.parts ≡ true
   ruled-parts e = (ruled-shows e).parts
 
 -- all that is listed fits the directory
 pub record FitList (d : Directory) (l : Change) : Type 0 where
-  pub each : (kind : TableKind) → entriesFit d kind (ofKind kind l.parts) ≡ true
-  pub drops : dropsFit d Index l.drops ≡ true
-  pub count-drops : dropsFit d RefCount l.countDrops ≡ true
+  pub each : (kind : TableKind) → entries_fit d kind (of_kind kind l.parts) ≡ true
+  pub drops : drops_fit d Index l.drops ≡ true
+  pub count-drops : drops_fit d RefCount l.count_drops ≡ true
 
 module _ (d : Directory) (l : Change) where
-  pub fits-shows : changeFits d l ≡ true → FitList d l
-  unfolding changeFits
+  pub fits-shows : change_fits d l ≡ true → FitList d l
+  unfolding change_fits
   fits-shows e =
-      let a = right_of (entriesFit d Index l.parts.index) _ e in
-      let b = right_of (entriesFit d Value l.parts.value) _ a in
-      let r = right_of (entriesFit d RefCount l.parts.refCount) _ b in
+      let a = right_of (entries_fit d Index l.parts.index) _ e in
+      let b = right_of (entries_fit d Value l.parts.value) _ a in
+      let r = right_of (entries_fit d RefCount l.parts.ref_count) _ b in
       record {
-        each = by (left-of (entriesFit d Index l.parts.index) _ e) (left-of (entriesFit d Value l.parts.value) _ a) (left-of (entriesFit d RefCount l.parts.refCount) _ b);
-        drops = left-of (dropsFit d Index l.drops) _ r;
-        count-drops = right_of (dropsFit d Index l.drops) _ r;
+        each = by (left-of (entries_fit d Index l.parts.index) _ e) (left-of (entries_fit d Value l.parts.value) _ a) (left-of (entries_fit d RefCount l.parts.ref_count) _ b);
+        drops = left-of (drops_fit d Index l.drops) _ r;
+        count-drops = right_of (drops_fit d Index l.drops) _ r;
       }
     where
-      by : entriesFit d Index l.parts.index ≡ true → entriesFit d Value l.parts.value ≡ true → entriesFit d RefCount l.parts.refCount ≡ true
-          → (kind : TableKind) → entriesFit d kind (ofKind kind l.parts) ≡ true
+      by : entries_fit d Index l.parts.index ≡ true → entries_fit d Value l.parts.value ≡ true → entries_fit d RefCount l.parts.ref_count ≡ true
+          → (kind : TableKind) → entries_fit d kind (of_kind kind l.parts) ≡ true
       by i v r Index = i
       by i v r Value = v
       by i v r RefCount = r
 
-  pub fits-makes : FitList d l → changeFits d l ≡ true
-  unfolding changeFits
+  pub fits-makes : FitList d l → change_fits d l ≡ true
+  unfolding change_fits
   fits-makes f = both (f.each Index) (both (f.each Value) (both (f.each RefCount) (both f.drops f.count-drops)))
 
   -- directory, list and both together
-  pub kept-directory : changeKept d l ≡ true → directoryKept d ≡ true
-  unfolding changeKept
-  kept-directory e = left-of (directoryKept d) _ e
+  pub kept-directory : change_kept d l ≡ true → directory_kept d ≡ true
+  unfolding change_kept
+  kept-directory e = left-of (directory_kept d) _ e
 
-  pub kept-ruled : changeKept d l ≡ true → changeRuled l ≡ true
-  unfolding changeKept
-  kept-ruled e = left-of (changeRuled l) _ (right_of (directoryKept d) _ e)
+  pub kept-ruled : change_kept d l ≡ true → change_ruled l ≡ true
+  unfolding change_kept
+  kept-ruled e = left-of (change_ruled l) _ (right_of (directory_kept d) _ e)
 
-  pub kept-fits : changeKept d l ≡ true → FitList d l
-  unfolding changeKept
-  kept-fits e = fits-shows (right_of (changeRuled l) _ (right_of (directoryKept d) _ e))
+  pub kept-fits : change_kept d l ≡ true → FitList d l
+  unfolding change_kept
+  kept-fits e = fits-shows (right_of (change_ruled l) _ (right_of (directory_kept d) _ e))
 
-  pub kept-makes : directoryKept d ≡ true → changeRuled l ≡ true → FitList d l → changeKept d l ≡ true
-  unfolding changeKept
+  pub kept-makes : directory_kept d ≡ true → change_ruled l ≡ true → FitList d l → change_kept d l ≡ true
+  unfolding change_kept
   kept-makes a b f = both a (both b (fits-makes f))
 
   -- a return at a time
-  pub kept-stops : directoryKept d ≡ false → false ≡ changeKept d l
-  unfolding changeKept
+  pub kept-stops : directory_kept d ≡ false → false ≡ change_kept d l
+  unfolding change_kept
   kept-stops a = stops _ a
 
-  pub kept-stops-ruled : directoryKept d ≡ true → changeRuled l ≡ false → false ≡ changeKept d l
-  unfolding changeKept
+  pub kept-stops-ruled : directory_kept d ≡ true → change_ruled l ≡ false → false ≡ change_kept d l
+  unfolding change_kept
   kept-stops-ruled a b = goes_on a (stops _ b)
 
-  pub kept-goes-on : (r : Bool) → directoryKept d ≡ true → changeRuled l ≡ true → r ≡ changeFits d l → r ≡ changeKept d l
-  unfolding changeKept
+  pub kept-goes-on : (r : Bool) → directory_kept d ≡ true → change_ruled l ≡ true → r ≡ change_fits d l → r ≡ change_kept d l
+  unfolding change_kept
   kept-goes-on r a b h = goes_on a (goes_on b h)
 
-  pub kept-parts : changeKept d l ≡ true → partsKept holder.List l.parts ≡ true
+  pub kept-parts : change_kept d l ≡ true → parts_kept holder.List l.parts ≡ true
   kept-parts e = ruled-parts l (kept-ruled e)

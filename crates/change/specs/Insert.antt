@@ -6,20 +6,20 @@ use Rattle.words.specs.Choice.{if◌then◌else◌}
 use Rattle.answer.specs.declared.answer.Answer.{Answer}
 use Rattle.answer.specs.declared.answer.Answer.TheVariants.{Done, NoTable, NoIndex, NoRoom, BadState, BadArgument}
 use Rattle.directory.specs.Table.{unit_of}
-use Rattle.directory.specs.Directory.{findTable}
+use Rattle.directory.specs.Directory.{find_table}
 use Rattle.directory.specs.declared.table.TableKind.{TableKind}
 use Rattle.directory.specs.declared.table.TableKind.TheVariants.{Index, Value, RefCount}
 use Rattle.directory.specs.declared.table.TableDescription.{TableDescription}
 use Rattle.directory.specs.declared.directory.Directory.{Directory}
 use Rattle.directory.specs.declared.directory.Found.{Found}
 use Rattle.directory.specs.declared.directory.Found.TheVariants.{At, Nothing}
-use Rattle.keys.specs.Keys.{rank, markAt}
+use Rattle.keys.specs.Keys.{rank, mark_at}
 use Rattle.overlay.specs.Rules.{Overlay}
-use Rattle.overlay.specs.Overlay.{standsIn, place_in}
-use Rattle.overlay.specs.Entries.{Entry, entriesOf, findEntry}
-use Rattle.memory.specs.Parts.{span_of, ofKind, putInto}
+use Rattle.overlay.specs.Overlay.{stands_in, place_in}
+use Rattle.overlay.specs.Entries.{Entry, entries_of, find_entry}
+use Rattle.memory.specs.Parts.{span_of, of_kind, put_into}
 use Rattle.memory.specs.declared.span.Holder.TheVariants as holder
-use Rattle.change.specs.Change.{Change, changeOf, withParts, changeKept}
+use Rattle.change.specs.Change.{Change, change_of, with_parts, change_kept}
 use Rattle.change.specs.declared.plans.Plan.{Plan}
 use Rattle.change.specs.declared.plans.Plan.TheVariants.{Refuse, Go}
 use Rattle.change.specs.declared.change.Changed.{Changed}
@@ -31,11 +31,11 @@ pub record Made : Type 0 where
 
 -- as a call hands it back: answer and list by value, and the two memories
 abbrev pub made_of : Changed → List ℕ → List ℕ → Made
-made_of r words bytes = record { answer = r.answer; change = changeOf r.list words bytes }
+made_of r words bytes = record { answer = r.answer; change = change_of r.list words bytes }
 
 -- a refusal leaves the list as it was
-abbrev pub notMade : Answer → Change → Made
-notMade answer l = record { answer = answer; change = l }
+abbrev pub not_made : Answer → Change → Made
+not_made answer l = record { answer = answer; change = l }
 
 -- a key's mark is its mask, "add the slot's bit to the mask"; a value's is its length (log.rs 483 and 509: `entry.get().1 | (1 << sub)`)
 abbrev pub mark_of : TableKind → ℕ → ℕ → List ℕ → ℕ
@@ -44,51 +44,51 @@ mark_of Value old sub bytes = length bytes
 mark_of RefCount old sub bytes = bit_or old (2 ^ sub)
 
 -- 14: a "chunk or value of the wrong length"
-unfoldable pub bytesFit : TableKind → TableDescription → List ℕ → Bool
-bytesFit kind t bytes = eqb (length bytes) (unit_of kind t.length)
+unfoldable pub bytes_fit_of : TableKind → TableDescription → List ℕ → Bool
+bytes_fit_of kind t bytes = eqb (length bytes) (unit_of kind t.length)
 
 -- a key that is listed is replaced, so a full list takes it; any other goes into the next place, where there is room
 unfoldable pub room_for : ℕ → Overlay → ℕ → Plan
 room_for room o key =
-    if standsIn o key then Go (markAt o.rows (place_in o key)) else
+    if stands_in o key then Go (mark_at o.rows (place_in o key)) else
     if leb room o.count then Refuse NoRoom else  -- 9
     Go 0
 
 -- at a list that keeps its rules: 6, 7, 14, 9
-unfoldable pub planIn : TableKind → Overlay → Found → ℕ → ℕ → ℕ → List ℕ → Plan
-planIn kind o Nothing number index sub bytes = Refuse NoTable  -- 6
-planIn kind o (At row t) number index sub bytes =
+unfoldable pub plan_in : TableKind → Overlay → Found → ℕ → ℕ → ℕ → List ℕ → Plan
+plan_in kind o Nothing number index sub bytes = Refuse NoTable  -- 6
+plan_in kind o (At row t) number index sub bytes =
     if leb t.count index then Refuse NoIndex else  -- 7
     if ltb 63 sub then Refuse BadArgument else  -- 14: "slot above 63"
-    if bytesFit kind t bytes then room_for (span_of holder.List kind).room o (rank number index) else
+    if bytes_fit_of kind t bytes then room_for (span_of holder.List kind).room o (rank number index) else
     Refuse BadArgument  -- 14
 
 -- "take the whole new chunk and add the slot's bit to the mask. `insert_value` replaces."
-abbrev pub madeBy : Plan → TableKind → Change → ℕ → ℕ → ℕ → List ℕ → Made
-madeBy (Refuse answer) kind l number index sub bytes = notMade answer l
-madeBy (Go old) kind l number index sub bytes =
-    record { answer = Done; change = withParts l (putInto kind l.parts number index l.id (mark_of kind old sub bytes) bytes) }
+abbrev pub made_by : Plan → TableKind → Change → ℕ → ℕ → ℕ → List ℕ → Made
+made_by (Refuse answer) kind l number index sub bytes = not_made answer l
+made_by (Go old) kind l number index sub bytes =
+    record { answer = Done; change = with_parts l (put_into kind l.parts number index l.id (mark_of kind old sub bytes) bytes) }
 
 -- an insert of bytes under a table's number and an index, at a slot
-unfoldable pub insertedKept : TableKind → Directory → Change → ℕ → ℕ → ℕ → List ℕ → Made
-insertedKept kind d l number index sub bytes =
-    madeBy (planIn kind (ofKind kind l.parts) (findTable d kind number) number index sub bytes) kind l number index sub bytes
+unfoldable pub inserted_kept : TableKind → Directory → Change → ℕ → ℕ → ℕ → List ℕ → Made
+inserted_kept kind d l number index sub bytes =
+    made_by (plan_in kind (of_kind kind l.parts) (find_table d kind number) number index sub bytes) kind l number index sub bytes
 
 -- "Order in every call: 13", then as above
 unfoldable pub inserted : TableKind → Directory → Change → ℕ → ℕ → ℕ → List ℕ → Made
 inserted kind d l number index sub bytes =
-    if changeKept d l then insertedKept kind d l number index sub bytes else notMade BadState l  -- 13
+    if change_kept d l then inserted_kept kind d l number index sub bytes else not_made BadState l  -- 13
 
 -- the mark of an entry that is there; 0 where there is none
-abbrev pub markIn : Option Entry → ℕ
-markIn none = 0
-markIn (some e) = e.mark
+abbrev pub mark_in : Option Entry → ℕ
+mark_in none = 0
+mark_in (some e) = e.mark
 
 -- what is inserted: under its key, "add the slot's bit to the mask", the chunk whole, the id the list's
-abbrev pub newEntry : TableKind → Change → ℕ → ℕ → ℕ → List ℕ → Entry
-newEntry kind l number index sub bytes = record {
+abbrev pub new_entry : TableKind → Change → ℕ → ℕ → ℕ → List ℕ → Entry
+new_entry kind l number index sub bytes = record {
   key = rank number index;
   id = l.id;
-  mark = mark_of kind (markIn (findEntry (rank number index) (entriesOf kind (ofKind kind l.parts)))) sub bytes;
+  mark = mark_of kind (mark_in (find_entry (rank number index) (entries_of kind (of_kind kind l.parts)))) sub bytes;
   bytes = bytes;
 }

@@ -7,36 +7,36 @@ use Rattle.answer.specs.declared.answer.Answer.TheVariants.{Done, BadState}
 use Rattle.directory.specs.declared.table.TableKind.{TableKind}
 use Rattle.directory.specs.declared.table.TableKind.TheVariants.{Index, Value, RefCount}
 use Rattle.directory.specs.declared.directory.Directory.{Directory}
-use Rattle.keys.specs.Keys.{markAt}
+use Rattle.keys.specs.Keys.{mark_at}
 use Rattle.overlay.specs.Rules.{Overlay}
-use Rattle.change.specs.Change.{Change, changeKept}
+use Rattle.change.specs.Change.{Change, change_kept}
 use Rattle.change.specs.declared.size.Sized.{Sized}
 
 -- of one entry: tag, table and index, then mask and set slots, or the value
-abbrev pub entrySize : TableKind → ℕ → ℕ
-entrySize Index mask = 19 + 8 * ones mask
-entrySize Value len = 11 + len
-entrySize RefCount mask = 19 + 16 * ones mask
+abbrev pub entry_size : TableKind → ℕ → ℕ
+entry_size Index mask = 19 + 8 * ones mask
+entry_size Value len = 11 + len
+entry_size RefCount mask = 19 + 16 * ones mask
 
 -- of the entries in the places listed
-unfoldable pub placesSize : TableKind → List ℕ → List ℕ → ℕ
-placesSize kind rows [] = 0
-placesSize kind rows (p ∷ ps) = entrySize kind (markAt rows p) + placesSize kind rows ps
+unfoldable pub places_size : TableKind → List ℕ → List ℕ → ℕ
+places_size kind rows [] = 0
+places_size kind rows (p ∷ ps) = entry_size kind (mark_at rows p) + places_size kind rows ps
 
 -- of all entries of a kind
-unfoldable pub entriesSize : TableKind → Overlay → ℕ
-entriesSize kind o = placesSize kind o.rows (take o.count o.order)
+unfoldable pub entries_size : TableKind → Overlay → ℕ
+entries_size kind o = places_size kind o.rows (take o.count o.order)
 
 -- of the record: 9 bytes to begin, 5 to end, 3 a drop
-unfoldable pub recordSize : Change → ℕ
-recordSize l =
-    14 + entriesSize Index l.parts.index + entriesSize Value l.parts.value + entriesSize RefCount l.parts.refCount
-    + 3 * l.drops.count + 3 * l.countDrops.count
+unfoldable pub record_size : Change → ℕ
+record_size l =
+    14 + entries_size Index l.parts.index + entries_size Value l.parts.value + entries_size RefCount l.parts.ref_count
+    + 3 * l.drops.count + 3 * l.count_drops.count
 
 -- what `record_size` answers of a list that keeps its rules
-abbrev pub sizedKept : Change → Sized
-sizedKept l = record { answer = Done; length = recordSize l }
+abbrev pub sized_kept : Change → Sized
+sized_kept l = record { answer = Done; length = record_size l }
 
 -- `record_size`: 13 for a list that breaks a rule
 unfoldable pub sized : Directory → Change → Sized
-sized d l = if changeKept d l then sizedKept l else record { answer = BadState; length = 0 }
+sized d l = if change_kept d l then sized_kept l else record { answer = BadState; length = 0 }

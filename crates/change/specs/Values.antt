@@ -4,15 +4,15 @@ use Rattle.std.specs.Prelude.{ℕ, ◌+◌}
 use Rattle.words.specs.Choice.{if◌then◌else◌}
 use Rattle.answer.specs.declared.answer.Answer.TheVariants.{Done, BadState}
 use Rattle.keys.specs.Keys.{rank}
-use Rattle.overlay.specs.Overlay.{spotIn}
-use Rattle.change.specs.Change.{Change, changeRuled}
+use Rattle.overlay.specs.Overlay.{spot_in_of}
+use Rattle.change.specs.Change.{Change, change_ruled}
 use Rattle.change.specs.declared.values.LocalValues.{LocalValues}
 
 -- where the values of a table begin and end in the order, in a list that keeps its rules
-abbrev pub valuesOfKept : Change → ℕ → LocalValues
-valuesOfKept l number =
-    record { answer = Done; from = spotIn l.parts.value (rank number 0); to = spotIn l.parts.value (rank (number + 1) 0) }
+abbrev pub values_of_kept : Change → ℕ → LocalValues
+values_of_kept l number =
+    record { answer = Done; from = spot_in_of l.parts.value (rank number 0); to = spot_in_of l.parts.value (rank (number + 1) 0) }
 
 -- 13 where the list breaks a rule that needs no directory, as a lookup tests it
 unfoldable pub values_of : Change → ℕ → LocalValues
-values_of l number = if changeRuled l then valuesOfKept l number else record { answer = BadState; from = 0; to = 0 }
+values_of l number = if change_ruled l then values_of_kept l number else record { answer = BadState; from = 0; to = 0 }

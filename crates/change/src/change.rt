@@ -1,7 +1,7 @@
 // The change list by value: its id, how many keys it has, and its drops. log.rs lines 355 to 374 and 471 to 478.
 ghost use Rattle.std.specs.Prelude.{◌≡◌, true};
-ghost use Rattle.memory.specs.Parts.{ofKind};
-ghost use Rattle.change.specs.Change.{changeOf, newList, entriesFit, changeRuled, changeFits, changeKept};
+ghost use Rattle.memory.specs.Parts.{of_kind};
+ghost use Rattle.change.specs.Change.{change_of, new_list, entries_fit, change_ruled, change_fits, change_kept};
 
 use super::drops::Drops;
 use super::fits::entries_fit;
@@ -27,7 +27,7 @@ pub struct Changed {
 impl LogChange {
     // An empty list; its memories may hold anything.
     pub fn new(record_id: u64) -> LogChange
-        ensures { result ≡ newList record_id }
+        ensures { result ≡ new_list record_id }
     {
         LogChange {
             record_id,
@@ -45,7 +45,7 @@ impl LogChange {
 
     // Whether the list keeps the rules that need no directory.
     pub fn ruled(self, words: &[u64], bytes: &[u8]) -> bool
-        ensures { result ≡ changeRuled (changeOf self words.now bytes.now) }
+        ensures { result ≡ change_ruled (change_of self words.now bytes.now) }
     {
         let drops = self.dropped_tables;
         let count_drops = self.dropped_ref_count_tables;
@@ -61,8 +61,8 @@ impl LogChange {
 
     // Whether the keys of a kind fit the directory.
     fn kind_fits(self, directory: Directory, kind: TableKind, words: &[u64], bytes: &[u8]) -> bool
-        requires { changeRuled (changeOf self words.now bytes.now) ≡ true }
-        ensures { result ≡ entriesFit directory kind (ofKind kind (changeOf self words.now bytes.now).parts) }
+        requires { change_ruled (change_of self words.now bytes.now) ≡ true }
+        ensures { result ≡ entries_fit directory kind (of_kind kind (change_of self words.now bytes.now).parts) }
     {
         let s = memory::span_of(Holder::List, kind);
         let a = s.words_at;
@@ -73,8 +73,8 @@ impl LogChange {
 
     // Whether all that is listed fits the directory.
     fn fits(self, directory: Directory, words: &[u64], bytes: &[u8]) -> bool
-        requires { changeRuled (changeOf self words.now bytes.now) ≡ true }
-        ensures { result ≡ changeFits directory (changeOf self words.now bytes.now) }
+        requires { change_ruled (change_of self words.now bytes.now) ≡ true }
+        ensures { result ≡ change_fits directory (change_of self words.now bytes.now) }
     {
         if !self.kind_fits(directory, TableKind::Index, words, bytes) {
             return false;
@@ -95,7 +95,7 @@ impl LogChange {
 
     // Whether directory, list and memories keep their rules; where they don't, a call that is handed them answers 13.
     pub fn kept(self, directory: Directory, words: &[u64], bytes: &[u8]) -> bool
-        ensures { result ≡ changeKept directory (changeOf self words.now bytes.now) }
+        ensures { result ≡ change_kept directory (change_of self words.now bytes.now) }
     {
         if !directory.kept() {
             return false;

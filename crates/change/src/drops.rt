@@ -1,8 +1,8 @@
 // The drops of one kind, in call order, repeats kept.
 ghost use Rattle.std.specs.Prelude.{◌≡◌, ◌<◌, ◌≤◌};
 ghost use Rattle.directory.specs.Directory.{tables_of, stands};
-ghost use Rattle.change.specs.Change.{noDrops, dropsFit};
-ghost use Rattle.change.specs.Drop.{dropsWith, droppedIn};
+ghost use Rattle.change.specs.Change.{no_drops, drops_fit};
+ghost use Rattle.change.specs.Drop.{drops_with, dropped_in};
 
 use answer::Answer;
 use directory::{Directory, Found, TableKind};
@@ -31,7 +31,7 @@ fn is_there(directory: Directory, kind: TableKind, number: u16) -> bool
 
 impl Drops {
     pub fn new() -> Drops
-        ensures { result ≡ noDrops }
+        ensures { result ≡ no_drops }
     {
         Drops {
             tables: [0u16; 16],
@@ -42,7 +42,7 @@ impl Drops {
     // Whether each is of a table of the directory.
     pub(crate) fn fit(self, directory: Directory, kind: TableKind) -> bool
         requires { self.count ≤ 16 }
-        ensures { result ≡ dropsFit directory kind self }
+        ensures { result ≡ drops_fit directory kind self }
     {
         let n = self.count;
         let mut i: usize = 0;
@@ -58,7 +58,7 @@ impl Drops {
     // One more.
     fn with(self, number: u16) -> Drops
         requires { self.count < 16 }
-        ensures { result ≡ dropsWith self number }
+        ensures { result ≡ drops_with self number }
     {
         let mut s = self;
         let n = s.count;
@@ -69,7 +69,7 @@ impl Drops {
 
     // 6, 9.
     pub(crate) fn dropped(self, directory: Directory, kind: TableKind, number: u16) -> Dropped
-        ensures { result ≡ droppedIn directory kind self number }
+        ensures { result ≡ dropped_in directory kind self number }
     {
         if !is_there(directory, kind, number) {
             return Dropped {

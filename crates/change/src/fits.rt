@@ -1,13 +1,13 @@
 // Whether what is listed fits the directory.
 ghost use Rattle.std.specs.Prelude.{◌≡◌, true, [], ◌*◌, ◌≤◌, length};
-ghost use Rattle.directory.specs.Directory.{findTable};
-ghost use Rattle.overlay.specs.Rules.{keysRuled, lists_of, rows_of, order_of, overlayOf};
-ghost use Rattle.change.specs.Change.{markFits, keyFits, entriesFit};
+ghost use Rattle.directory.specs.Directory.{find_table};
+ghost use Rattle.overlay.specs.Rules.{keys_ruled, lists_of, rows_of, order_of, overlay_of};
+ghost use Rattle.change.specs.Change.{mark_fits, key_fits, entries_fit};
 
 use directory::{Directory, Found, TableDescription, TableKind};
 
 fn mark_fits(kind: TableKind, t: TableDescription, mark: u64) -> bool
-    ensures { result ≡ markFits kind t mark }
+    ensures { result ≡ mark_fits kind t mark }
 {
     match kind {
         TableKind::Index => true,
@@ -17,7 +17,7 @@ fn mark_fits(kind: TableKind, t: TableDescription, mark: u64) -> bool
 }
 
 fn key_fits(kind: TableKind, found: Found, index: u64, mark: u64) -> bool
-    ensures { result ≡ keyFits kind found index mark }
+    ensures { result ≡ key_fits kind found index mark }
 {
     match found {
         Found::At(_, t) => {
@@ -32,8 +32,8 @@ fn key_fits(kind: TableKind, found: Found, index: u64, mark: u64) -> bool
 
 // The table of a number, where the one found last is at hand: keys in order have few changes of the table.
 fn table_after(directory: Directory, kind: TableKind, last: u16, found: Found, table: u16) -> Found
-    requires { found ≡ findTable directory kind last }
-    ensures { result ≡ findTable directory kind table }
+    requires { found ≡ find_table directory kind last }
+    ensures { result ≡ find_table directory kind table }
 {
     if table == last {
         return found;
@@ -49,8 +49,8 @@ fn all_fit<'a>(
     order: &'a [u64],
     n: usize,
 ) -> bool
-    requires { (4 * room ≤ length rows.now) × (room ≤ length order.now) × (keysRuled kind room rows.now order.now n ≡ true) }
-    ensures { result ≡ entriesFit directory kind (lists_of rows.now order.now [] n) }
+    requires { (4 * room ≤ length rows.now) × (room ≤ length order.now) × (keys_ruled kind room rows.now order.now n ≡ true) }
+    ensures { result ≡ entries_fit directory kind (lists_of rows.now order.now [] n) }
 {
     let mut last: u16 = 0;
     let mut found = directory.find(kind, last);
@@ -76,8 +76,8 @@ pub(crate) fn entries_fit(
     words: &[u64],
     n: usize,
 ) -> bool
-    requires { (length words.now ≡ 5 * room) × (keysRuled kind room (rows_of room words.now) (order_of room words.now) n ≡ true) }
-    ensures { result ≡ entriesFit directory kind (overlayOf room words.now [] n) }
+    requires { (length words.now ≡ 5 * room) × (keys_ruled kind room (rows_of room words.now) (order_of room words.now) n ≡ true) }
+    ensures { result ≡ entries_fit directory kind (overlay_of room words.now [] n) }
 {
     let cut = 4 * room;
     all_fit(directory, kind, room, &words[..cut], &words[cut..], n)

@@ -1,9 +1,9 @@
 // The calls on index tables. log.rs lines 480 to 489 and 517 to 519.
 ghost use Rattle.std.specs.Prelude.{◌≡◌, true};
 ghost use Rattle.directory.specs.declared.table.TableKind.TheVariants.{Index};
-ghost use Rattle.change.specs.Change.{changeOf, changeKept};
-ghost use Rattle.change.specs.Insert.{made_of, insertedKept, inserted};
-ghost use Rattle.change.specs.Drop.{tableDroppedKept, tableDropped};
+ghost use Rattle.change.specs.Change.{change_of, change_kept};
+ghost use Rattle.change.specs.Insert.{made_of, inserted_kept, inserted};
+ghost use Rattle.change.specs.Drop.{table_dropped_kept, table_dropped};
 
 use super::change::{Changed, LogChange};
 use answer::Answer;
@@ -22,7 +22,7 @@ impl LogChange {
         data: &[u8],
     ) -> Changed
         ensures { made_of result words.new bytes.new
-            ≡ inserted Index directory (changeOf self words.old bytes.old) table.0 index sub «data».now }
+            ≡ inserted Index directory (change_of self words.old bytes.old) table.0 index sub «data».now }
     {
         self.insert(directory, words, bytes, Index, table.0, index, sub, data)
     }
@@ -37,9 +37,9 @@ impl LogChange {
         sub: u8,
         data: &[u8],
     ) -> Changed
-        requires { changeKept directory (changeOf self words.old bytes.old) ≡ true }
+        requires { change_kept directory (change_of self words.old bytes.old) ≡ true }
         ensures { made_of result words.new bytes.new
-            ≡ insertedKept Index directory (changeOf self words.old bytes.old) table.0 index sub «data».now }
+            ≡ inserted_kept Index directory (change_of self words.old bytes.old) table.0 index sub «data».now }
     {
         self.insert_kept(directory, words, bytes, Index, table.0, index, sub, data)
     }
@@ -52,7 +52,7 @@ impl LogChange {
         id: IndexTableId,
     ) -> Changed
         ensures { made_of result words.now bytes.now
-            ≡ tableDropped directory (changeOf self words.now bytes.now) id.0 }
+            ≡ table_dropped directory (change_of self words.now bytes.now) id.0 }
     {
         if !self.kept(directory, words, bytes) {
             return Changed {
@@ -70,9 +70,9 @@ impl LogChange {
         bytes: &[u8],
         id: IndexTableId,
     ) -> Changed
-        requires { changeKept directory (changeOf self words.now bytes.now) ≡ true }
+        requires { change_kept directory (change_of self words.now bytes.now) ≡ true }
         ensures { made_of result words.now bytes.now
-            ≡ tableDroppedKept directory (changeOf self words.now bytes.now) id.0 }
+            ≡ table_dropped_kept directory (change_of self words.now bytes.now) id.0 }
     {
         let drops = self.dropped_tables;
         let d = drops.dropped(directory, Index, id.0);

@@ -1,9 +1,9 @@
 // The one path of the inserts: each takes the list by value and hands back the new one. log.rs lines 480 to 515.
 ghost use Rattle.std.specs.Prelude.{◌≡◌, true};
-ghost use Rattle.directory.specs.Directory.{findTable};
-ghost use Rattle.memory.specs.Parts.{ofKind};
-ghost use Rattle.change.specs.Change.{changeOf, changeKept};
-ghost use Rattle.change.specs.Insert.{made_of, planIn, insertedKept, inserted};
+ghost use Rattle.directory.specs.Directory.{find_table};
+ghost use Rattle.memory.specs.Parts.{of_kind};
+ghost use Rattle.change.specs.Change.{change_of, change_kept};
+ghost use Rattle.change.specs.Insert.{made_of, plan_in, inserted_kept, inserted};
 
 use super::change::{Changed, LogChange};
 use super::marks::mark;
@@ -25,8 +25,8 @@ impl LogChange {
         sub: u8,
         data: &[u8],
     ) -> Plan
-        requires { changeKept directory (changeOf self words.now bytes.now) ≡ true }
-        ensures { result ≡ planIn kind (ofKind kind (changeOf self words.now bytes.now).parts) (findTable directory kind number) number index sub «data».now }
+        requires { change_kept directory (change_of self words.now bytes.now) ≡ true }
+        ensures { result ≡ plan_in kind (of_kind kind (change_of self words.now bytes.now).parts) (find_table directory kind number) number index sub «data».now }
     {
         let s = memory::span_of(Holder::List, kind);
         let a = s.words_at;
@@ -58,9 +58,9 @@ impl LogChange {
         sub: u8,
         data: &[u8],
     ) -> Changed
-        requires { changeKept directory (changeOf self words.old bytes.old) ≡ true }
+        requires { change_kept directory (change_of self words.old bytes.old) ≡ true }
         ensures { made_of result words.new bytes.new
-            ≡ insertedKept kind directory (changeOf self words.old bytes.old) number index sub «data».now }
+            ≡ inserted_kept kind directory (change_of self words.old bytes.old) number index sub «data».now }
     {
         match self.planned(directory, words, bytes, kind, number, index, sub, data) {
             Plan::Refuse(answer) => Changed { answer, list: self },
@@ -103,7 +103,7 @@ impl LogChange {
         data: &[u8],
     ) -> Changed
         ensures { made_of result words.new bytes.new
-            ≡ inserted kind directory (changeOf self words.old bytes.old) number index sub «data».now }
+            ≡ inserted kind directory (change_of self words.old bytes.old) number index sub «data».now }
     {
         if !self.kept(directory, words, bytes) {
             return Changed {

@@ -1,10 +1,10 @@
 // What an insert is to do.
 ghost use Rattle.std.specs.Prelude.{◌≡◌, true, [], ◌*◌, ◌≤◌, length};
 ghost use Rattle.keys.specs.Keys.{rank, ruled};
-ghost use Rattle.overlay.specs.Rules.{rows_of, order_of, overlayOf};
+ghost use Rattle.overlay.specs.Rules.{rows_of, order_of, overlay_of};
 ghost use Rattle.memory.specs.Parts.{span_of};
 ghost use Rattle.memory.specs.declared.span.Holder.TheVariants.{List};
-ghost use Rattle.change.specs.Insert.{bytesFit, room_for, planIn};
+ghost use Rattle.change.specs.Insert.{bytes_fit_of, room_for, plan_in};
 
 use answer::Answer;
 use directory::{Found, TableDescription, TableKind};
@@ -18,7 +18,7 @@ pub enum Plan {
 }
 
 fn bytes_fit(kind: TableKind, t: TableDescription, data: &[u8]) -> bool
-    ensures { result ≡ bytesFit kind t «data».now }
+    ensures { result ≡ bytes_fit_of kind t «data».now }
 {
     data.len() == kind.unit(t.length)
 }
@@ -26,7 +26,7 @@ fn bytes_fit(kind: TableKind, t: TableDescription, data: &[u8]) -> bool
 // A key that is listed is replaced, so a full list takes it.
 fn room_for(room: usize, words: &[u64], n: usize, number: u16, index: u64) -> Plan
     requires { (length words.now ≡ 5 * room) × (n ≤ room) × (ruled (rows_of room words.now) (order_of room words.now) n ≡ true) }
-    ensures { result ≡ room_for room (overlayOf room words.now [] n) (rank number index) }
+    ensures { result ≡ room_for room (overlay_of room words.now [] n) (rank number index) }
 {
     match overlay::seat_of(room, words, n, number as u64, index) {
         Seat::Over(p) => Plan::Go(words[4 * p + 3]),
@@ -53,7 +53,7 @@ pub(crate) fn plan_for(
 ) -> Plan
     requires { (room ≡ (span_of List kind).room) × (length words.now ≡ 5 * room) × (n ≤ room)
         × (ruled (rows_of room words.now) (order_of room words.now) n ≡ true) }
-    ensures { result ≡ planIn kind (overlayOf room words.now [] n) found number index sub «data».now }
+    ensures { result ≡ plan_in kind (overlay_of room words.now [] n) found number index sub «data».now }
 {
     match found {
         Found::At(_, t) => {

@@ -1,9 +1,9 @@
 // The length of a list's record, before a byte of it is written.
 ghost use Rattle.std.specs.Prelude.{◌≡◌, true, [], ◌*◌, ◌≤◌, length};
-ghost use Rattle.overlay.specs.Rules.{keysRuled, markRuled, rows_of, order_of, overlayOf, lists_of};
-ghost use Rattle.memory.specs.Parts.{ofKind};
-ghost use Rattle.change.specs.Change.{changeOf, changeRuled};
-ghost use Rattle.change.specs.Size.{entrySize, entriesSize, sizedKept, sized};
+ghost use Rattle.overlay.specs.Rules.{keys_ruled, mark_ruled, rows_of, order_of, overlay_of, lists_of};
+ghost use Rattle.memory.specs.Parts.{of_kind};
+ghost use Rattle.change.specs.Change.{change_of, change_ruled};
+ghost use Rattle.change.specs.Size.{entry_size, entries_size, sized_kept, sized};
 
 use super::change::LogChange;
 use answer::Answer;
@@ -18,8 +18,8 @@ pub struct Sized {
 
 // The bounds here say that no sum wraps.
 fn entry_size(kind: TableKind, mark: u64) -> usize
-    requires { markRuled kind mark ≡ true }
-    ensures { (result ≡ entrySize kind mark) × (result ≤ 1043) }
+    requires { mark_ruled kind mark ≡ true }
+    ensures { (result ≡ entry_size kind mark) × (result ≤ 1043) }
 {
     match kind {
         TableKind::Index => 19 + 8 * words::set_bits(mark),
@@ -35,8 +35,8 @@ fn places_size<'a>(
     order: &'a [u64],
     n: usize,
 ) -> usize
-    requires { (room ≤ 256) × (4 * room ≤ length rows.now) × (room ≤ length order.now) × (keysRuled kind room rows.now order.now n ≡ true) }
-    ensures { (result ≡ entriesSize kind (lists_of rows.now order.now [] n)) × (result ≤ 1043 * n) }
+    requires { (room ≤ 256) × (4 * room ≤ length rows.now) × (room ≤ length order.now) × (keys_ruled kind room rows.now order.now n ≡ true) }
+    ensures { (result ≡ entries_size kind (lists_of rows.now order.now [] n)) × (result ≤ 1043 * n) }
 {
     let mut t: usize = 0;
     let mut i: usize = 0;
@@ -50,8 +50,8 @@ fn places_size<'a>(
 
 // The entries of a kind: its part of the words.
 fn entries_size(kind: TableKind, room: usize, words: &[u64], n: usize) -> usize
-    requires { (room ≤ 256) × (length words.now ≡ 5 * room) × (keysRuled kind room (rows_of room words.now) (order_of room words.now) n ≡ true) }
-    ensures { (result ≡ entriesSize kind (overlayOf room words.now [] n)) × (result ≤ 1043 * n) }
+    requires { (room ≤ 256) × (length words.now ≡ 5 * room) × (keys_ruled kind room (rows_of room words.now) (order_of room words.now) n ≡ true) }
+    ensures { (result ≡ entries_size kind (overlay_of room words.now [] n)) × (result ≤ 1043 * n) }
 {
     let cut = 4 * room;
     places_size(kind, room, &words[..cut], &words[cut..], n)
@@ -59,8 +59,8 @@ fn entries_size(kind: TableKind, room: usize, words: &[u64], n: usize) -> usize
 
 impl LogChange {
     fn kind_size(self, kind: TableKind, words: &[u64], bytes: &[u8]) -> usize
-        requires { changeRuled (changeOf self words.now bytes.now) ≡ true }
-        ensures { (result ≡ entriesSize kind (ofKind kind (changeOf self words.now bytes.now).parts)) × (result ≤ 33376) }
+        requires { change_ruled (change_of self words.now bytes.now) ≡ true }
+        ensures { (result ≡ entries_size kind (of_kind kind (change_of self words.now bytes.now).parts)) × (result ≤ 33376) }
     {
         let s = memory::span_of(Holder::List, kind);
         let a = s.words_at;
@@ -71,8 +71,8 @@ impl LogChange {
 
     // That of a list that keeps the rules that need no directory.
     pub fn record_size_kept(self, words: &[u64], bytes: &[u8]) -> Sized
-        requires { changeRuled (changeOf self words.now bytes.now) ≡ true }
-        ensures { result ≡ sizedKept (changeOf self words.now bytes.now) }
+        requires { change_ruled (change_of self words.now bytes.now) ≡ true }
+        ensures { result ≡ sized_kept (change_of self words.now bytes.now) }
     {
         let drops = self.dropped_tables;
         let count_drops = self.dropped_ref_count_tables;
@@ -87,7 +87,7 @@ impl LogChange {
 
     // The length of the record that `flush_to_file` would write.
     pub fn record_size(self, directory: Directory, words: &[u64], bytes: &[u8]) -> Sized
-        ensures { result ≡ sized directory (changeOf self words.now bytes.now) }
+        ensures { result ≡ sized directory (change_of self words.now bytes.now) }
     {
         if !self.kept(directory, words, bytes) {
             return Sized {

@@ -1,10 +1,10 @@
 // The values of one table in a list: a run of its order. log.rs lines 376 to 378.
 ghost use Rattle.std.specs.Prelude.{◌≡◌, true, [], ◌*◌, ◌≤◌, length};
 ghost use Rattle.keys.specs.Keys.{rank, ruled};
-ghost use Rattle.overlay.specs.Rules.{rows_of, order_of, overlayOf};
-ghost use Rattle.overlay.specs.Overlay.{spotIn};
-ghost use Rattle.change.specs.Change.{changeOf, changeRuled};
-ghost use Rattle.change.specs.Values.{valuesOfKept, values_of};
+ghost use Rattle.overlay.specs.Rules.{rows_of, order_of, overlay_of};
+ghost use Rattle.overlay.specs.Overlay.{spot_in_of};
+ghost use Rattle.change.specs.Change.{change_of, change_ruled};
+ghost use Rattle.change.specs.Values.{values_of_kept, values_of};
 
 use super::change::LogChange;
 use answer::Answer;
@@ -22,7 +22,7 @@ pub struct LocalValues {
 // Where a key stands or belongs in the order. The words are the kind's part.
 fn spot_of(room: usize, words: &[u64], n: usize, t: u64, index: u64) -> usize
     requires { (length words.now ≡ 5 * room) × (n ≤ room) × (ruled (rows_of room words.now) (order_of room words.now) n ≡ true) }
-    ensures { result ≡ spotIn (overlayOf room words.now [] n) (rank t index) }
+    ensures { result ≡ spot_in_of (overlay_of room words.now [] n) (rank t index) }
 {
     let cut = 4 * room;
     keys::place(&words[..cut], &words[cut..], n, t, index)
@@ -36,8 +36,8 @@ impl LogChange {
         bytes: &[u8],
         id: ValueTableId,
     ) -> LocalValues
-        requires { changeRuled (changeOf self words.now bytes.now) ≡ true }
-        ensures { result ≡ valuesOfKept (changeOf self words.now bytes.now) id.0 }
+        requires { change_ruled (change_of self words.now bytes.now) ≡ true }
+        ensures { result ≡ values_of_kept (change_of self words.now bytes.now) id.0 }
     {
         let s = memory::span_of(Holder::List, TableKind::Value);
         let a = s.words_at;
@@ -54,7 +54,7 @@ impl LogChange {
     }
 
     pub fn local_values_changes(self, words: &[u64], bytes: &[u8], id: ValueTableId) -> LocalValues
-        ensures { result ≡ values_of (changeOf self words.now bytes.now) id.0 }
+        ensures { result ≡ values_of (change_of self words.now bytes.now) id.0 }
     {
         if !self.ruled(words, bytes) {
             return LocalValues {

@@ -8,11 +8,11 @@ use lib.ListN.{length, take, drop, take-append-drop}
 use lib.Seq.{take-append-le, drop-append_seam, drop-drop}
 use lib.Dec.{leb}
 use borrow.Author.Tests.{leb-true, leb-false}
-use Rattle.words.proofs.Choices.{if-true, if-false}
+use Rattle.words.proofs.Choices.{if_true, if_false}
 use Rattle.words.proofs.Little.{Bytes}
 use Rattle.answer.specs.declared.answer.Answer.TheVariants.{Done}
 use Rattle.answer.specs.declared.answer.Refusal.{Refusal}
-use Rattle.directory.specs.Directory.{directoryKept}
+use Rattle.directory.specs.Directory.{directory_kept}
 use Rattle.directory.specs.declared.directory.Directory.{Directory}
 use Rattle.record.specs.Next.{step_of}
 use Rattle.record.specs.declared.reader.LogReader.{LogReader}
@@ -22,64 +22,64 @@ use Rattle.record.specs.declared.reader.Step.TheVariants.{Took, Refused}
 use Rattle.checker.proofs.Lasting.{step-lasting, step-long}
 use Rattle.record.proofs.Steps.{step_local}
 use Rattle.replay.specs.declared.many_records.Ran.{Ran}
-use Rattle.checker.specs.Check.{mayChange, readingAt, wentBy, onward, checkIn}
-use Rattle.checker.specs.Checker.{waits, answered, keeping, pieceBy}
-use Rattle.checker.specs.Inner.{backReader}
+use Rattle.checker.specs.Check.{may_change, reading_at, went_by, onward, check_in}
+use Rattle.checker.specs.Checker.{waits, answered, keeping, piece_by}
+use Rattle.checker.specs.Inner.{back_reader}
 use Rattle.checker.specs.declared.checker.LogChecker.{LogChecker}
 use Rattle.checker.specs.declared.standing.Standing.{Standing}
 use Rattle.checker.specs.declared.standing.Went.{Went}
 use Rattle.checker.specs.declared.standing.Went.TheVariants.{On, Waiting, Settled}
 use Rattle.checker.specs.declared.standing.Check.{Check}
 use Rattle.checker.specs.declared.standing.Check.TheVariants as check
-use Rattle.checker.proofs.Append.{took-longer, action-goes}
-use Rattle.checker.proofs.Moved.{movedStanding, movedCheck, check-moved}
-use Rattle.checker.proofs.Ways.{check-step, check-went}
+use Rattle.checker.proofs.Append.{took_longer, action-goes}
+use Rattle.checker.proofs.Moved.{moved_standing, moved_check, check_moved}
+use Rattle.checker.proofs.Ways.{check_step, check_went}
 
-module _ (d : Directory) (kept : directoryKept d ≡ true) (front : List ℕ) (known : Bytes front) (more : List ℕ) (base : ℕ) (s : Standing) (fits : s.reader.position ≤ length front) where
+module _ (d : Directory) (kept : directory_kept d ≡ true) (front : List ℕ) (known : Bytes front) (more : List ℕ) (base : ℕ) (s : Standing) (fits : s.reader.position ≤ length front) where
   -- what a step with more bytes behind comes to, unless it waited
-  longer : (w : Went) → wentBy base s (step_of d front s.reader) ≡ w → ((k : Standing) → w ≡ Waiting k → ⊥) → wentBy base s (step_of d (front ++ more) s.reader) ≡ w
+  longer : (w : Went) → went_by base s (step_of d front s.reader) ≡ w → ((k : Standing) → w ≡ Waiting k → ⊥) → went_by base s (step_of d (front ++ more) s.reader) ≡ w
   longer w e no-wait = by (step_of d front s.reader) refl e
     where
-      refuses : (x : Refusal) → step_of d front s.reader ≡ Refused x → (b : Bool) → mayChange x.answer ≡ b → wentBy base s (Refused x) ≡ w → wentBy base s (step_of d (front ++ more) s.reader) ≡ w
-      refuses x q true c f = absurd (no-wait s (sym f ∙ if-true (mayChange x.answer) _ _ c))
-      refuses x q false c f = ap (wentBy base s) (step-lasting d kept front known s.reader x fits q c more) ∙ f
+      refuses : (x : Refusal) → step_of d front s.reader ≡ Refused x → (b : Bool) → may_change x.answer ≡ b → went_by base s (Refused x) ≡ w → went_by base s (step_of d (front ++ more) s.reader) ≡ w
+      refuses x q true c f = absurd (no-wait s (sym f ∙ if_true (may_change x.answer) _ _ c))
+      refuses x q false c f = ap (went_by base s) (step-lasting d kept front known s.reader x fits q c more) ∙ f
 
-      by : (st : Step) → step_of d front s.reader ≡ st → wentBy base s st ≡ w → wentBy base s (step_of d (front ++ more) s.reader) ≡ w
-      by (Refused x) q f = refuses x q (mayChange x.answer) refl f
-      by (Took t) q f = ap (wentBy base s) (took-longer d front more s.reader t q) ∙ f
+      by : (st : Step) → step_of d front s.reader ≡ st → went_by base s st ≡ w → went_by base s (step_of d (front ++ more) s.reader) ≡ w
+      by (Refused x) q f = refuses x q (may_change x.answer) refl f
+      by (Took t) q f = ap (went_by base s) (took_longer d front more s.reader t q) ∙ f
 
-  pub across-settled : (ran : Ran) → Settled ran ≡ wentBy base s (step_of d front s.reader) → checkIn d (front ++ more) base s ≡ check.Settled ran
-  across-settled ran e =
-      sym (check-went d (front ++ more) base s (Settled ran) (sym (longer (Settled ran) (sym e) (λ k f. let z : ◌≡◌ {A = ℕ} 0 1 = cc in omega arith))))
+  pub across_settled : (ran : Ran) → Settled ran ≡ went_by base s (step_of d front s.reader) → check_in d (front ++ more) base s ≡ check.Settled ran
+  across_settled ran e =
+      sym (check_went d (front ++ more) base s (Settled ran) (sym (longer (Settled ran) (sym e) (λ k f. let z : ◌≡◌ {A = ℕ} 0 1 = cc in omega arith))))
 
-  pub across-on : (next : Standing) → On next ≡ wentBy base s (step_of d front s.reader) → checkIn d (front ++ more) base s ≡ checkIn d (front ++ more) base next
-  across-on next e =
-      sym (check-went d (front ++ more) base s (On next) (sym (longer (On next) (sym e) (λ k f. let z : ◌≡◌ {A = ℕ} 0 1 = cc in omega arith))))
+  pub across_on : (next : Standing) → On next ≡ went_by base s (step_of d front s.reader) → check_in d (front ++ more) base s ≡ check_in d (front ++ more) base next
+  across_on next e =
+      sym (check_went d (front ++ more) base s (On next) (sym (longer (On next) (sym e) (λ k f. let z : ◌≡◌ {A = ℕ} 0 1 = cc in omega arith))))
 
   -- where it waits, it waits for an action that may have more bytes than are there
-  pub across-waits : (k : Standing) → Waiting k ≡ wentBy base s (step_of d front s.reader)
-      → (k ≡ s) × (length front - s.reader.position < 1043) × (checkIn d front base s ≡ check.Waiting s)
-  across-waits k e = by (step_of d front s.reader) refl e
+  pub across_waits : (k : Standing) → Waiting k ≡ went_by base s (step_of d front s.reader)
+      → (k ≡ s) × (length front - s.reader.position < 1043) × (check_in d front base s ≡ check.Waiting s)
+  across_waits k e = by (step_of d front s.reader) refl e
     where
-      waiting : (x : Refusal) → step_of d front s.reader ≡ Refused x → (c : Bool) → mayChange x.answer ≡ c → Waiting k ≡ wentBy base s (Refused x)
-          → (k ≡ s) × (length front - s.reader.position < 1043) × (checkIn d front base s ≡ check.Waiting s)
+      waiting : (x : Refusal) → step_of d front s.reader ≡ Refused x → (c : Bool) → may_change x.answer ≡ c → Waiting k ≡ went_by base s (Refused x)
+          → (k ≡ s) × (length front - s.reader.position < 1043) × (check_in d front base s ≡ check.Waiting s)
       waiting x q true c f =
-          let g : Waiting k ≡ Waiting s = f ∙ if-true (mayChange x.answer) _ _ c in (
+          let g : Waiting k ≡ Waiting s = f ∙ if_true (may_change x.answer) _ _ c in (
             cc,
             short x q c,
-            check-step d front base s ∙ ap (λ (st : Step). onward (checkIn d front base) (wentBy base s st)) q ∙ ap (onward (checkIn d front base)) (if-true (mayChange x.answer) _ _ c),
+            check_step d front base s ∙ ap (λ (st : Step). onward (check_in d front base) (went_by base s st)) q ∙ ap (onward (check_in d front base)) (if_true (may_change x.answer) _ _ c),
           )
         where
-          short : (x : Refusal) → step_of d front s.reader ≡ Refused x → mayChange x.answer ≡ true → length front - s.reader.position < 1043
+          short : (x : Refusal) → step_of d front s.reader ≡ Refused x → may_change x.answer ≡ true → length front - s.reader.position < 1043
           short x q c = by (leb 1043 (length front - s.reader.position)) refl
             where
               by : (t : Bool) → leb 1043 (length front - s.reader.position) ≡ t → length front - s.reader.position < 1043
               by true l = absurd (true≢false (sym c ∙ step-long d kept front known s.reader x fits q (leb-true 1043 (length front - s.reader.position) l)))
               by false l = leb-false 1043 (length front - s.reader.position) l
-      waiting x q false c f = let z : ◌≡◌ {A = ℕ} 0 1 = cc (f ∙ if-false (mayChange x.answer) _ _ c) in absurd (omega arith)
+      waiting x q false c f = let z : ◌≡◌ {A = ℕ} 0 1 = cc (f ∙ if_false (may_change x.answer) _ _ c) in absurd (omega arith)
 
-      by : (st : Step) → step_of d front s.reader ≡ st → Waiting k ≡ wentBy base s st → (k ≡ s) × (length front - s.reader.position < 1043) × (checkIn d front base s ≡ check.Waiting s)
-      by (Refused x) q f = waiting x q (mayChange x.answer) refl f
+      by : (st : Step) → step_of d front s.reader ≡ st → Waiting k ≡ went_by base s st → (k ≡ s) × (length front - s.reader.position < 1043) × (check_in d front base s ≡ check.Waiting s)
+      by (Refused x) q f = waiting x q (may_change x.answer) refl f
       by (Took t) q f = absurd (action-goes base s t k (sym f))
 
 -- ---- bytes that waited are behind once an action is read
@@ -113,19 +113,19 @@ module _ (c : LogChecker) (d : Directory) (unread bytes : List ℕ) (base : ℕ)
   behind : drop n joined ≡ bytes
   behind = drop-append_seam unread bytes
 
-  moved-piece : (k : Check) → pieceBy c joined (movedCheck n k) ≡ pieceBy c bytes k
-  moved-piece (check.Settled r) = refl
-  moved-piece (check.Waiting s) =
+  moved_piece : (k : Check) → piece_by c joined (moved_check n k) ≡ piece_by c bytes k
+  moved_piece (check.Settled r) = refl
+  moved_piece (check.Waiting s) =
       let f : drop (n + s.reader.position) joined ≡ drop s.reader.position bytes = sym (drop-drop s.reader.position n joined) ∙ ap (drop s.reader.position) behind in
       ap (λ (l : List ℕ). answered Done (keeping c s l)) f
 
-  pub on-in-piece : n ≤ next.reader.position → next.reader.position ≤ length joined
-      → pieceBy c joined (checkIn d joined base next) ≡ pieceBy c bytes (checkIn d bytes (base + n) (readingAt next (backReader n next.reader)))
-  on-in-piece l h =
-      let back : Standing = readingAt next (backReader n next.reader) in
+  pub on_in_piece : n ≤ next.reader.position → next.reader.position ≤ length joined
+      → piece_by c joined (check_in d joined base next) ≡ piece_by c bytes (check_in d bytes (base + n) (reading_at next (back_reader n next.reader)))
+  on_in_piece l h =
+      let back : Standing = reading_at next (back_reader n next.reader) in
       let z : n + (next.reader.position - n) ≡ next.reader.position = omega arith in
-      let e : movedStanding n back ≡ next = ap (λ (p : ℕ). readingAt next (record { position = p; record_id = next.reader.record_id; crc32 = next.reader.crc32; validate = next.reader.validate; inside = next.reader.inside })) z in
-      ap (λ (s : Standing). pieceBy c joined (checkIn d joined base s)) (sym e)
-      ∙ ap (pieceBy c joined) (check-moved d joined n base back (omega arith))
-      ∙ moved-piece (checkIn d (drop n joined) (base + n) back)
-      ∙ ap (λ (l : List ℕ). pieceBy c bytes (checkIn d l (base + n) back)) behind
+      let e : moved_standing n back ≡ next = ap (λ (p : ℕ). reading_at next (record { position = p; record_id = next.reader.record_id; crc32 = next.reader.crc32; validate = next.reader.validate; inside = next.reader.inside })) z in
+      ap (λ (s : Standing). piece_by c joined (check_in d joined base s)) (sym e)
+      ∙ ap (piece_by c joined) (check_moved d joined n base back (omega arith))
+      ∙ moved_piece (check_in d (drop n joined) (base + n) back)
+      ∙ ap (λ (l : List ℕ). piece_by c bytes (check_in d l (base + n) back)) behind

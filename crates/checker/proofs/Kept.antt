@@ -11,18 +11,18 @@ use borrow.Author.Tests.{leb-true, leb-false}
 use Rattle.words.proofs.Little.{Bytes}
 use Rattle.answer.specs.Answer.{refusal}
 use Rattle.answer.specs.declared.answer.Refusal.{Refusal}
-use Rattle.directory.specs.Directory.{directoryKept}
+use Rattle.directory.specs.Directory.{directory_kept}
 use Rattle.directory.specs.declared.directory.Directory.{Directory}
 use Rattle.record.specs.Next.{step_of}
 use Rattle.record.specs.declared.reader.LogReader.{LogReader}
 use Rattle.record.specs.declared.reader.Step.{Step}
 use Rattle.record.specs.declared.reader.Step.TheVariants.{Took, Refused}
 use Rattle.checker.proofs.Lasting.{step-long}
-use Rattle.checker.proofs.Seen.{movedReader, seen, movedSeen, seen-moved}
+use Rattle.checker.proofs.Seen.{moved_reader, seen, moved_seen, seen-moved}
 use Rattle.output.specs.Put.{put}
 use Rattle.output.proofs.Laws.{wrote-front, all_left}
-use Rattle.checker.specs.Check.{mayChange, checkIn}
-use Rattle.checker.specs.Checker.{unread, padded, isOpen, waits, checkerKept, counted, keeping, settled, pieceBy, pieceTaken, pieceKept, closing, closeKept}
+use Rattle.checker.specs.Check.{may_change, check_in}
+use Rattle.checker.specs.Checker.{unread, padded, is_open, waits, checker_kept, counted, keeping, settled, piece_by, piece_taken, piece_kept, closing, close_kept}
 use Rattle.checker.specs.Inner.{Sound}
 use Rattle.checker.specs.declared.checker.LogChecker.{LogChecker}
 use Rattle.checker.specs.declared.checker.Checked.{Checked}
@@ -30,8 +30,8 @@ use Rattle.checker.specs.declared.checker.Closed.{Closed}
 use Rattle.checker.specs.declared.standing.Standing.{Standing}
 use Rattle.checker.specs.declared.standing.Check.{Check}
 use Rattle.checker.specs.declared.standing.Check.TheVariants as check
-use Rattle.checker.proofs.Rules.{chosen, Open, kept-directory, kept-total, kept-open, kept-settled, open-checker, settled-checker, closed-checker}
-use Rattle.checker.proofs.Sound.{Waits, check-waits, check-settles}
+use Rattle.checker.proofs.Rules.{chosen, Open, kept-directory, kept-total, kept_open, kept-settled, open_checker, settled_checker, closed_checker}
+use Rattle.checker.proofs.Sound.{Waits, check_waits, check_settles}
 
 -- ---- the bytes kept
 
@@ -49,26 +49,26 @@ module _ (bytes : List ℕ) where
 -- ---- where a check waits, the bytes from there on wait too
 
 -- a reader at the front of the bytes that it hasn't read
-abbrev pub frontOf : LogReader → LogReader
-frontOf r = record { position = 0; record_id = r.record_id; crc32 = r.crc32; validate = r.validate; inside = r.inside }
+abbrev pub front_of_of : LogReader → LogReader
+front_of_of r = record { position = 0; record_id = r.record_id; crc32 = r.crc32; validate = r.validate; inside = r.inside }
 
-waits-seen : (n : ℕ) (st su : Step) → seen st ≡ movedSeen n (seen su) → waits st ≡ waits su
+waits-seen : (n : ℕ) (st su : Step) → seen st ≡ moved_seen n (seen su) → waits st ≡ waits su
 waits-seen n (Refused x) (Refused y) e =
     let p : x ≡ refusal y.answer (n + y.position) = cc in
-    ap (λ (z : Refusal). mayChange z.answer) p
+    ap (λ (z : Refusal). may_change z.answer) p
 waits-seen n (Refused x) (Took t) e = let z : ◌≡◌ {A = ℕ} 0 1 = cc in absurd (omega arith)
 waits-seen n (Took t) (Refused y) e = let z : ◌≡◌ {A = ℕ} 0 1 = cc in absurd (omega arith)
 waits-seen n (Took t) (Took u) e = refl
 
 module _ (d : Directory) (log : List ℕ) (r : LogReader) (within : r.position ≤ length log) (wait : waits (step_of d log r) ≡ true) where
-  pub rest-waits : waits (step_of d (drop r.position log) (frontOf r)) ≡ true
+  pub rest-waits : waits (step_of d (drop r.position log) (front_of_of r)) ≡ true
   rest-waits =
       let z : r.position + 0 ≡ r.position = omega arith in
-      let e : movedReader r.position (frontOf r) ≡ r = ap (λ (p : ℕ). record { position = p; record_id = r.record_id; crc32 = r.crc32; validate = r.validate; inside = r.inside }) z in
-      sym (waits-seen r.position (step_of d log (movedReader r.position (frontOf r))) (step_of d (drop r.position log) (frontOf r)) (seen-moved r.position log d (frontOf r) (omega arith)))
+      let e : moved_reader r.position (front_of_of r) ≡ r = ap (λ (p : ℕ). record { position = p; record_id = r.record_id; crc32 = r.crc32; validate = r.validate; inside = r.inside }) z in
+      sym (waits-seen r.position (step_of d log (moved_reader r.position (front_of_of r))) (step_of d (drop r.position log) (front_of_of r)) (seen-moved r.position log d (front_of_of r) (omega arith)))
       ∙ ap (λ (k : LogReader). waits (step_of d log k)) e ∙ wait
 
-  pub rest-short : directoryKept d ≡ true → Bytes log → length log - r.position < 1043
+  pub rest-short : directory_kept d ≡ true → Bytes log → length log - r.position < 1043
   rest-short kept b = by (step_of d log r) refl
     where
       long : (x : Refusal) → step_of d log r ≡ Refused x → (t : Bool) → leb 1043 (length log - r.position) ≡ t → length log - r.position < 1043
@@ -81,10 +81,10 @@ module _ (d : Directory) (log : List ℕ) (r : LogReader) (within : r.position �
 
 -- ---- a piece
 
-module _ (c : LogChecker) (bytes : List ℕ) (kept : checkerKept c ≡ true) (few : c.total + length bytes < 9223372036854775808) (known : Bytes (unread c ++ bytes))
-    (going : c.closed ≡ false) (live : isOpen c ≡ true) where
+module _ (c : LogChecker) (bytes : List ℕ) (kept : checker_kept c ≡ true) (few : c.total + length bytes < 9223372036854775808) (known : Bytes (unread c ++ bytes))
+    (going : c.closed ≡ false) (live : is_open c ≡ true) where
   o : Open c
-  o = kept-open c kept going live
+  o = kept_open c kept going live
 
   abbrev all : List ℕ
   all = unread c ++ bytes
@@ -106,9 +106,9 @@ module _ (c : LogChecker) (bytes : List ℕ) (kept : checkerKept c ≡ true) (fe
       }
 
   module _ (long : length c.part ≡ 1043) where
-    pub taken-kept : checkerKept (pieceTaken c bytes).checker ≡ true
-    unfolding pieceTaken
-    taken-kept = by (checkIn c.directory all base c.standing) refl
+    pub taken-kept : checker_kept (piece_taken c bytes).checker ≡ true
+    unfolding piece_taken
+    taken-kept = by (check_in c.directory all base c.standing) refl
       where
         held : length (unread c) ≡ c.held
         held = unread-length long
@@ -116,7 +116,7 @@ module _ (c : LogChecker) (bytes : List ℕ) (kept : checkerKept c ≡ true) (fe
         lengths : length all ≡ c.held + length bytes
         lengths = simp length-append (omega (arith, held))
 
-        waiting : (s : Standing) → Waits c.directory all base s → checkerKept (keeping (counted c (length bytes)) s (drop s.reader.position all)) ≡ true
+        waiting : (s : Standing) → Waits c.directory all base s → checker_kept (keeping (counted c (length bytes)) s (drop s.reader.position all)) ≡ true
         waiting s w =
             let n : length (drop s.reader.position all) ≡ length all - s.reader.position = length-drop s.reader.position all in
             let k = rest-short c.directory all s.reader w.within w.refused (kept-directory c kept) known in
@@ -124,7 +124,7 @@ module _ (c : LogChecker) (bytes : List ℕ) (kept : checkerKept c ≡ true) (fe
             let t : length (drop s.reader.position all) ≤ c.total + length bytes = omega (arith, lengths, o.taken) in
             let b : s.start ≤ c.total + length bytes - length (drop s.reader.position all) = omega (arith, w.sound.begins, w.within, o.taken, lengths) in
             let e : s.reader.inside ≡ false → s.start ≡ c.total + length bytes - length (drop s.reader.position all) = λ i. omega (arith, w.sound.between i, w.within, o.taken, lengths) in
-            open-checker (keeping (counted c (length bytes)) s (drop s.reader.position all)) (kept-directory c kept) few live
+            open_checker (keeping (counted c (length bytes)) s (drop s.reader.position all)) (kept-directory c kept) few live
             (record {
               room = r;
               taken = t;
@@ -132,29 +132,29 @@ module _ (c : LogChecker) (bytes : List ℕ) (kept : checkerKept c ≡ true) (fe
               waiting = rw (unpadded (drop s.reader.position all)) (rest-waits c.directory all s.reader w.within w.refused);
             })
 
-        by : (k : Check) → checkIn c.directory all base c.standing ≡ k → checkerKept (pieceBy (counted c (length bytes)) all k).checker ≡ true
-        by (check.Waiting s) e = waiting s (check-waits c.directory all base c.standing s start-sound (omega (arith, o.stands.front)) e)
+        by : (k : Check) → check_in c.directory all base c.standing ≡ k → checker_kept (piece_by (counted c (length bytes)) all k).checker ≡ true
+        by (check.Waiting s) e = waiting s (check_waits c.directory all base c.standing s start-sound (omega (arith, o.stands.front)) e)
         by (check.Settled ran) e =
-            settled-checker (settled (counted c (length bytes)) ran) (kept-directory c kept) few (check-settles c.directory all base c.standing (omega (arith, o.stands.front)) ran e)
+            settled_checker (settled (counted c (length bytes)) ran) (kept-directory c kept) few (check_settles c.directory all base c.standing (omega (arith, o.stands.front)) ran e)
 
 -- ---- every call
 
-module _ (c : LogChecker) (kept : checkerKept c ≡ true) where
+module _ (c : LogChecker) (kept : checker_kept c ≡ true) where
   -- A PIECE KEEPS THE RULES
-  pub piece-keeps : (bytes : List ℕ) → Bytes (unread c ++ bytes) → length c.part ≡ 1043 → checkerKept (pieceKept c bytes).checker ≡ true
-  unfolding pieceKept
-  piece-keeps bytes known long =
-      let Rules : Checked → Type 0 = λ x. checkerKept x.checker ≡ true in
+  pub piece_keeps : (bytes : List ℕ) → Bytes (unread c ++ bytes) → length c.part ≡ 1043 → checker_kept (piece_kept c bytes).checker ≡ true
+  unfolding piece_kept
+  piece_keeps bytes known long =
+      let Rules : Checked → Type 0 = λ x. checker_kept x.checker ≡ true in
       chosen Rules c.closed _ _ (λ e. kept)
       (λ going. chosen Rules (leb (9223372036854775808 - c.total) (length bytes)) _ _ (λ e. kept)
       (λ e.
       let few : c.total + length bytes < 9223372036854775808 = omega (arith, leb-false (9223372036854775808 - c.total) (length bytes) e) in
-      chosen Rules (isOpen c) _ _ (λ live. taken-kept c bytes kept few known going live long)
-      (λ live. settled-checker (counted c (length bytes)) (kept-directory c kept) few (kept-settled c kept going live))))
+      chosen Rules (is_open c) _ _ (λ live. taken-kept c bytes kept few known going live long)
+      (λ live. settled_checker (counted c (length bytes)) (kept-directory c kept) few (kept-settled c kept going live))))
 
   -- AND SO DOES THE CLOSE
-  pub close-keeps : checkerKept (closeKept c).checker ≡ true
-  unfolding closeKept
-  close-keeps =
-      chosen (λ (x : Closed). checkerKept x.checker ≡ true) c.closed _ _ (λ e. kept)
-      (λ e. closed-checker (closing c).checker (kept-directory c kept) (kept-total c kept) refl)
+  pub close_keeps : checker_kept (close_kept c).checker ≡ true
+  unfolding close_kept
+  close_keeps =
+      chosen (λ (x : Closed). checker_kept x.checker ≡ true) c.closed _ _ (λ e. kept)
+      (λ e. closed_checker (closing c).checker (kept-directory c kept) (kept-total c kept) refl)

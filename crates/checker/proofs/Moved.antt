@@ -7,103 +7,103 @@ use native.Mathlib.Omega.{arith}
 use lib.Dec.{eqb}
 use lib.ListN.{length, drop, length-drop}
 use Rattle.words.specs.Choice.{if◌then◌else◌}
-use Rattle.answer.specs.Answer.{lastRecordId}
+use Rattle.answer.specs.Answer.{last_record_id}
 use Rattle.answer.specs.declared.answer.Answer.TheVariants.{WrongId, UsedUp}
 use Rattle.directory.specs.declared.directory.Directory.{Directory}
 use Rattle.record.specs.Next.{step_of}
 use Rattle.record.specs.declared.reader.LogReader.{LogReader}
 use Rattle.record.specs.declared.reader.Step.{Step}
 use Rattle.record.specs.declared.reader.Step.TheVariants.{Took, Refused}
-use Rattle.checker.proofs.Seen.{movedReader, Seen, halts, goes, seen, movedSeen, seen-moved}
-use Rattle.checker.specs.Check.{mayChange, reportOf, readingAt, afterRecord, afterOpening, wentBy, onward, checkOn, checkIn}
+use Rattle.checker.proofs.Seen.{moved_reader, Seen, halts, goes, seen, moved_seen, seen-moved}
+use Rattle.checker.specs.Check.{may_change, report_of, reading_at, after_record, after_opening, went_by, onward, check_on, check_in}
 use Rattle.checker.specs.declared.standing.Standing.{Standing}
 use Rattle.checker.specs.declared.standing.Went.{Went}
 use Rattle.checker.specs.declared.standing.Went.TheVariants.{On, Waiting, Settled}
 use Rattle.checker.specs.declared.standing.Check.{Check}
 use Rattle.checker.specs.declared.standing.Check.TheVariants as check
-use Rattle.checker.proofs.Ways.{step-forward, check-enough}
+use Rattle.checker.proofs.Ways.{step-forward, check_enough}
 
-abbrev pub movedStanding : ℕ → Standing → Standing
-movedStanding n s = readingAt s (movedReader n s.reader)
+abbrev pub moved_standing : ℕ → Standing → Standing
+moved_standing n s = reading_at s (moved_reader n s.reader)
 
-abbrev movedWent : ℕ → Went → Went
-movedWent n (On s) = On (movedStanding n s)
-movedWent n (Waiting s) = Waiting (movedStanding n s)
-movedWent n (Settled r) = Settled r
+abbrev moved_went : ℕ → Went → Went
+moved_went n (On s) = On (moved_standing n s)
+moved_went n (Waiting s) = Waiting (moved_standing n s)
+moved_went n (Settled r) = Settled r
 
-abbrev pub movedCheck : ℕ → Check → Check
-movedCheck n (check.Waiting s) = check.Waiting (movedStanding n s)
-movedCheck n (check.Settled r) = check.Settled r
+abbrev pub moved_check : ℕ → Check → Check
+moved_check n (check.Waiting s) = check.Waiting (moved_standing n s)
+moved_check n (check.Settled r) = check.Settled r
 
 -- a step of a check goes by what is seen of the reader's
-abbrev wentSeen : ℕ → Standing → Seen → Went
-wentSeen base s (halts x) = if mayChange x.answer then Waiting s else Settled (reportOf s x.answer (base + x.position))
-wentSeen base s (goes e r) = if s.reader.inside then if e then afterRecord base s r else On (readingAt s r) else afterOpening s r
+abbrev went_seen_lem : ℕ → Standing → Seen → Went
+went_seen_lem base s (halts x) = if may_change x.answer then Waiting s else Settled (report_of s x.answer (base + x.position))
+went_seen_lem base s (goes e r) = if s.reader.inside then if e then after_record base s r else On (reading_at s r) else after_opening s r
 
-went-seen : (base : ℕ) (s : Standing) (st : Step) → wentBy base s st ≡ wentSeen base s (seen st)
-went-seen base s (Refused x) = refl
-went-seen base s (Took t) = refl
+went_seen : (base : ℕ) (s : Standing) (st : Step) → went_by base s st ≡ went_seen_lem base s (seen st)
+went_seen base s (Refused x) = refl
+went_seen base s (Took t) = refl
 
 module _ (n base : ℕ) (s : Standing) where
-  record-moved : (r : LogReader) → afterRecord base (movedStanding n s) (movedReader n r) ≡ movedWent n (afterRecord (base + n) s r)
-  record-moved r = by (eqb s.expected lastRecordId) (omega arith)
+  record_moved : (r : LogReader) → after_record base (moved_standing n s) (moved_reader n r) ≡ moved_went n (after_record (base + n) s r)
+  record_moved r = by (eqb s.expected last_record_id) (omega arith)
     where
       ends : ℕ → Went
       ends p = Settled (record { answer = UsedUp; position = p; count = s.count + 1; fault_at = p })
 
       goes_on : ℕ → Went
-      goes_on p = On (record { expected = s.expected + 1; start = p; count = s.count + 1; reader = movedReader n r })
+      goes_on p = On (record { expected = s.expected + 1; start = p; count = s.count + 1; reader = moved_reader n r })
 
       by : (b : Bool) → base + (n + r.position) ≡ base + n + r.position
           → (if b then ends (base + (n + r.position)) else goes_on (base + (n + r.position)))
-          ≡ movedWent n (if b then ends (base + n + r.position) else On (record { expected = s.expected + 1; start = base + n + r.position; count = s.count + 1; reader = r }))
+          ≡ moved_went n (if b then ends (base + n + r.position) else On (record { expected = s.expected + 1; start = base + n + r.position; count = s.count + 1; reader = r }))
       by true z = ap ends z
       by false z = ap goes_on z
 
-  opening-moved : (r : LogReader) → afterOpening (movedStanding n s) (movedReader n r) ≡ movedWent n (afterOpening s r)
+  opening-moved : (r : LogReader) → after_opening (moved_standing n s) (moved_reader n r) ≡ moved_went n (after_opening s r)
   opening-moved r = by (eqb r.record_id s.expected)
     where
-      by : (b : Bool) → (if b then On (readingAt s (movedReader n r)) else Settled (reportOf s WrongId s.start)) ≡ movedWent n (if b then On (readingAt s r) else Settled (reportOf s WrongId s.start))
+      by : (b : Bool) → (if b then On (reading_at s (moved_reader n r)) else Settled (report_of s WrongId s.start)) ≡ moved_went n (if b then On (reading_at s r) else Settled (report_of s WrongId s.start))
       by true = refl
       by false = refl
 
-  seen-went : (y : Seen) → wentSeen base (movedStanding n s) (movedSeen n y) ≡ movedWent n (wentSeen (base + n) s y)
-  seen-went (halts x) = by (mayChange x.answer) (omega arith)
+  seen_went : (y : Seen) → went_seen_lem base (moved_standing n s) (moved_seen n y) ≡ moved_went n (went_seen_lem (base + n) s y)
+  seen_went (halts x) = by (may_change x.answer) (omega arith)
     where
       by : (b : Bool) → base + (n + x.position) ≡ base + n + x.position
-          → (if b then Waiting (movedStanding n s) else Settled (reportOf s x.answer (base + (n + x.position)))) ≡ movedWent n (if b then Waiting s else Settled (reportOf s x.answer (base + n + x.position)))
+          → (if b then Waiting (moved_standing n s) else Settled (report_of s x.answer (base + (n + x.position)))) ≡ moved_went n (if b then Waiting s else Settled (report_of s x.answer (base + n + x.position)))
       by true z = refl
-      by false z = ap (λ (p : ℕ). Settled (reportOf s x.answer p)) z
-  seen-went (goes e r) = by s.reader.inside e
+      by false z = ap (λ (p : ℕ). Settled (report_of s x.answer p)) z
+  seen_went (goes e r) = by s.reader.inside e
     where
-      by : (b e : Bool) → (if b then if e then afterRecord base (movedStanding n s) (movedReader n r) else On (readingAt s (movedReader n r)) else afterOpening (movedStanding n s) (movedReader n r))
-          ≡ movedWent n (if b then if e then afterRecord (base + n) s r else On (readingAt s r) else afterOpening s r)
-      by true true = record-moved r
+      by : (b e : Bool) → (if b then if e then after_record base (moved_standing n s) (moved_reader n r) else On (reading_at s (moved_reader n r)) else after_opening (moved_standing n s) (moved_reader n r))
+          ≡ moved_went n (if b then if e then after_record (base + n) s r else On (reading_at s r) else after_opening s r)
+      by true true = record_moved r
       by true false = refl
       by false e = opening-moved r
 
 module _ (d : Directory) (log : List ℕ) (n base : ℕ) where
-  on-moved : (k : ℕ) (s : Standing) → n + s.reader.position ≤ length log → checkOn k d log base (movedStanding n s) ≡ movedCheck n (checkOn k d (drop n log) (base + n) s)
-  unfolding checkOn
+  on-moved : (k : ℕ) (s : Standing) → n + s.reader.position ≤ length log → check_on k d log base (moved_standing n s) ≡ moved_check n (check_on k d (drop n log) (base + n) s)
+  unfolding check_on
   on-moved zero s h = refl
   on-moved (suc k) s h =
-      ap (onward (checkOn k d log base))
-      (went-seen base (movedStanding n s) (step_of d log (movedReader n s.reader))
-      ∙ ap (wentSeen base (movedStanding n s)) (seen-moved n log d s.reader h)
-      ∙ seen-went n base s (seen (step_of d (drop n log) s.reader))
-      ∙ ap (movedWent n) (sym (went-seen (base + n) s (step_of d (drop n log) s.reader))))
-      ∙ by (wentBy (base + n) s (step_of d (drop n log) s.reader)) refl (on-moved k)
+      ap (onward (check_on k d log base))
+      (went_seen base (moved_standing n s) (step_of d log (moved_reader n s.reader))
+      ∙ ap (went_seen_lem base (moved_standing n s)) (seen-moved n log d s.reader h)
+      ∙ seen_went n base s (seen (step_of d (drop n log) s.reader))
+      ∙ ap (moved_went n) (sym (went_seen (base + n) s (step_of d (drop n log) s.reader))))
+      ∙ by (went_by (base + n) s (step_of d (drop n log) s.reader)) refl (on-moved k)
     where
-      by : (w : Went) → wentBy (base + n) s (step_of d (drop n log) s.reader) ≡ w
-          → ((s : Standing) → n + s.reader.position ≤ length log → checkOn k d log base (movedStanding n s) ≡ movedCheck n (checkOn k d (drop n log) (base + n) s))
-          → onward (checkOn k d log base) (movedWent n w) ≡ movedCheck n (onward (checkOn k d (drop n log) (base + n)) w)
+      by : (w : Went) → went_by (base + n) s (step_of d (drop n log) s.reader) ≡ w
+          → ((s : Standing) → n + s.reader.position ≤ length log → check_on k d log base (moved_standing n s) ≡ moved_check n (check_on k d (drop n log) (base + n) s))
+          → onward (check_on k d log base) (moved_went n w) ≡ moved_check n (onward (check_on k d (drop n log) (base + n)) w)
       by (On next) e ih =
           let o = step-forward d (drop n log) (base + n) s next e in
           ih next (omega (arith, rw length-drop at o.inside))
       by (Waiting w) e ih = refl
       by (Settled r) e ih = refl
 
-  pub check-moved : (s : Standing) → n + s.reader.position ≤ length log → checkIn d log base (movedStanding n s) ≡ movedCheck n (checkIn d (drop n log) (base + n) s)
-  check-moved s h =
+  pub check_moved : (s : Standing) → n + s.reader.position ≤ length log → check_in d log base (moved_standing n s) ≡ moved_check n (check_in d (drop n log) (base + n) s)
+  check_moved s h =
       on-moved (suc (length log)) s h
-      ∙ ap (movedCheck n) (check-enough d (drop n log) (base + n) (suc (length log)) (suc (length (drop n log))) s (rw length-drop (omega arith)) (omega arith))
+      ∙ ap (moved_check n) (check_enough d (drop n log) (base + n) (suc (length log)) (suc (length (drop n log))) s (rw length-drop (omega arith)) (omega arith))

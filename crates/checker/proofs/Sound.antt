@@ -7,18 +7,18 @@ use native.Mathlib.Omega.{arith}
 use lib.Dec.{eqb}
 use lib.ListN.{length}
 use Rattle.words.specs.Choice.{if◌then◌else◌}
-use Rattle.words.proofs.Choices.{if-true, if-false}
-use Rattle.answer.specs.Answer.{lastRecordId}
+use Rattle.words.proofs.Choices.{if_true, if_false}
+use Rattle.answer.specs.Answer.{last_record_id}
 use Rattle.answer.specs.declared.answer.Answer.TheVariants.{WrongId, UsedUp}
 use Rattle.directory.specs.declared.directory.Directory.{Directory}
-use Rattle.record.specs.Next.{isEnd, step_of}
+use Rattle.record.specs.Next.{is_end, step_of}
 use Rattle.record.specs.declared.reader.LogReader.{LogReader}
 use Rattle.record.specs.declared.reader.Stepped.{Stepped}
 use Rattle.record.specs.declared.reader.Step.{Step}
 use Rattle.record.specs.declared.reader.Step.TheVariants.{Took, Refused}
 use Rattle.replay.specs.declared.many_records.Ran.{Ran}
 use Rattle.replay.proofs.Places.{going}
-use Rattle.checker.specs.Check.{mayChange, decides, readingAt, reportOf, afterRecord, afterOpening, afterAction, wentBy, onward, checkOn, checkIn}
+use Rattle.checker.specs.Check.{may_change, decides, reading_at, report_of, after_record, after_opening, after_action, went_by, onward, check_on, check_in}
 use Rattle.checker.specs.Checker.{waits}
 use Rattle.checker.specs.Inner.{Sound, Stands}
 use Rattle.checker.specs.declared.standing.Standing.{Standing}
@@ -31,15 +31,15 @@ use Rattle.checker.proofs.Readers.{behind}
 use Rattle.checker.proofs.Ways.{never_on, Forward, step-forward}
 
 module _ (d : Directory) (log : List ℕ) (base : ℕ) where
-  pub went-sound : (s next : Standing) → Sound base s → wentBy base s (step_of d log s.reader) ≡ On next → Sound base next
-  went-sound s next k e = by (step_of d log s.reader) refl e
+  pub went_sound : (s next : Standing) → Sound base s → went_by base s (step_of d log s.reader) ≡ On next → Sound base next
+  went_sound s next k e = by (step_of d log s.reader) refl e
     where
       o : Forward log s next
       o = step-forward d log base s next e
 
-      old : (r : LogReader) → r.inside ≡ true → r.validate ≡ true → On (readingAt s r) ≡ On next → Sound base next
+      old : (r : LogReader) → r.inside ≡ true → r.validate ≡ true → On (reading_at s r) ≡ On next → Sound base next
       old r i v q =
-          let p : readingAt s r ≡ next = cc in
+          let p : reading_at s r ≡ next = cc in
           let a : s.start ≡ next.start = ap (λ (x : Standing). x.start) p in
           let b : s.count ≡ next.count = ap (λ (x : Standing). x.count) p in
           let j : next.reader.inside ≡ true = sym (ap (λ (x : Standing). x.reader.inside) p) ∙ i in
@@ -65,27 +65,27 @@ module _ (d : Directory) (log : List ℕ) (base : ℕ) where
             between = λ f. omega arith;
           }
 
-      opened : (b : Bool) (r : LogReader) (ran : Ran) → r.inside ≡ true → r.validate ≡ true → (if b then On (readingAt s r) else Settled ran) ≡ On next → Sound base next
+      opened : (b : Bool) (r : LogReader) (ran : Ran) → r.inside ≡ true → r.validate ≡ true → (if b then On (reading_at s r) else Settled ran) ≡ On next → Sound base next
       opened true r ran i v q = old r i v q
       opened false r ran i v q = let z : ◌≡◌ {A = ℕ} 0 1 = cc in absurd (omega arith)
 
-      inside : (t : Stepped) → step_of d log s.reader ≡ Took t → s.reader.inside ≡ true → (b : Bool) → isEnd t.action ≡ b
-          → (if b then afterRecord base s t.reader else On (readingAt s t.reader)) ≡ On next → Sound base next
-      inside t q i true b f = ended (eqb s.expected lastRecordId) t.reader _ ((behind d log s.reader t q).validates ∙ k.validates) f
+      inside : (t : Stepped) → step_of d log s.reader ≡ Took t → s.reader.inside ≡ true → (b : Bool) → is_end t.action ≡ b
+          → (if b then after_record base s t.reader else On (reading_at s t.reader)) ≡ On next → Sound base next
+      inside t q i true b f = ended (eqb s.expected last_record_id) t.reader _ ((behind d log s.reader t q).validates ∙ k.validates) f
       inside t q i false b f = old t.reader ((going d log s.reader t i q).stays b) ((behind d log s.reader t q).validates ∙ k.validates) f
 
-      either : (t : Stepped) → step_of d log s.reader ≡ Took t → (b : Bool) → s.reader.inside ≡ b → afterAction base s t ≡ On next → Sound base next
-      either t q true b f = inside t q b (isEnd t.action) refl (sym (if-true s.reader.inside _ _ b) ∙ f)
+      either : (t : Stepped) → step_of d log s.reader ≡ Took t → (b : Bool) → s.reader.inside ≡ b → after_action base s t ≡ On next → Sound base next
+      either t q true b f = inside t q b (is_end t.action) refl (sym (if_true s.reader.inside _ _ b) ∙ f)
       either t q false b f =
           let g = behind d log s.reader t q in
-          opened (eqb t.reader.record_id s.expected) t.reader _ (g.enters b) (g.validates ∙ k.validates) (sym (if-false s.reader.inside _ _ b) ∙ f)
+          opened (eqb t.reader.record_id s.expected) t.reader _ (g.enters b) (g.validates ∙ k.validates) (sym (if_false s.reader.inside _ _ b) ∙ f)
 
-      by : (st : Step) → step_of d log s.reader ≡ st → wentBy base s st ≡ On next → Sound base next
-      by (Refused x) q f = absurd (never_on (mayChange x.answer) s next _ f)
+      by : (st : Step) → step_of d log s.reader ≡ st → went_by base s st ≡ On next → Sound base next
+      by (Refused x) q f = absurd (never_on (may_change x.answer) s next _ f)
       by (Took t) q f = either t q s.reader.inside refl f
 
-  pub went-stands : (s next : Standing) → Stands log base s → wentBy base s (step_of d log s.reader) ≡ On next → Stands log base next
-  went-stands s next k e = record { within = (step-forward d log base s next e).inside; sound = went-sound s next k.sound e; fits = k.fits }
+  pub went_stands : (s next : Standing) → Stands log base s → went_by base s (step_of d log s.reader) ≡ On next → Stands log base next
+  went_stands s next k e = record { within = (step-forward d log base s next e).inside; sound = went_sound s next k.sound e; fits = k.fits }
 
   -- ---- where it waits
 
@@ -94,47 +94,47 @@ module _ (d : Directory) (log : List ℕ) (base : ℕ) where
     pub within : s.reader.position ≤ length log
     pub refused : waits (step_of d log s.reader) ≡ true
 
-  waits-on : (n : ℕ) (s last : Standing) → Sound base s → s.reader.position ≤ length log → length log - s.reader.position < n → checkOn n d log base s ≡ check.Waiting last → Waits last
-  unfolding checkOn
+  waits-on : (n : ℕ) (s last : Standing) → Sound base s → s.reader.position ≤ length log → length log - s.reader.position < n → check_on n d log base s ≡ check.Waiting last → Waits last
+  unfolding check_on
   waits-on zero s last k h few e = absurd (omega arith)
-  waits-on (suc n) s last k h few e = by (wentBy base s (step_of d log s.reader)) refl e (waits-on n)
+  waits-on (suc n) s last k h few e = by (went_by base s (step_of d log s.reader)) refl e (waits-on n)
     where
       Next : Type 0
-      Next = (s last : Standing) → Sound base s → s.reader.position ≤ length log → length log - s.reader.position < n → checkOn n d log base s ≡ check.Waiting last → Waits last
+      Next = (s last : Standing) → Sound base s → s.reader.position ≤ length log → length log - s.reader.position < n → check_on n d log base s ≡ check.Waiting last → Waits last
 
-      here : (st : Step) → step_of d log s.reader ≡ st → (w : Standing) → wentBy base s st ≡ Waiting w → Waiting w ≡ Waiting last → Waits last
+      here : (st : Step) → step_of d log s.reader ≡ st → (w : Standing) → went_by base s st ≡ Waiting w → Waiting w ≡ Waiting last → Waits last
       here (Took t) q w f g = absurd (action-goes base s t w f)
-      here (Refused x) q w f g = refused (mayChange x.answer) refl
+      here (Refused x) q w f g = refused (may_change x.answer) refl
         where
-          refused : (b : Bool) → mayChange x.answer ≡ b → Waits last
+          refused : (b : Bool) → may_change x.answer ≡ b → Waits last
           refused true m =
-              let p : Waiting s ≡ Waiting last = sym (if-true (mayChange x.answer) _ _ m) ∙ f ∙ g in
+              let p : Waiting s ≡ Waiting last = sym (if_true (may_change x.answer) _ _ m) ∙ f ∙ g in
               let same : s ≡ last = cc in
               subst Waits same (record { sound = k; within = h; refused = ap waits q ∙ m })
-          refused false m = let z : ◌≡◌ {A = ℕ} 0 1 = cc (sym (if-false (mayChange x.answer) _ _ m) ∙ f) in absurd (omega arith)
+          refused false m = let z : ◌≡◌ {A = ℕ} 0 1 = cc (sym (if_false (may_change x.answer) _ _ m) ∙ f) in absurd (omega arith)
 
-      by : (w : Went) → wentBy base s (step_of d log s.reader) ≡ w → onward (checkOn n d log base) w ≡ check.Waiting last → Next → Waits last
+      by : (w : Went) → went_by base s (step_of d log s.reader) ≡ w → onward (check_on n d log base) w ≡ check.Waiting last → Next → Waits last
       by (On next) q f ih =
           let o = step-forward d log base s next q in
-          ih next last (went-sound s next k q) o.inside (omega (arith, o.forward, o.inside)) f
+          ih next last (went_sound s next k q) o.inside (omega (arith, o.forward, o.inside)) f
       by (Waiting w) q f ih = let g : w ≡ last = cc in here (step_of d log s.reader) refl w q (ap Waiting g)
       by (Settled r) q f ih = let z : ◌≡◌ {A = ℕ} 0 1 = cc in absurd (omega arith)
 
-  pub check-waits : (s last : Standing) → Sound base s → s.reader.position ≤ length log → checkIn d log base s ≡ check.Waiting last → Waits last
-  check-waits s last k h e = waits-on (suc (length log)) s last k h (omega arith) e
+  pub check_waits : (s last : Standing) → Sound base s → s.reader.position ≤ length log → check_in d log base s ≡ check.Waiting last → Waits last
+  check_waits s last k h e = waits-on (suc (length log)) s last k h (omega arith) e
 
   -- ---- where it is settled
 
-  went-settles : (s : Standing) (st : Step) → step_of d log s.reader ≡ st → s.reader.position ≤ length log → (ran : Ran) → wentBy base s st ≡ Settled ran → decides ran.answer ≡ true
-  went-settles s (Refused x) q h ran e = by (mayChange x.answer) refl
+  went_settles : (s : Standing) (st : Step) → step_of d log s.reader ≡ st → s.reader.position ≤ length log → (ran : Ran) → went_by base s st ≡ Settled ran → decides ran.answer ≡ true
+  went_settles s (Refused x) q h ran e = by (may_change x.answer) refl
     where
-      by : (b : Bool) → mayChange x.answer ≡ b → decides ran.answer ≡ true
-      by true m = let z : ◌≡◌ {A = ℕ} 0 1 = cc (sym (if-true (mayChange x.answer) _ _ m) ∙ e) in absurd (omega arith)
+      by : (b : Bool) → may_change x.answer ≡ b → decides ran.answer ≡ true
+      by true m = let z : ◌≡◌ {A = ℕ} 0 1 = cc (sym (if_true (may_change x.answer) _ _ m) ∙ e) in absurd (omega arith)
       by false m =
-          let f : Settled (reportOf s x.answer (base + x.position)) ≡ Settled ran = sym (if-false (mayChange x.answer) _ _ m) ∙ e in
-          let p : reportOf s x.answer (base + x.position) ≡ ran = cc in
+          let f : Settled (report_of s x.answer (base + x.position)) ≡ Settled ran = sym (if_false (may_change x.answer) _ _ m) ∙ e in
+          let p : report_of s x.answer (base + x.position) ≡ ran = cc in
           sym (ap (λ (r : Ran). decides r.answer) p) ∙ step-decides d log s.reader x h q m
-  went-settles s (Took t) q h ran e = by s.reader.inside (isEnd t.action) e
+  went_settles s (Took t) q h ran e = by s.reader.inside (is_end t.action) e
     where
       ended : (b : Bool) → (if b then Settled (record { answer = UsedUp; position = base + t.reader.position; count = s.count + 1; fault_at = base + t.reader.position }) else On (record { expected = s.expected + 1; start = base + t.reader.position; count = s.count + 1; reader = t.reader })) ≡ Settled ran → decides ran.answer ≡ true
       ended true f =
@@ -142,28 +142,28 @@ module _ (d : Directory) (log : List ℕ) (base : ℕ) where
           sym (ap (λ (r : Ran). decides r.answer) p)
       ended false f = let z : ◌≡◌ {A = ℕ} 0 1 = cc in absurd (omega arith)
 
-      opened : (b : Bool) → (if b then On (readingAt s t.reader) else Settled (reportOf s WrongId s.start)) ≡ Settled ran → decides ran.answer ≡ true
+      opened : (b : Bool) → (if b then On (reading_at s t.reader) else Settled (report_of s WrongId s.start)) ≡ Settled ran → decides ran.answer ≡ true
       opened true f = let z : ◌≡◌ {A = ℕ} 0 1 = cc in absurd (omega arith)
       opened false f =
-          let p : reportOf s WrongId s.start ≡ ran = cc in
+          let p : report_of s WrongId s.start ≡ ran = cc in
           sym (ap (λ (r : Ran). decides r.answer) p)
 
-      by : (b i : Bool) → (if b then if i then afterRecord base s t.reader else On (readingAt s t.reader) else afterOpening s t.reader) ≡ Settled ran → decides ran.answer ≡ true
-      by true true f = ended (eqb s.expected lastRecordId) f
+      by : (b i : Bool) → (if b then if i then after_record base s t.reader else On (reading_at s t.reader) else after_opening s t.reader) ≡ Settled ran → decides ran.answer ≡ true
+      by true true f = ended (eqb s.expected last_record_id) f
       by true false f = let z : ◌≡◌ {A = ℕ} 0 1 = cc in absurd (omega arith)
       by false i f = opened (eqb t.reader.record_id s.expected) f
 
-  settles_on : (n : ℕ) (s : Standing) → s.reader.position ≤ length log → (ran : Ran) → checkOn n d log base s ≡ check.Settled ran → decides ran.answer ≡ true
-  unfolding checkOn
+  settles_on : (n : ℕ) (s : Standing) → s.reader.position ≤ length log → (ran : Ran) → check_on n d log base s ≡ check.Settled ran → decides ran.answer ≡ true
+  unfolding check_on
   settles_on zero s h ran e = let z : ◌≡◌ {A = ℕ} 0 1 = cc in absurd (omega arith)
-  settles_on (suc n) s h ran e = by (wentBy base s (step_of d log s.reader)) refl e (settles_on n)
+  settles_on (suc n) s h ran e = by (went_by base s (step_of d log s.reader)) refl e (settles_on n)
     where
-      by : (w : Went) → wentBy base s (step_of d log s.reader) ≡ w → onward (checkOn n d log base) w ≡ check.Settled ran
-          → ((s : Standing) → s.reader.position ≤ length log → (ran : Ran) → checkOn n d log base s ≡ check.Settled ran → decides ran.answer ≡ true) → decides ran.answer ≡ true
+      by : (w : Went) → went_by base s (step_of d log s.reader) ≡ w → onward (check_on n d log base) w ≡ check.Settled ran
+          → ((s : Standing) → s.reader.position ≤ length log → (ran : Ran) → check_on n d log base s ≡ check.Settled ran → decides ran.answer ≡ true) → decides ran.answer ≡ true
       by (On next) q f ih = ih next (step-forward d log base s next q).inside ran f
       by (Waiting w) q f ih = let z : ◌≡◌ {A = ℕ} 0 1 = cc in absurd (omega arith)
-      by (Settled r) q f ih = let p : r ≡ ran = cc in went-settles s (step_of d log s.reader) refl h ran (q ∙ ap Settled p)
+      by (Settled r) q f ih = let p : r ≡ ran = cc in went_settles s (step_of d log s.reader) refl h ran (q ∙ ap Settled p)
 
   -- with 3 to 12
-  pub check-settles : (s : Standing) → s.reader.position ≤ length log → (ran : Ran) → checkIn d log base s ≡ check.Settled ran → decides ran.answer ≡ true
-  check-settles s h ran e = settles_on (suc (length log)) s h ran e
+  pub check_settles : (s : Standing) → s.reader.position ≤ length log → (ran : Ran) → check_in d log base s ≡ check.Settled ran → decides ran.answer ≡ true
+  check_settles s h ran e = settles_on (suc (length log)) s h ran e

@@ -7,17 +7,17 @@ use native.Mathlib.Omega.{arith}
 use lib.Dec.{eqb}
 use lib.ListN.{length}
 use Rattle.words.specs.Choice.{if◌then◌else◌}
-use Rattle.words.proofs.Choices.{if-true, if-false}
-use Rattle.answer.specs.Answer.{lastRecordId}
+use Rattle.words.proofs.Choices.{if_true, if_false}
+use Rattle.answer.specs.Answer.{last_record_id}
 use Rattle.directory.specs.declared.directory.Directory.{Directory}
-use Rattle.record.specs.Next.{isEnd, step_of}
+use Rattle.record.specs.Next.{is_end, step_of}
 use Rattle.record.specs.declared.reader.LogReader.{LogReader}
 use Rattle.record.specs.declared.reader.Stepped.{Stepped}
 use Rattle.record.specs.declared.reader.Step.{Step}
 use Rattle.record.specs.declared.reader.Step.TheVariants.{Took, Refused}
 use Rattle.record.proofs.Steps.{step-on}
 use Rattle.replay.specs.declared.many_records.Ran.{Ran}
-use Rattle.checker.specs.Check.{mayChange, readingAt, afterRecord, afterAction, wentBy, onward, checkOn, checkIn}
+use Rattle.checker.specs.Check.{may_change, reading_at, after_record, after_action, went_by, onward, check_on, check_in}
 use Rattle.checker.specs.declared.standing.Standing.{Standing}
 use Rattle.checker.specs.declared.standing.Went.{Went}
 use Rattle.checker.specs.declared.standing.Went.TheVariants.{On, Waiting, Settled}
@@ -43,27 +43,27 @@ never_on true s t r e = let z : ◌≡◌ {A = ℕ} 0 1 = cc in omega arith
 never_on false s t r e = let z : ◌≡◌ {A = ℕ} 0 1 = cc in omega arith
 
 module _ (base : ℕ) (s : Standing) where
-  pub action-reader : (t : Stepped) (next : Standing) → afterAction base s t ≡ On next → t.reader ≡ next.reader
+  pub action-reader : (t : Stepped) (next : Standing) → after_action base s t ≡ On next → t.reader ≡ next.reader
   action-reader t next e = by s.reader.inside refl
     where
-      inside : (b : Bool) → (if b then afterRecord base s t.reader else On (readingAt s t.reader)) ≡ On next → t.reader ≡ next.reader
-      inside true q = chosen (eqb s.expected lastRecordId) _ next _ q
-      inside false q = reader-of (readingAt s t.reader) next q
+      inside : (b : Bool) → (if b then after_record base s t.reader else On (reading_at s t.reader)) ≡ On next → t.reader ≡ next.reader
+      inside true q = chosen (eqb s.expected last_record_id) _ next _ q
+      inside false q = reader-of (reading_at s t.reader) next q
 
       by : (b : Bool) → s.reader.inside ≡ b → t.reader ≡ next.reader
-      by true b = inside (isEnd t.action) (sym (if-true s.reader.inside _ _ b) ∙ e)
-      by false b = chosen_on (eqb t.reader.record_id s.expected) _ next _ (sym (if-false s.reader.inside _ _ b) ∙ e)
+      by true b = inside (is_end t.action) (sym (if_true s.reader.inside _ _ b) ∙ e)
+      by false b = chosen_on (eqb t.reader.record_id s.expected) _ next _ (sym (if_false s.reader.inside _ _ b) ∙ e)
 
 -- a step goes forward within the bytes
 pub record Forward (log : List ℕ) (s next : Standing) : Type 0 where
   pub forward : s.reader.position < next.reader.position
   pub inside : next.reader.position ≤ length log
 
-pub step-forward : (d : Directory) (log : List ℕ) (base : ℕ) (s next : Standing) → wentBy base s (step_of d log s.reader) ≡ On next → Forward log s next
+pub step-forward : (d : Directory) (log : List ℕ) (base : ℕ) (s next : Standing) → went_by base s (step_of d log s.reader) ≡ On next → Forward log s next
 step-forward d log base s next e = by (step_of d log s.reader) refl e
   where
-    by : (st : Step) → step_of d log s.reader ≡ st → wentBy base s st ≡ On next → Forward log s next
-    by (Refused x) q f = absurd (never_on (mayChange x.answer) s next _ f)
+    by : (st : Step) → step_of d log s.reader ≡ st → went_by base s st ≡ On next → Forward log s next
+    by (Refused x) q f = absurd (never_on (may_change x.answer) s next _ f)
     by (Took t) q f =
         let o = step-on d log s.reader t q in
         let r = action-reader base s t next f in
@@ -78,20 +78,20 @@ onward-same f g (Waiting s) e = refl
 onward-same f g (Settled r) e = refl
 
 module _ (d : Directory) (log : List ℕ) (base : ℕ) where
-  pub check-enough : (n m : ℕ) (s : Standing) → length log - s.reader.position < n → length log - s.reader.position < m → checkOn n d log base s ≡ checkOn m d log base s
-  unfolding checkOn
-  check-enough zero m s p q = absurd (omega arith)
-  check-enough (suc n) zero s p q = absurd (omega arith)
-  check-enough (suc n) (suc m) s p q =
-      onward-same (checkOn n d log base) (checkOn m d log base) (wentBy base s (step_of d log s.reader))
-      (λ next e. let o = step-forward d log base s next e in check-enough n m next (omega (arith, o.forward, o.inside)) (omega (arith, o.forward, o.inside)))
+  pub check_enough : (n m : ℕ) (s : Standing) → length log - s.reader.position < n → length log - s.reader.position < m → check_on n d log base s ≡ check_on m d log base s
+  unfolding check_on
+  check_enough zero m s p q = absurd (omega arith)
+  check_enough (suc n) zero s p q = absurd (omega arith)
+  check_enough (suc n) (suc m) s p q =
+      onward-same (check_on n d log base) (check_on m d log base) (went_by base s (step_of d log s.reader))
+      (λ next e. let o = step-forward d log base s next e in check_enough n m next (omega (arith, o.forward, o.inside)) (omega (arith, o.forward, o.inside)))
 
   -- so a check is one step, and the check from there
-  pub check-step : (s : Standing) → checkIn d log base s ≡ onward (checkIn d log base) (wentBy base s (step_of d log s.reader))
-  unfolding checkOn
-  check-step s =
-      onward-same (checkOn (length log) d log base) (checkIn d log base) (wentBy base s (step_of d log s.reader))
-      (λ next e. let o = step-forward d log base s next e in check-enough (length log) (suc (length log)) next (omega (arith, o.forward, o.inside)) (omega (arith, o.forward, o.inside)))
+  pub check_step : (s : Standing) → check_in d log base s ≡ onward (check_in d log base) (went_by base s (step_of d log s.reader))
+  unfolding check_on
+  check_step s =
+      onward-same (check_on (length log) d log base) (check_in d log base) (went_by base s (step_of d log s.reader))
+      (λ next e. let o = step-forward d log base s next e in check_enough (length log) (suc (length log)) next (omega (arith, o.forward, o.inside)) (omega (arith, o.forward, o.inside)))
 
-  pub check-went : (s : Standing) (w : Went) → w ≡ wentBy base s (step_of d log s.reader) → onward (checkIn d log base) w ≡ checkIn d log base s
-  check-went s w e = ap (onward (checkIn d log base)) e ∙ sym (check-step s)
+  pub check_went : (s : Standing) (w : Went) → w ≡ went_by base s (step_of d log s.reader) → onward (check_in d log base) w ≡ check_in d log base s
+  check_went s w e = ap (onward (check_in d log base)) e ∙ sym (check_step s)

@@ -2,11 +2,11 @@
 -- reports the answer, position and record count that a run over the joined bytes would report"). Added.
 use Rattle.std.specs.Prelude.{ℕ, zero, suc, ◌+◌, Bool, true, ◌&&◌, ◌||◌, List, eqb, leb, ltb, length}
 use Rattle.words.specs.Choice.{if◌then◌else◌}
-use Rattle.answer.specs.Answer.{number_of, lastRecordId}
+use Rattle.answer.specs.Answer.{number_of, last_record_id}
 use Rattle.answer.specs.declared.answer.Answer.{Answer}
 use Rattle.answer.specs.declared.answer.Answer.TheVariants.{WrongId, UsedUp}
 use Rattle.directory.specs.declared.directory.Directory.{Directory}
-use Rattle.record.specs.Next.{isEnd, readerAt, step_of}
+use Rattle.record.specs.Next.{is_end, reader_at, step_of}
 use Rattle.record.specs.declared.reader.LogReader.{LogReader}
 use Rattle.record.specs.declared.reader.Stepped.{Stepped}
 use Rattle.record.specs.declared.reader.Step.{Step}
@@ -19,52 +19,52 @@ use Rattle.checker.specs.declared.standing.Check.{Check}
 use Rattle.checker.specs.declared.standing.Check.TheVariants as check
 
 -- 1 and 2, the answers of a step that bytes to come may change (no step is refused with 0)
-abbrev pub mayChange : Answer → Bool
-mayChange answer = ltb (number_of answer) 3
+abbrev pub may_change : Answer → Bool
+may_change answer = ltb (number_of answer) 3
 
 -- 3 to 12: among these are all others that stop a run
 abbrev pub decides : Answer → Bool
 decides answer = leb 3 (number_of answer) && leb (number_of answer) 12
 
 -- before the first byte: that id is due
-abbrev pub firstStanding : ℕ → Standing
-firstStanding first = record { expected = first; start = 0; count = 0; reader = readerAt 0 true }
+abbrev pub first_standing : ℕ → Standing
+first_standing first = record { expected = first; start = 0; count = 0; reader = reader_at 0 true }
 
 -- the same with the reader further on
-abbrev pub readingAt : Standing → LogReader → Standing
-readingAt s r = record { expected = s.expected; start = s.start; count = s.count; reader = r }
+abbrev pub reading_at : Standing → LogReader → Standing
+reading_at s r = record { expected = s.expected; start = s.start; count = s.count; reader = r }
 
 -- the standing before bytes that aren't read yet, of which the first is byte `before` of all: the reader at their front, validating; the record
 -- that isn't whole begins before them, between records right there; and no more records are counted than bytes are before it
-unfoldable pub standsBefore : ℕ → Standing → Bool
-standsBefore before s =
+unfoldable pub stands_before : ℕ → Standing → Bool
+stands_before before s =
     eqb s.reader.position 0 && (s.reader.validate && (leb s.count s.start && (leb s.start before && (s.reader.inside || eqb s.start before))))
 
 -- what a run reports that stops in the record that isn't whole yet
-abbrev pub reportOf : Standing → Answer → ℕ → Ran
-reportOf s answer place = record { answer = answer; position = s.start; count = s.count; fault_at = place }
+abbrev pub report_of : Standing → Answer → ℕ → Ran
+report_of s answer place = record { answer = answer; position = s.start; count = s.count; fault_at = place }
 
 -- behind a record's end tag: "After id 2^64-1 it stops with 12", or on with the next id. The first of the bytes is byte `base` of all
-abbrev pub afterRecord : ℕ → Standing → LogReader → Went
-afterRecord base s r =
-    if eqb s.expected lastRecordId then Settled (record { answer = UsedUp; position = base + r.position; count = s.count + 1; fault_at = base + r.position }) else
+abbrev pub after_record : ℕ → Standing → LogReader → Went
+after_record base s r =
+    if eqb s.expected last_record_id then Settled (record { answer = UsedUp; position = base + r.position; count = s.count + 1; fault_at = base + r.position }) else
     On (record { expected = s.expected + 1; start = base + r.position; count = s.count + 1; reader = r })
 
 -- behind an opening: "Expected id is tested .. right after the opening"
-abbrev pub afterOpening : Standing → LogReader → Went
-afterOpening s r = if eqb r.record_id s.expected then On (readingAt s r) else Settled (reportOf s WrongId s.start)
+abbrev pub after_opening : Standing → LogReader → Went
+after_opening s r = if eqb r.record_id s.expected then On (reading_at s r) else Settled (report_of s WrongId s.start)
 
 -- behind an action
-abbrev pub afterAction : ℕ → Standing → Stepped → Went
-afterAction base s t =
-    if s.reader.inside then if isEnd t.action then afterRecord base s t.reader else On (readingAt s t.reader) else
-    afterOpening s t.reader
+abbrev pub after_action : ℕ → Standing → Stepped → Went
+after_action base s t =
+    if s.reader.inside then if is_end t.action then after_record base s t.reader else On (reading_at s t.reader) else
+    after_opening s t.reader
 
 -- one step: on behind an action; "Answers 1 and 2 can be given only at the close", so with these it waits for more bytes; any other refusal
 -- settles what the run reports
-abbrev pub wentBy : ℕ → Standing → Step → Went
-wentBy base s (Refused x) = if mayChange x.answer then Waiting s else Settled (reportOf s x.answer (base + x.position))
-wentBy base s (Took t) = afterAction base s t
+abbrev pub went_by : ℕ → Standing → Step → Went
+went_by base s (Refused x) = if may_change x.answer then Waiting s else Settled (report_of s x.answer (base + x.position))
+went_by base s (Took t) = after_action base s t
 
 -- and on from there
 abbrev pub onward : (Standing → Check) → Went → Check
@@ -73,10 +73,10 @@ onward on (Waiting s) = check.Waiting s
 onward on (Settled ran) = check.Settled ran
 
 -- the bytes from the reader's place on; at most n steps
-unfoldable pub checkOn : ℕ → Directory → List ℕ → ℕ → Standing → Check
-checkOn zero d log base s = check.Waiting s
-checkOn (suc n) d log base s = onward (checkOn n d log base) (wentBy base s (step_of d log s.reader))
+unfoldable pub check_on : ℕ → Directory → List ℕ → ℕ → Standing → Check
+check_on zero d log base s = check.Waiting s
+check_on (suc n) d log base s = onward (check_on n d log base) (went_by base s (step_of d log s.reader))
 
--- a step takes a byte or more, so the bound is never met (`check-enough`, proofs/Ways)
-abbrev pub checkIn : Directory → List ℕ → ℕ → Standing → Check
-checkIn d log base s = checkOn (suc (length log)) d log base s
+-- a step takes a byte or more, so the bound is never met (`check_enough`, proofs/Ways)
+abbrev pub check_in : Directory → List ℕ → ℕ → Standing → Check
+check_in d log base s = check_on (suc (length log)) d log base s

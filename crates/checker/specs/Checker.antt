@@ -5,14 +5,14 @@ use Rattle.words.specs.Choice.{if◌then◌else◌}
 use Rattle.answer.specs.Answer.{number_of}
 use Rattle.answer.specs.declared.answer.Answer.{Answer}
 use Rattle.answer.specs.declared.answer.Answer.TheVariants.{Done, EndOfLog, Cut, BadState, BadArgument}
-use Rattle.directory.specs.Directory.{directoryKept}
+use Rattle.directory.specs.Directory.{directory_kept}
 use Rattle.directory.specs.declared.directory.Directory.{Directory}
 use Rattle.record.specs.Next.{step_of}
 use Rattle.record.specs.declared.reader.Step.{Step}
 use Rattle.record.specs.declared.reader.Step.TheVariants.{Took, Refused}
 use Rattle.replay.specs.declared.many_records.Ran.{Ran}
 use Rattle.output.specs.Put.{put}
-use Rattle.checker.specs.Check.{mayChange, decides, firstStanding, readingAt, standsBefore, reportOf, checkIn}
+use Rattle.checker.specs.Check.{may_change, decides, first_standing, reading_at, stands_before, report_of, check_in}
 use Rattle.checker.specs.declared.standing.Standing.{Standing}
 use Rattle.checker.specs.declared.standing.Check.{Check}
 use Rattle.checker.specs.declared.standing.Check.TheVariants as check
@@ -29,51 +29,51 @@ unfoldable pub padded : List ℕ → List ℕ
 padded bytes = put (replicate 1043 0) 0 bytes
 
 -- whether what a run reports is open still
-abbrev pub isOpen : LogChecker → Bool
-isOpen c = eqb (number_of c.ran.answer) 0
+abbrev pub is_open : LogChecker → Bool
+is_open c = eqb (number_of c.ran.answer) 0
 
 -- nothing is reported yet
-abbrev pub noReport : Ran
-noReport = record { answer = Done; position = 0; count = 0; fault_at = 0 }
+abbrev pub no_report : Ran
+no_report = record { answer = Done; position = 0; count = 0; fault_at = 0 }
 
 -- "Directory and first expected id are fixed at the start"
-abbrev pub newChecker : Directory → ℕ → LogChecker
-newChecker d first = record { directory = d; standing = firstStanding first; held = 0; part = padded []; total = 0; ran = noReport; closed = false }
+abbrev pub new_checker : Directory → ℕ → LogChecker
+new_checker d first = record { directory = d; standing = first_standing first; held = 0; part = padded []; total = 0; ran = no_report; closed = false }
 
 -- the start's answer: 13 for a directory that breaks a rule, and again at every call
-abbrev pub checkerStart : Directory → ℕ → Checked
-checkerStart d first = record { answer = if directoryKept d then Done else BadState; fault_at = 0; checker = newChecker d first }
+abbrev pub checker_start : Directory → ℕ → Checked
+checker_start d first = record { answer = if directory_kept d then Done else BadState; fault_at = 0; checker = new_checker d first }
 
 -- ---- the rules of a checker; another is answered 13
 
 -- bytes that wait for more: reading them is refused with 1 or 2
 abbrev pub waits : Step → Bool
-waits (Refused x) = mayChange x.answer
+waits (Refused x) = may_change x.answer
 waits (Took t) = false
 
 -- while it is open: the unread bytes are the last ones taken, it stands before them, and they are no whole action
-unfoldable pub openKept : LogChecker → Bool
-openKept c =
-    leb c.held 1043 && (leb c.held c.total && (standsBefore (c.total - c.held) c.standing && waits (step_of c.directory (unread c) c.standing.reader)))
+unfoldable pub open_kept_of : LogChecker → Bool
+open_kept_of c =
+    leb c.held 1043 && (leb c.held c.total && (stands_before (c.total - c.held) c.standing && waits (step_of c.directory (unread c) c.standing.reader)))
 
 -- the directory's rules; fewer than 2^63 bytes taken; closed, or settled with an answer that stops a run, or open
-unfoldable pub checkerKept : LogChecker → Bool
-checkerKept c = directoryKept c.directory && (ltb c.total 9223372036854775808 && (c.closed || (decides c.ran.answer || (isOpen c && openKept c))))
+unfoldable pub checker_kept : LogChecker → Bool
+checker_kept c = directory_kept c.directory && (ltb c.total 9223372036854775808 && (c.closed || (decides c.ran.answer || (is_open c && open_kept_of c))))
 
 -- ---- its size
 
 -- what a description takes: kind, number, column, count, length. A number takes the bytes of its type; a kind, an answer and a truth take one
-abbrev pub descriptionBytes : ℕ
-descriptionBytes = 1 + 2 + 1 + 2 + 2
+abbrev pub description_bytes : ℕ
+description_bytes = 1 + 2 + 1 + 2 + 2
 
 -- a standing: the id due, the record's start, the count, and the reader's position, id, checksum, two truths
-abbrev pub standingBytes : ℕ
-standingBytes = 8 + 8 + 8 + (8 + 8 + 4 + 1 + 1)
+abbrev pub standing_bytes : ℕ
+standing_bytes = 8 + 8 + 8 + (8 + 8 + 4 + 1 + 1)
 
 -- "It may keep no more than 2,048 bytes between pieces": 16 descriptions and their count, the standing, the unread bytes and how many they are,
 -- the bytes taken, the report, and whether it is closed
-abbrev pub checkerBytes : ℕ
-checkerBytes = (16 * descriptionBytes + 8) + standingBytes + (1043 + 8) + 8 + (1 + 8 + 8 + 8) + 1
+abbrev pub checker_bytes : ℕ
+checker_bytes = (16 * description_bytes + 8) + standing_bytes + (1043 + 8) + 8 + (1 + 8 + 8 + 8) + 1
 
 -- ---- a piece
 
@@ -93,7 +93,7 @@ told c = record { answer = c.ran.answer; fault_at = c.ran.fault_at; checker = c 
 abbrev pub keeping : LogChecker → Standing → List ℕ → LogChecker
 keeping c s bytes = record {
   directory = c.directory;
-  standing = readingAt s (record { position = 0; record_id = s.reader.record_id; crc32 = s.reader.crc32; validate = s.reader.validate; inside = s.reader.inside });
+  standing = reading_at s (record { position = 0; record_id = s.reader.record_id; crc32 = s.reader.crc32; validate = s.reader.validate; inside = s.reader.inside });
   held = length bytes;
   part = padded bytes;
   total = c.total;
@@ -106,37 +106,37 @@ abbrev pub settled : LogChecker → Ran → LogChecker
 settled c ran = record { directory = c.directory; standing = c.standing; held = c.held; part = c.part; total = c.total; ran = ran; closed = c.closed }
 
 -- after a check of the unread bytes and the piece
-abbrev pub pieceBy : LogChecker → List ℕ → Check → Checked
-pieceBy c bytes (check.Waiting s) = answered Done (keeping c s (drop s.reader.position bytes))
-pieceBy c bytes (check.Settled ran) = told (settled c ran)
+abbrev pub piece_by : LogChecker → List ℕ → Check → Checked
+piece_by c bytes (check.Waiting s) = answered Done (keeping c s (drop s.reader.position bytes))
+piece_by c bytes (check.Settled ran) = told (settled c ran)
 
 -- the unread bytes and the piece, checked from where it stands
-unfoldable pub pieceTaken : LogChecker → List ℕ → Checked
-pieceTaken c bytes = pieceBy (counted c (length bytes)) (unread c ++ bytes) (checkIn c.directory (unread c ++ bytes) (c.total - c.held) c.standing)
+unfoldable pub piece_taken : LogChecker → List ℕ → Checked
+piece_taken c bytes = piece_by (counted c (length bytes)) (unread c ++ bytes) (check_in c.directory (unread c ++ bytes) (c.total - c.held) c.standing)
 
 -- "a call after the close, or a piece that brings the total to 2^63 bytes, gives 14 and changes nothing"
-unfoldable pub pieceKept : LogChecker → List ℕ → Checked
-pieceKept c bytes =
+unfoldable pub piece_kept : LogChecker → List ℕ → Checked
+piece_kept c bytes =
     if c.closed then answered BadArgument c else  -- 14
     if leb (9223372036854775808 - c.total) (length bytes) then answered BadArgument c else  -- 14
-    if isOpen c then pieceTaken c bytes else
+    if is_open c then piece_taken c bytes else
     told (counted c (length bytes))
 
 -- `piece`: 13 first
 unfoldable pub piece_of : LogChecker → List ℕ → Checked
-piece_of c bytes = if checkerKept c then pieceKept c bytes else answered BadState c
+piece_of c bytes = if checker_kept c then piece_kept c bytes else answered BadState c
 
 -- ---- the close
 
 -- what a run reports whose bytes end here: 2 inside a record, 1 between records, told where the action begins that isn't whole, which is the
 -- bytes' end if none is begun
-abbrev pub reportIn : ℕ → Check → Ran
-reportIn base (check.Waiting s) = reportOf s (if s.reader.inside then Cut else EndOfLog) (base + s.reader.position)
-reportIn base (check.Settled ran) = ran
+abbrev pub report_in : ℕ → Check → Ran
+report_in base (check.Waiting s) = report_of s (if s.reader.inside then Cut else EndOfLog) (base + s.reader.position)
+report_in base (check.Settled ran) = ran
 
 -- the checker's own: its reader stands before the unread bytes
-abbrev pub reportNow : LogChecker → Ran
-reportNow c = if isOpen c then reportOf c.standing (if c.standing.reader.inside then Cut else EndOfLog) (c.total - c.held) else c.ran
+abbrev pub report_now : LogChecker → Ran
+report_now c = if is_open c then report_of c.standing (if c.standing.reader.inside then Cut else EndOfLog) (c.total - c.held) else c.ran
 
 -- beside 13 and 14: the bytes taken so far, and no record
 abbrev pub unclosed : Answer → LogChecker → Closed
@@ -145,24 +145,24 @@ unclosed answer c = record { ran = record { answer = answer; position = c.total;
 -- "at the close reports the answer, position and record count"
 abbrev pub closing : LogChecker → Closed
 closing c = record {
-  ran = reportNow c;
+  ran = report_now c;
   checker = record { directory = c.directory; standing = c.standing; held = c.held; part = c.part; total = c.total; ran = c.ran; closed = true };
 }
 
 -- "a call after the close .. gives 14"
-unfoldable pub closeKept : LogChecker → Closed
-closeKept c = if c.closed then unclosed BadArgument c else closing c
+unfoldable pub close_kept : LogChecker → Closed
+close_kept c = if c.closed then unclosed BadArgument c else closing c
 
 -- `close`: 13 first
-unfoldable pub closeOf : LogChecker → Closed
-closeOf c = if checkerKept c then closeKept c else unclosed BadState c
+unfoldable pub close_of : LogChecker → Closed
+close_of c = if checker_kept c then close_kept c else unclosed BadState c
 
 -- ---- what it is held against
 
 -- the checker after several pieces
-unfoldable pub afterPieces : LogChecker → List (List ℕ) → LogChecker
-afterPieces c [] = c
-afterPieces c (bytes ∷ more) = afterPieces (piece_of c bytes).checker more
+unfoldable pub after_pieces : LogChecker → List (List ℕ) → LogChecker
+after_pieces c [] = c
+after_pieces c (bytes ∷ more) = after_pieces (piece_of c bytes).checker more
 
 -- "the joined bytes"
 unfoldable pub all_bytes : List (List ℕ) → List ℕ
@@ -170,10 +170,10 @@ all_bytes [] = []
 all_bytes (bytes ∷ more) = bytes ++ all_bytes more
 
 -- "Answers 1 and 2 can be given only at the close": 0 in their place
-abbrev pub openAs0 : Answer → Answer
-openAs0 answer = if mayChange answer then Done else answer
+abbrev pub open_as0 : Answer → Answer
+open_as0 answer = if may_change answer then Done else answer
 
 -- what a piece tells of a run's report: its answer, 0 in place of 1 and 2, and beside any other the place of the fault
 pub record Told (x : Checked) (ran : Ran) : Type 0 where
-  pub answers : x.answer ≡ openAs0 ran.answer
-  pub place : mayChange ran.answer ≡ false → x.fault_at ≡ ran.fault_at
+  pub answers : x.answer ≡ open_as0 ran.answer
+  pub place : may_change ran.answer ≡ false → x.fault_at ≡ ran.fault_at

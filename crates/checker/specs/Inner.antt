@@ -2,7 +2,7 @@
 use Rattle.std.specs.Prelude.{true, false, List, ◌++◌, ◌≡◌, ℕ, ◌+◌, ◌-◌, ◌≤◌, ◌<◌, ltb, length, take, get_or}
 use Rattle.words.specs.Choice.{if◌then◌else◌}
 use Rattle.record.specs.declared.reader.LogReader.{LogReader}
-use Rattle.checker.specs.Checker.{unread, isOpen, checkerKept}
+use Rattle.checker.specs.Checker.{unread, is_open, checker_kept}
 use Rattle.checker.specs.declared.checker.LogChecker.{LogChecker}
 use Rattle.checker.specs.declared.standing.Standing.{Standing}
 
@@ -21,8 +21,8 @@ pub record Stands (log : List ℕ) (base : ℕ) (s : Standing) : Type 0 where
 
 -- a checker that a piece is read by
 pub record Takes (c : LogChecker) (bytes : List ℕ) : Type 0 where
-  pub kept : checkerKept c ≡ true
-  pub open-yet : isOpen c ≡ true
+  pub kept : checker_kept c ≡ true
+  pub open_yet : is_open c ≡ true
   pub going : c.closed ≡ false
   pub few : c.total + length bytes < 9223372036854775808
 
@@ -37,5 +37,5 @@ abbrev pub lesser : ℕ → ℕ → ℕ
 lesser a b = if ltb a b then a else b
 
 -- the reader n bytes earlier
-abbrev pub backReader : ℕ → LogReader → LogReader
-backReader n r = record { position = r.position - n; record_id = r.record_id; crc32 = r.crc32; validate = r.validate; inside = r.inside }
+abbrev pub back_reader : ℕ → LogReader → LogReader
+back_reader n r = record { position = r.position - n; record_id = r.record_id; crc32 = r.crc32; validate = r.validate; inside = r.inside }

@@ -1,10 +1,10 @@
 // A log checked as it comes, in pieces of any length.
 ghost use Rattle.std.specs.Prelude.{◌≡◌, true, false, ◌++◌, ◌+◌, ◌≤◌, ◌<◌, length};
 ghost use Rattle.answer.specs.Answer.{number_of};
-ghost use Rattle.directory.specs.Directory.{directoryKept};
+ghost use Rattle.directory.specs.Directory.{directory_kept};
 ghost use Rattle.record.specs.Next.{step_of};
-ghost use Rattle.checker.specs.Check.{decides, checkIn};
-ghost use Rattle.checker.specs.Checker.{unread, padded, isOpen, checkerStart, waits, openKept, checkerKept, answered, counted, told, keeping, settled, pieceBy, pieceTaken, pieceKept, piece_of, reportNow, unclosed, closeKept, closeOf};
+ghost use Rattle.checker.specs.Check.{decides, check_in};
+ghost use Rattle.checker.specs.Checker.{unread, padded, is_open, checker_start, waits, open_kept_of, checker_kept, answered, counted, told, keeping, settled, piece_by, piece_taken, piece_kept, piece_of, report_now, unclosed, close_kept, close_of};
 ghost use Rattle.checker.specs.Inner.{Stands, Takes, Front, lesser};
 
 use super::standing::{Check, Standing, Went};
@@ -74,7 +74,7 @@ fn least(a: usize, b: usize) -> usize
 
 // Whether bytes are no whole action.
 fn waits(d: Directory, bytes: &[u8], reader: LogReader) -> bool
-    requires { directoryKept d ≡ true }
+    requires { directory_kept d ≡ true }
     ensures { result ≡ waits (step_of d bytes.now reader) }
 {
     match reader.next_kept(d, bytes) {
@@ -89,7 +89,7 @@ fn waits(d: Directory, bytes: &[u8], reader: LogReader) -> bool
 impl LogChecker {
     // 13 if the directory breaks a rule: so will every later call.
     pub fn new(directory: Directory, first: u64) -> Checked
-        ensures { result ≡ checkerStart directory first }
+        ensures { result ≡ checker_start directory first }
     {
         let checker = LogChecker {
             directory: directory,
@@ -187,7 +187,7 @@ impl LogChecker {
     }
 
     fn unread_waits(self) -> bool
-        requires { (directoryKept self.directory ≡ true) × (self.held ≤ 1043) }
+        requires { (directory_kept self.directory ≡ true) × (self.held ≤ 1043) }
         ensures { result ≡ waits (step_of self.directory (unread self) self.standing.reader) }
     {
         let part = self.part;
@@ -199,8 +199,8 @@ impl LogChecker {
     }
 
     fn open_kept(self) -> bool
-        requires { directoryKept self.directory ≡ true }
-        ensures { result ≡ openKept self }
+        requires { directory_kept self.directory ≡ true }
+        ensures { result ≡ open_kept_of self }
     {
         if ROOM < self.held {
             return false;
@@ -216,7 +216,7 @@ impl LogChecker {
 
     // Whether it keeps its rules.
     pub fn kept(self) -> bool
-        ensures { result ≡ checkerKept self }
+        ensures { result ≡ checker_kept self }
     {
         if !self.directory.kept() {
             return false;
@@ -238,8 +238,8 @@ impl LogChecker {
 
     // Bytes of which the first is byte `base` of all, from where the check stands in them.
     fn walked(self, bytes: &[u8], base: usize, s: Standing) -> Checked
-        requires { (directoryKept self.directory ≡ true) × Stands bytes.now base s }
-        ensures { result ≡ pieceBy self bytes.now (checkIn self.directory bytes.now base s) }
+        requires { (directory_kept self.directory ≡ true) × Stands bytes.now base s }
+        ensures { result ≡ piece_by self bytes.now (check_in self.directory bytes.now base s) }
     {
         match check_all(self.directory, bytes, base, s) {
             Check::Settled(ran) => self.settled(ran).told(),
@@ -254,7 +254,7 @@ impl LogChecker {
     // On behind the action that the last piece began; `front` are its bytes, as many as it can have.
     fn stepped(self, front: &[u8], bytes: &[u8]) -> Checked
         requires { Takes self bytes.now × Front self bytes.now front.now }
-        ensures { result ≡ pieceTaken self bytes.now }
+        ensures { result ≡ piece_taken self bytes.now }
     {
         let before = self.total - self.held;
         let after = self.counted(bytes.len());
@@ -268,7 +268,7 @@ impl LogChecker {
     // The unread bytes, and the piece's.
     fn across(self, old: &[u8], bytes: &[u8]) -> Checked
         requires { Takes self bytes.now × (old.now ≡ unread self) × (length old.now ≡ self.held) }
-        ensures { result ≡ pieceTaken self bytes.now }
+        ensures { result ≡ piece_taken self bytes.now }
     {
         let more = least(ROOM - old.len(), bytes.len());
         let part = join(old, &bytes[..more]);
@@ -279,7 +279,7 @@ impl LogChecker {
 
     fn taken(self, bytes: &[u8]) -> Checked
         requires { Takes self bytes.now }
-        ensures { result ≡ pieceTaken self bytes.now }
+        ensures { result ≡ piece_taken self bytes.now }
     {
         let part = self.part;
         let held = self.held;
@@ -289,8 +289,8 @@ impl LogChecker {
 
     // A piece for a checker that keeps its rules.
     pub fn piece_kept(self, bytes: &[u8]) -> Checked
-        requires { checkerKept self ≡ true }
-        ensures { result ≡ pieceKept self bytes.now }
+        requires { checker_kept self ≡ true }
+        ensures { result ≡ piece_kept self bytes.now }
     {
         if self.closed {
             return self.answered(Answer::BadArgument);
@@ -316,8 +316,8 @@ impl LogChecker {
     }
 
     fn report(self) -> Ran
-        requires { (checkerKept self ≡ true) × (self.closed ≡ false) }
-        ensures { result ≡ reportNow self }
+        requires { (checker_kept self ≡ true) × (self.closed ≡ false) }
+        ensures { result ≡ report_now self }
     {
         if self.number() != 0 {
             return self.ran;
@@ -346,8 +346,8 @@ impl LogChecker {
     }
 
     pub fn close_kept(self) -> Closed
-        requires { checkerKept self ≡ true }
-        ensures { result ≡ closeKept self }
+        requires { checker_kept self ≡ true }
+        ensures { result ≡ close_kept self }
     {
         if self.closed {
             return self.no_run(Answer::BadArgument);
@@ -363,7 +363,7 @@ impl LogChecker {
 
     // No more pieces come.
     pub fn close(self) -> Closed
-        ensures { result ≡ closeOf self }
+        ensures { result ≡ close_of self }
     {
         if self.kept() {
             self.close_kept()

@@ -1,7 +1,7 @@
 // Where a check stands, and what a step of it comes to.
 ghost use Rattle.std.specs.Prelude.{◌≡◌, ◌≤◌};
-ghost use Rattle.checker.specs.Check.{firstStanding, readingAt, reportOf, standsBefore};
-ghost use Rattle.checker.specs.Inner.{backReader};
+ghost use Rattle.checker.specs.Check.{first_standing, reading_at, report_of, stands_before};
+ghost use Rattle.checker.specs.Inner.{back_reader};
 
 use answer::Answer;
 use record::LogReader;
@@ -32,7 +32,7 @@ pub enum Check {
 
 impl Standing {
     pub fn new(first: u64) -> Standing
-        ensures { result ≡ firstStanding first }
+        ensures { result ≡ first_standing first }
     {
         Standing {
             expected: first,
@@ -43,7 +43,7 @@ impl Standing {
     }
 
     pub fn reading(self, reader: LogReader) -> Standing
-        ensures { result ≡ readingAt self reader }
+        ensures { result ≡ reading_at self reader }
     {
         let mut s = self;
         s.reader = reader;
@@ -51,7 +51,7 @@ impl Standing {
     }
 
     pub fn report(self, answer: Answer, place: usize) -> Ran
-        ensures { result ≡ reportOf self answer place }
+        ensures { result ≡ report_of self answer place }
     {
         Ran {
             answer: answer,
@@ -64,7 +64,7 @@ impl Standing {
     // The same with the reader n bytes earlier.
     pub fn back(self, n: usize) -> Standing
         requires { n ≤ self.reader.position }
-        ensures { result ≡ readingAt self (backReader n self.reader) }
+        ensures { result ≡ reading_at self (back_reader n self.reader) }
     {
         let mut reader = self.reader;
         reader.position = reader.position - n;
@@ -73,7 +73,7 @@ impl Standing {
 
     // Whether it is one before the unread bytes, of which the first is byte `before` of all.
     pub fn stands(self, before: usize) -> bool
-        ensures { result ≡ standsBefore before self }
+        ensures { result ≡ stands_before before self }
     {
         let reader = self.reader;
         if reader.position != 0 {

@@ -1,9 +1,9 @@
 // The walk over bytes that are there.
 ghost use Rattle.std.specs.Prelude.{◌≡◌, true, ◌+◌, ◌<◌};
-ghost use Rattle.directory.specs.Directory.{directoryKept};
+ghost use Rattle.directory.specs.Directory.{directory_kept};
 ghost use Rattle.record.specs.Next.{step_of};
 ghost use Rattle.record.specs.declared.reader.Step.TheVariants.{Refused};
-ghost use Rattle.checker.specs.Check.{afterRecord, afterOpening, afterAction, wentBy, checkIn};
+ghost use Rattle.checker.specs.Check.{after_record, after_opening, after_action, went_by, check_in};
 ghost use Rattle.checker.specs.Inner.{Stands};
 
 use super::standing::{Check, Standing, Went};
@@ -15,7 +15,7 @@ use replay::Ran;
 // 1 and 2 wait for more bytes.
 fn refused(base: usize, s: Standing, x: Refusal) -> Went
     requires { base + x.position < 9223372036854775808 }
-    ensures { result ≡ wentBy base s (Refused x) }
+    ensures { result ≡ went_by base s (Refused x) }
 {
     let answer = x.answer;
     if answer.number() < 3 {
@@ -26,7 +26,7 @@ fn refused(base: usize, s: Standing, x: Refusal) -> Went
 
 // Behind a begin tag.
 fn opened(s: Standing, r: LogReader) -> Went
-    ensures { result ≡ afterOpening s r }
+    ensures { result ≡ after_opening s r }
 {
     if r.record_id == s.expected {
         return Went::On(s.reading(r));
@@ -37,7 +37,7 @@ fn opened(s: Standing, r: LogReader) -> Went
 // Behind an end tag.
 fn ended(base: usize, s: Standing, r: LogReader) -> Went
     requires { (base + r.position < 9223372036854775808) × (s.count < 9223372036854775808) }
-    ensures { result ≡ afterRecord base s r }
+    ensures { result ≡ after_record base s r }
 {
     let end = base + r.position;
     let count = s.count + 1;
@@ -60,7 +60,7 @@ fn ended(base: usize, s: Standing, r: LogReader) -> Went
 // Behind an action.
 fn took(base: usize, s: Standing, t: Stepped) -> Went
     requires { (base + t.reader.position < 9223372036854775808) × (s.count < 9223372036854775808) }
-    ensures { result ≡ afterAction base s t }
+    ensures { result ≡ after_action base s t }
 {
     let before = s.reader;
     let behind = t.reader;
@@ -76,8 +76,8 @@ fn took(base: usize, s: Standing, t: Stepped) -> Went
 
 // One step.
 pub fn one_step(d: Directory, log: &[u8], base: usize, s: Standing) -> Went
-    requires { (directoryKept d ≡ true) × Stands log.now base s }
-    ensures { result ≡ wentBy base s (step_of d log.now s.reader) }
+    requires { (directory_kept d ≡ true) × Stands log.now base s }
+    ensures { result ≡ went_by base s (step_of d log.now s.reader) }
 {
     let r = s.reader;
     match r.next_kept(d, log) {
@@ -88,8 +88,8 @@ pub fn one_step(d: Directory, log: &[u8], base: usize, s: Standing) -> Went
 
 // All of the bytes, from the reader's place on.
 pub fn check_all(d: Directory, log: &[u8], base: usize, s: Standing) -> Check
-    requires { (directoryKept d ≡ true) × Stands log.now base s }
-    ensures { result ≡ checkIn d log.now base s }
+    requires { (directory_kept d ≡ true) × Stands log.now base s }
+    ensures { result ≡ check_in d log.now base s }
 {
     let mut cur = s;
     loop {

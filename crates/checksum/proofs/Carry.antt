@@ -8,14 +8,14 @@ use lib.Bits.{bit_xor, xor_comm, xor_zero_r, xor_lt, xor_block}
 use lib.ListN.{length, take, drop, take-append-drop, length-drop}
 use lib.Pow.{pow_pos, split, high, low, shr_le, shl-shr, shr-shr}
 use lib.Seq.{length-take-le, drop-drop}
-use Rattle.words.specs.Words.{little, littleAt}
+use Rattle.words.specs.Words.{little, little_at}
 use Rattle.words.proofs.Little.{Bytes, little-append, little-lt}
 use Rattle.checksum.specs.Checksum.{updated}
 use Rattle.checksum.specs.Inner.{ahead, spread}
 use Rattle.checksum.specs.Tables.{shifts}
 use Rattle.checksum.proofs.Multiple.{carried_on}
-use Rattle.checksum.proofs.Register.{shifts-xor, shifts-add, shifts-parts}
-use Rattle.checksum.proofs.Words.{take-bytes, drop-bytes, updated-little}
+use Rattle.checksum.proofs.Register.{shifts_xor, shifts_add, shifts-parts}
+use Rattle.checksum.proofs.Words.{take_bytes, drop_bytes_lem, updated-little}
 use Rattle.checksum.proofs.Xor.{xor_assoc}
 
 -- ---- words of 64 bits
@@ -29,8 +29,8 @@ module _ (h : ℕ) where
       ∙ ap (λ (x : ℕ). x * 2 ^ 64 + bit_xor a b) (xor_zero_r h)
 
   -- words added above the low one
-  add-high : (a g : ℕ) → a < 2 ^ 64 → bit_xor (h * 2 ^ 64 + a) (g * 2 ^ 64) ≡ bit_xor h g * 2 ^ 64 + a
-  add-high a g ha =
+  add_high : (a g : ℕ) → a < 2 ^ 64 → bit_xor (h * 2 ^ 64 + a) (g * 2 ^ 64) ≡ bit_xor h g * 2 ^ 64 + a
+  add_high a g ha =
       ap (bit_xor (h * 2 ^ 64 + a)) (sym (add-zero (g * 2 ^ 64)))
       ∙ xor_block 64 h g a 0 ha (omega arith)
       ∙ ap (◌+◌ (bit_xor h g * 2 ^ 64)) (xor_zero_r a)
@@ -39,7 +39,7 @@ module _ (h : ℕ) where
 both_high : (g h : ℕ) → bit_xor (g * 2 ^ 64) (h * 2 ^ 64) ≡ bit_xor g h * 2 ^ 64
 both_high g h =
     ap (λ (x : ℕ). bit_xor x (h * 2 ^ 64)) (sym (add-zero (g * 2 ^ 64)))
-    ∙ add-high g 0 h (omega arith)
+    ∙ add_high g 0 h (omega arith)
     ∙ add-zero (bit_xor g h * 2 ^ 64)
 
 -- a number below a word's room, added to words
@@ -47,8 +47,8 @@ to_low : (a g b : ℕ) → a < 2 ^ 64 → b < 2 ^ 64 → bit_xor a (g * 2 ^ 64 +
 to_low a g b ha hb = xor_comm a (g * 2 ^ 64 + b) ∙ add_low g b a hb ha ∙ ap (◌+◌ (g * 2 ^ 64)) (xor_comm b a)
 
 module _ (w : ℕ) (small : w < 2 ^ 64) where
-  shr-small : (j : ℕ) → w / 2 ^ j < 2 ^ 64
-  shr-small j = lt_of_le_of_lt (shr_le w j) small
+  shr_small : (j : ℕ) → w / 2 ^ j < 2 ^ 64
+  shr_small j = lt_of_le_of_lt (shr_le w j) small
 
   -- moved k places a word lies in two
   in_two : (k j : ℕ) → k + j ≡ 64 → w * 2 ^ k ≡ w / 2 ^ j * 2 ^ 64 + w * 2 ^ k % 2 ^ 64
@@ -83,9 +83,9 @@ module _ (w : ℕ) (small : w < 2 ^ 64) where
   far : bit_xor (w * 2 ^ 19) (w * 2 ^ 44 * 2 ^ 64) ≡ (top * 2 ^ 64 + third) * 2 ^ 64 + low_part 19
   far =
       ap (λ (x : ℕ). bit_xor x (w * 2 ^ 44 * 2 ^ 64)) (in_two 19 45 (omega arith))
-      ∙ add-high (w / 2 ^ 45) (low_part 19) (w * 2 ^ 44) (low_small 19)
+      ∙ add_high (w / 2 ^ 45) (low_part 19) (w * 2 ^ 44) (low_small 19)
       ∙ ap (λ (x : ℕ). x * 2 ^ 64 + low_part 19)
-      (ap (bit_xor (w / 2 ^ 45)) (in_two 44 20 (omega arith)) ∙ to_low (w / 2 ^ 45) top (low_part 44) (shr-small 45) (low_small 44))
+      (ap (bit_xor (w / 2 ^ 45)) (in_two 44 20 (omega arith)) ∙ to_low (w / 2 ^ 45) top (low_part 44) (shr_small 45) (low_small 44))
 
   -- the five words of what is spread, of which the first is 0
   words_of : spread w ≡ (((top * 2 ^ 64 + third) * 2 ^ 64 + second) * 2 ^ 64 + first) * 2 ^ 64
@@ -102,27 +102,27 @@ module _ (w : ℕ) (small : w < 2 ^ 64) where
       ∙ both_high x (y * 2 ^ 64)
       ∙ ap (λ (z : ℕ). z * 2 ^ 64)
       (ap (λ (z : ℕ). bit_xor z (y * 2 ^ 64)) near
-      ∙ add-high (bit_xor (w / 2 ^ 47) (w / 2 ^ 9)) first y (xor_lt 64 (low_part 17) (low_part 55) (low_small 17) (low_small 55))
+      ∙ add_high (bit_xor (w / 2 ^ 47) (w / 2 ^ 9)) first y (xor_lt 64 (low_part 17) (low_part 55) (low_small 17) (low_small 55))
       ∙ ap (λ (z : ℕ). z * 2 ^ 64 + first)
       (ap (bit_xor (bit_xor (w / 2 ^ 47) (w / 2 ^ 9))) far
       ∙ to_low (bit_xor (w / 2 ^ 47) (w / 2 ^ 9)) (top * 2 ^ 64 + third) (low_part 19)
-      (xor_lt 64 (w / 2 ^ 47) (w / 2 ^ 9) (shr-small 47) (shr-small 9)) (low_small 19)))
+      (xor_lt 64 (w / 2 ^ 47) (w / 2 ^ 9) (shr_small 47) (shr_small 9)) (low_small 19)))
 
   -- added to four words that are carried already
-  pub carried-words : (a b c d : ℕ) → a < 2 ^ 64 → b < 2 ^ 64 → c < 2 ^ 64 → d < 2 ^ 64
+  pub carried_words : (a b c d : ℕ) → a < 2 ^ 64 → b < 2 ^ 64 → c < 2 ^ 64 → d < 2 ^ 64
       → (((top * 2 ^ 64 + bit_xor d third) * 2 ^ 64 + bit_xor c second) * 2 ^ 64 + bit_xor b first) * 2 ^ 64 + a
       ≡ bit_xor (((d * 2 ^ 64 + c) * 2 ^ 64 + b) * 2 ^ 64 + a) (spread w)
-  carried-words a b c d ha hb hc hd =
+  carried_words a b c d ha hb hc hd =
       sym (ap (bit_xor (((d * 2 ^ 64 + c) * 2 ^ 64 + b) * 2 ^ 64 + a)) words_of
-      ∙ add-high ((d * 2 ^ 64 + c) * 2 ^ 64 + b) a (((top * 2 ^ 64 + third) * 2 ^ 64 + second) * 2 ^ 64 + first) ha
+      ∙ add_high ((d * 2 ^ 64 + c) * 2 ^ 64 + b) a (((top * 2 ^ 64 + third) * 2 ^ 64 + second) * 2 ^ 64 + first) ha
       ∙ ap (λ (z : ℕ). z * 2 ^ 64 + a)
       (xor_block 64 (d * 2 ^ 64 + c) ((top * 2 ^ 64 + third) * 2 ^ 64 + second) b first hb
       (xor_lt 64 (low_part 17) (low_part 55) (low_small 17) (low_small 55))
       ∙ ap (λ (z : ℕ). z * 2 ^ 64 + bit_xor b first)
       (xor_block 64 d (top * 2 ^ 64 + third) c second hc
-      (xor_lt 64 (bit_xor (w / 2 ^ 47) (w / 2 ^ 9)) (low_part 19) (xor_lt 64 (w / 2 ^ 47) (w / 2 ^ 9) (shr-small 47) (shr-small 9)) (low_small 19))
+      (xor_lt 64 (bit_xor (w / 2 ^ 47) (w / 2 ^ 9)) (low_part 19) (xor_lt 64 (w / 2 ^ 47) (w / 2 ^ 9) (shr_small 47) (shr_small 9)) (low_small 19))
       ∙ ap (λ (z : ℕ). z * 2 ^ 64 + bit_xor c second)
-      (to_low d top third hd (xor_lt 64 (w / 2 ^ 45) (low_part 44) (shr-small 45) (low_small 44))))))
+      (to_low d top third hd (xor_lt 64 (w / 2 ^ 45) (low_part 44) (shr_small 45) (low_small 44))))))
 
 -- ---- a turn
 
@@ -135,7 +135,7 @@ module _ (bs : List ℕ) (known : Bytes bs) (long : 8 ≤ length bs) where
   eight = length-take-le 8 bs long
 
   first_small : little (take 8 bs) < 2 ^ 64
-  first_small = rw eight at (little-lt (take 8 bs) (take-bytes 8 bs known))
+  first_small = rw eight at (little-lt (take 8 bs) (take_bytes 8 bs known))
 
   little-first : little bs ≡ little (drop 8 bs) * 2 ^ 64 + little (take 8 bs)
   little-first =
@@ -158,17 +158,17 @@ module _ (bs : List ℕ) (known : Bytes bs) (long : 8 ≤ length bs) where
       ap₂ shifts n (ap (bit_xor (h * 2 ^ 64 + a)) little-first ∙ xor_block 64 h g a v ha first_small)
       ∙ word-apart m (bit_xor h g) (bit_xor a v) (xor_lt 64 a v ha first_small)
       ∙ ap (bit_xor (shifts m (bit_xor h g))) e
-      ∙ sym (shifts-xor m (bit_xor h g) q)
+      ∙ sym (shifts_xor m (bit_xor h g) q)
       ∙ ap (shifts m) (xor_assoc h g q ∙ ap (bit_xor h) (xor_comm g q) ∙ sym (xor_assoc h q g))
 
   -- divided
-  divided-turn : (h a : ℕ) → a < 2 ^ 64 → ahead (h * 2 ^ 64 + a) bs ≡ ahead (bit_xor h (shifts 64 (bit_xor a (little (take 8 bs))))) (drop 8 bs)
-  divided-turn h a ha =
-      word-turn h a (shifts 64 (bit_xor a (little (take 8 bs)))) ha (shifts-add 64 (8 * length (drop 8 bs)) (bit_xor a (little (take 8 bs))))
+  divided_turn : (h a : ℕ) → a < 2 ^ 64 → ahead (h * 2 ^ 64 + a) bs ≡ ahead (bit_xor h (shifts 64 (bit_xor a (little (take 8 bs))))) (drop 8 bs)
+  divided_turn h a ha =
+      word-turn h a (shifts 64 (bit_xor a (little (take 8 bs)))) ha (shifts_add 64 (8 * length (drop 8 bs)) (bit_xor a (little (take 8 bs))))
 
   -- or carried on
-  carried-turn : (h a : ℕ) → a < 2 ^ 64 → 48 ≤ length bs → ahead (h * 2 ^ 64 + a) bs ≡ ahead (bit_xor h (spread (bit_xor a (little (take 8 bs))))) (drop 8 bs)
-  carried-turn h a ha l =
+  carried_turn : (h a : ℕ) → a < 2 ^ 64 → 48 ≤ length bs → ahead (h * 2 ^ 64 + a) bs ≡ ahead (bit_xor h (spread (bit_xor a (little (take 8 bs))))) (drop 8 bs)
+  carried_turn h a ha l =
       let w : ℕ = bit_xor a (little (take 8 bs)) in
       let j : ℕ = 8 * length (drop 8 bs) - 236 in
       let e : 8 * length (drop 8 bs) ≡ 236 + j = omega (arith, length-drop 8 bs) in
@@ -185,39 +185,39 @@ ahead-updated r bs h = sym (updated-little r bs h)
 -- ---- in the bytes from a place on
 
 module _ (bs : List ℕ) (known : Bytes bs) where
-  pub carried-at : (i h a : ℕ) → a < 2 ^ 64 → i + 48 ≤ length bs
-      → ahead (h * 2 ^ 64 + a) (drop i bs) ≡ ahead (bit_xor h (spread (bit_xor a (littleAt 8 bs i)))) (drop (i + 8) bs)
-  carried-at i h a small l =
-      carried-turn (drop i bs) (drop-bytes i bs known) (omega (arith, length-drop i bs)) h a small (omega (arith, length-drop i bs))
-      ∙ ap (ahead (bit_xor h (spread (bit_xor a (littleAt 8 bs i))))) (drop-drop 8 i bs)
+  pub carried_at : (i h a : ℕ) → a < 2 ^ 64 → i + 48 ≤ length bs
+      → ahead (h * 2 ^ 64 + a) (drop i bs) ≡ ahead (bit_xor h (spread (bit_xor a (little_at 8 bs i)))) (drop (i + 8) bs)
+  carried_at i h a small l =
+      carried_turn (drop i bs) (drop_bytes_lem i bs known) (omega (arith, length-drop i bs)) h a small (omega (arith, length-drop i bs))
+      ∙ ap (ahead (bit_xor h (spread (bit_xor a (little_at 8 bs i))))) (drop-drop 8 i bs)
 
-  module _ (i j : ℕ) (next : i + 8 ≡ j) (l : j ≤ length bs) (a p : ℕ) (small : a < 2 ^ 64) (e : p ≡ shifts 64 (bit_xor a (littleAt 8 bs i))) where
-    divided-at : (h : ℕ) → ahead (h * 2 ^ 64 + a) (drop i bs) ≡ ahead (bit_xor h p) (drop j bs)
-    divided-at h =
-        divided-turn (drop i bs) (drop-bytes i bs known) (omega (arith, length-drop i bs)) h a small
+  module _ (i j : ℕ) (next : i + 8 ≡ j) (l : j ≤ length bs) (a p : ℕ) (small : a < 2 ^ 64) (e : p ≡ shifts 64 (bit_xor a (little_at 8 bs i))) where
+    divided_at : (h : ℕ) → ahead (h * 2 ^ 64 + a) (drop i bs) ≡ ahead (bit_xor h p) (drop j bs)
+    divided_at h =
+        divided_turn (drop i bs) (drop_bytes_lem i bs known) (omega (arith, length-drop i bs)) h a small
         ∙ ap₂ (λ (x : ℕ) (l : List ℕ). ahead (bit_xor h x) l) (sym e) (drop-drop 8 i bs ∙ ap (λ (k : ℕ). drop k bs) next)
 
     -- into the word behind it
-    divided-next : (h b : ℕ) → b < 2 ^ 64 → p < 2 ^ 64 → ahead ((h * 2 ^ 64 + b) * 2 ^ 64 + a) (drop i bs) ≡ ahead (h * 2 ^ 64 + bit_xor b p) (drop j bs)
-    divided-next h b hb hp = divided-at (h * 2 ^ 64 + b) ∙ ap (λ (x : ℕ). ahead x (drop j bs)) (add_low h b p hb hp)
+    divided_next : (h b : ℕ) → b < 2 ^ 64 → p < 2 ^ 64 → ahead ((h * 2 ^ 64 + b) * 2 ^ 64 + a) (drop i bs) ≡ ahead (h * 2 ^ 64 + bit_xor b p) (drop j bs)
+    divided_next h b hb hp = divided_at (h * 2 ^ 64 + b) ∙ ap (λ (x : ℕ). ahead x (drop j bs)) (add_low h b p hb hp)
 
     -- the last one that anything was carried to
-    divided-last : ahead a (drop i bs) ≡ updated p (drop j bs)
-    divided-last = ap (λ (x : ℕ). ahead x (drop i bs)) (sym (zero-add a)) ∙ divided-at 0 ∙ ahead-updated p (drop j bs) (drop-bytes j bs known)
+    divided_last : ahead a (drop i bs) ≡ updated p (drop j bs)
+    divided_last = ap (λ (x : ℕ). ahead x (drop i bs)) (sym (zero-add a)) ∙ divided_at 0 ∙ ahead-updated p (drop j bs) (drop_bytes_lem j bs known)
 
-  pub forty-turns : (at a b c d e p q r s u : ℕ) → at + 40 ≤ length bs
+  pub forty_turns : (at a b c d e p q r s u : ℕ) → at + 40 ≤ length bs
       → a < 2 ^ 64 → b < 2 ^ 64 → c < 2 ^ 64 → d < 2 ^ 64 → e < 2 ^ 64 → p < 2 ^ 64 → q < 2 ^ 64 → r < 2 ^ 64 → s < 2 ^ 64
-      → p ≡ shifts 64 (bit_xor a (littleAt 8 bs at))
-      → q ≡ shifts 64 (bit_xor (bit_xor b p) (littleAt 8 bs (at + 8)))
-      → r ≡ shifts 64 (bit_xor (bit_xor c q) (littleAt 8 bs (at + 16)))
-      → s ≡ shifts 64 (bit_xor (bit_xor d r) (littleAt 8 bs (at + 24)))
-      → u ≡ shifts 64 (bit_xor (bit_xor e s) (littleAt 8 bs (at + 32)))
+      → p ≡ shifts 64 (bit_xor a (little_at 8 bs at))
+      → q ≡ shifts 64 (bit_xor (bit_xor b p) (little_at 8 bs (at + 8)))
+      → r ≡ shifts 64 (bit_xor (bit_xor c q) (little_at 8 bs (at + 16)))
+      → s ≡ shifts 64 (bit_xor (bit_xor d r) (little_at 8 bs (at + 24)))
+      → u ≡ shifts 64 (bit_xor (bit_xor e s) (little_at 8 bs (at + 32)))
       → updated u (drop (at + 40) bs) ≡ ahead ((((e * 2 ^ 64 + d) * 2 ^ 64 + c) * 2 ^ 64 + b) * 2 ^ 64 + a) (drop at bs)
-  forty-turns at a b c d e p q r s u l ha hb hc hd he hp hq hr hs ep eq er es eu =
-      sym (divided-next at (at + 8) (omega arith) (omega arith) a p ha ep ((e * 2 ^ 64 + d) * 2 ^ 64 + c) b hb hp
-      ∙ divided-next (at + 8) (at + 16) (omega arith) (omega arith) (bit_xor b p) q (xor_lt 64 b p hb hp) eq (e * 2 ^ 64 + d) c hc hq
-      ∙ divided-next (at + 16) (at + 24) (omega arith) (omega arith) (bit_xor c q) r (xor_lt 64 c q hc hq) er e d hd hr
+  forty_turns at a b c d e p q r s u l ha hb hc hd he hp hq hr hs ep eq er es eu =
+      sym (divided_next at (at + 8) (omega arith) (omega arith) a p ha ep ((e * 2 ^ 64 + d) * 2 ^ 64 + c) b hb hp
+      ∙ divided_next (at + 8) (at + 16) (omega arith) (omega arith) (bit_xor b p) q (xor_lt 64 b p hb hp) eq (e * 2 ^ 64 + d) c hc hq
+      ∙ divided_next (at + 16) (at + 24) (omega arith) (omega arith) (bit_xor c q) r (xor_lt 64 c q hc hq) er e d hd hr
       ∙ ap (λ (x : ℕ). ahead (x * 2 ^ 64 + bit_xor d r) (drop (at + 24) bs)) (sym (zero-add e))
-      ∙ divided-next (at + 24) (at + 32) (omega arith) (omega arith) (bit_xor d r) s (xor_lt 64 d r hd hr) es 0 e he hs
+      ∙ divided_next (at + 24) (at + 32) (omega arith) (omega arith) (bit_xor d r) s (xor_lt 64 d r hd hr) es 0 e he hs
       ∙ ap (λ (x : ℕ). ahead x (drop (at + 32) bs)) (zero-add (bit_xor e s))
-      ∙ divided-last (at + 32) (at + 40) (omega arith) (omega arith) (bit_xor e s) u (xor_lt 64 e s he hs) eu)
+      ∙ divided_last (at + 32) (at + 40) (omega arith) (omega arith) (bit_xor e s) u (xor_lt 64 e s he hs) eu)

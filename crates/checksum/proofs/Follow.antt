@@ -36,7 +36,7 @@ abbrev pub up_from : ℕ → ℕ → List ℕ
 up_from i zero = []
 up_from i (suc n) = i ∷ up_from (suc i) n
 
-pub getD-upFrom : (i n k : ℕ) → k < n → get_or (up_from i n) k 0 ≡ i + k
-getD-upFrom i zero k h = absurd (not-suc-le-zero h)
-getD-upFrom i (suc n) zero h = sym (add-zero i)
-getD-upFrom i (suc n) (suc k) h = getD-upFrom (suc i) n k (le_of_suc-le-suc h) ∙ suc-add i k ∙ sym (add-suc i k)
+pub get_d_up_from : (i n k : ℕ) → k < n → get_or (up_from i n) k 0 ≡ i + k
+get_d_up_from i zero k h = absurd (not-suc-le-zero h)
+get_d_up_from i (suc n) zero h = sym (add-zero i)
+get_d_up_from i (suc n) (suc k) h = get_d_up_from (suc i) n k (le_of_suc-le-suc h) ∙ suc-add i k ∙ sym (add-suc i k)

@@ -10,9 +10,9 @@ use lib.Bits.{bit_xor, differ, xor_comm, xor_zero_r, xor_lt, xor_shr, xor_shifte
 use lib.ListN.{length, drop, get_or, drop_of_length-le}
 use lib.Pow.{split, pow_pos, shr_lt}
 use lib.Seq.{drop-cons}
-use Rattle.checksum.specs.Checksum.{poly, shift, bitsIn, updated}
+use Rattle.checksum.specs.Checksum.{poly, shift, bits_in_of, updated}
 use Rattle.checksum.specs.Tables.{shifts}
-use Rattle.checksum.proofs.Xor.{mod-two, xor-half, xor-odd, xor_assoc, xor-swap}
+use Rattle.checksum.proofs.Xor.{mod_two, xor_half, xor_odd, xor_assoc, xor_swap}
 
 -- ---- the register is linear
 
@@ -26,29 +26,29 @@ poly-digit (suc zero) (suc zero) hx hy = refl
 poly-digit (suc zero) (suc (suc y)) hx hy = absurd (big hy)
 poly-digit (suc (suc x)) y hx hy = absurd (big hx)
 
-pub shift-xor : (a b : ℕ) → shift (bit_xor a b) ≡ bit_xor (shift a) (shift b)
+pub shift_xor : (a b : ℕ) → shift (bit_xor a b) ≡ bit_xor (shift a) (shift b)
 unfolding shift
-shift-xor a b =
-    ap₂ (λ (x y : ℕ). bit_xor x (y * poly)) (xor-half a b) (xor-odd a b)
-    ∙ ap (bit_xor (bit_xor (a / 2) (b / 2))) (poly-digit (a % 2) (b % 2) (mod-two a) (mod-two b))
-    ∙ xor-swap (a / 2) (b / 2) (a % 2 * poly) (b % 2 * poly)
+shift_xor a b =
+    ap₂ (λ (x y : ℕ). bit_xor x (y * poly)) (xor_half a b) (xor_odd a b)
+    ∙ ap (bit_xor (bit_xor (a / 2) (b / 2))) (poly-digit (a % 2) (b % 2) (mod_two a) (mod_two b))
+    ∙ xor_swap (a / 2) (b / 2) (a % 2 * poly) (b % 2 * poly)
 
 pub shift-up : (y : ℕ) → shift (y * 2) ≡ y
 unfolding shift
 shift-up y = ap₂ (λ (x z : ℕ). bit_xor x (z * poly)) (mul-div_cancel y (omega arith)) (mul-mod_left y 2) ∙ xor_zero_r y
 
-pub shifts-xor : (n a b : ℕ) → shifts n (bit_xor a b) ≡ bit_xor (shifts n a) (shifts n b)
+pub shifts_xor : (n a b : ℕ) → shifts n (bit_xor a b) ≡ bit_xor (shifts n a) (shifts n b)
 unfolding shifts
-shifts-xor zero a b = refl
-shifts-xor (suc n) a b = ap (shifts n) (shift-xor a b) ∙ shifts-xor n (shift a) (shift b)
+shifts_xor zero a b = refl
+shifts_xor (suc n) a b = ap (shifts n) (shift_xor a b) ∙ shifts_xor n (shift a) (shift b)
 
-pub shifts-add : (m n r : ℕ) → shifts (m + n) r ≡ shifts n (shifts m r)
+pub shifts_add : (m n r : ℕ) → shifts (m + n) r ≡ shifts n (shifts m r)
 unfolding shifts
-shifts-add zero n r = ap (λ (k : ℕ). shifts k r) (zero-add n)
-shifts-add (suc m) n r = ap (λ (k : ℕ). shifts k r) (suc-add m n) ∙ shifts-add m n (shift r)
+shifts_add zero n r = ap (λ (k : ℕ). shifts k r) (zero-add n)
+shifts_add (suc m) n r = ap (λ (k : ℕ). shifts k r) (suc-add m n) ∙ shifts_add m n (shift r)
 
 pub shifts-byte : (n r : ℕ) → shifts (8 * n) (shifts 8 r) ≡ shifts (8 * suc n) r
-shifts-byte n r = sym (shifts-add 8 (8 * n) r) ∙ ap (λ (k : ℕ). shifts k r) (add_comm 8 (8 * n) ∙ sym (mul-suc 8 n))
+shifts-byte n r = sym (shifts_add 8 (8 * n) r) ∙ ap (λ (k : ℕ). shifts k r) (add_comm 8 (8 * n) ∙ sym (mul-suc 8 n))
 
 pub shifts-up : (n y : ℕ) → shifts n (y * 2 ^ n) ≡ y
 unfolding shifts
@@ -67,54 +67,54 @@ shifts-zero (suc n) = shifts-zero n
 pub shifts-parts : (k m x : ℕ) → shifts (k + m) x ≡ bit_xor (shifts m (x / 2 ^ k)) (shifts (k + m) (x % 2 ^ k))
 shifts-parts k m x =
     ap (shifts (k + m)) (sym (split x k) ∙ sym (xor_shifted (x / 2 ^ k) k (x % 2 ^ k) (mod-lt x (pow_pos k))))
-    ∙ shifts-xor (k + m) (x / 2 ^ k * 2 ^ k) (x % 2 ^ k)
+    ∙ shifts_xor (k + m) (x / 2 ^ k * 2 ^ k) (x % 2 ^ k)
     ∙ ap (λ (z : ℕ). bit_xor z (shifts (k + m) (x % 2 ^ k)))
-    (shifts-add k m (x / 2 ^ k * 2 ^ k) ∙ ap (shifts m) (shifts-up k (x / 2 ^ k)))
+    (shifts_add k m (x / 2 ^ k * 2 ^ k) ∙ ap (shifts m) (shifts-up k (x / 2 ^ k)))
 
 -- ---- bits into the register
 
 -- n bits at once
-pub bits_in : (n r b : ℕ) → b < 2 ^ n → bitsIn n r b ≡ shifts n (bit_xor r b)
-unfolding bitsIn shifts
+pub bits_in : (n r b : ℕ) → b < 2 ^ n → bits_in_of n r b ≡ shifts n (bit_xor r b)
+unfolding bits_in_of shifts
 bits_in zero r b h = sym (ap (bit_xor r) (lt-one h) ∙ xor_zero_r r)
 bits_in (suc n) r b h =
     bits_in n (shift (bit_xor r (b % 2))) (b / 2) (shr_lt n 1 (subst (λ (k : ℕ). b < 2 ^ k) (sym (add-one n)) h))
     ∙ ap (shifts n)
     (ap (bit_xor (shift (bit_xor r (b % 2)))) (sym (shift-up (b / 2)))
-    ∙ sym (shift-xor (bit_xor r (b % 2)) (b / 2 * 2))
+    ∙ sym (shift_xor (bit_xor r (b % 2)) (b / 2 * 2))
     ∙ ap shift
     (xor_assoc r (b % 2) (b / 2 * 2)
-    ∙ ap (bit_xor r) (xor_comm (b % 2) (b / 2 * 2) ∙ xor_shifted (b / 2) 1 (b % 2) (mod-two b) ∙ split b 1)))
+    ∙ ap (bit_xor r) (xor_comm (b % 2) (b / 2 * 2) ∙ xor_shifted (b / 2) 1 (b % 2) (mod_two b) ∙ split b 1)))
 
 -- a byte: one look at a table of `shifts 8`
-pub byte-in : (r b : ℕ) → b < 256 → bitsIn 8 r b ≡ bit_xor (r / 256) (shifts 8 (bit_xor r b % 256))
+pub byte_in : (r b : ℕ) → b < 256 → bits_in_of 8 r b ≡ bit_xor (r / 256) (shifts 8 (bit_xor r b % 256))
 unfolding shifts
-byte-in r b h =
+byte_in r b h =
     bits_in 8 r b h
     ∙ shifts-parts 8 0 (bit_xor r b)
     ∙ ap (λ (x : ℕ). bit_xor x (shifts 8 (bit_xor r b % 256)))
     (xor_shr r b 8 ∙ ap (bit_xor (r / 256)) (div-eq_of_lt h) ∙ xor_zero_r (r / 256))
 
 -- two registers before the same bits
-pub bits-xor : (n r s b : ℕ) → bitsIn n (bit_xor r s) b ≡ bit_xor (shifts n r) (bitsIn n s b)
-unfolding bitsIn shifts
-bits-xor zero r s b = refl
-bits-xor (suc n) r s b =
-    ap (λ (x : ℕ). bitsIn n x (b / 2)) (ap shift (xor_assoc r s (b % 2)) ∙ shift-xor r (bit_xor s (b % 2)))
-    ∙ bits-xor n (shift r) (shift (bit_xor s (b % 2))) (b / 2)
+pub bits_xor : (n r s b : ℕ) → bits_in_of n (bit_xor r s) b ≡ bit_xor (shifts n r) (bits_in_of n s b)
+unfolding bits_in_of shifts
+bits_xor zero r s b = refl
+bits_xor (suc n) r s b =
+    ap (λ (x : ℕ). bits_in_of n x (b / 2)) (ap shift (xor_assoc r s (b % 2)) ∙ shift_xor r (bit_xor s (b % 2)))
+    ∙ bits_xor n (shift r) (shift (bit_xor s (b % 2))) (b / 2)
 
 -- ---- bytes in turn
 
 pub updated-append : (r : ℕ) (a b : List ℕ) → updated r (a ++ b) ≡ updated (updated r a) b
 unfolding updated
 updated-append r [] b = refl
-updated-append r (x ∷ a) b = updated-append (bitsIn 8 r x) a b
+updated-append r (x ∷ a) b = updated-append (bits_in_of 8 r x) a b
 
 -- the next byte of those from i on
-pub updated-next : (r : ℕ) (bs : List ℕ) (i : ℕ) → i < length bs → updated r (drop i bs) ≡ updated (bitsIn 8 r (get_or bs i 0)) (drop (i + 1) bs)
+pub updated-next : (r : ℕ) (bs : List ℕ) (i : ℕ) → i < length bs → updated r (drop i bs) ≡ updated (bits_in_of 8 r (get_or bs i 0)) (drop (i + 1) bs)
 unfolding updated
 updated-next r bs i h =
-    ap (updated r) (drop-cons bs i 0 h) ∙ ap (λ (k : ℕ). updated (bitsIn 8 r (get_or bs i 0)) (drop k bs)) (sym (add-one i))
+    ap (updated r) (drop-cons bs i 0 h) ∙ ap (λ (k : ℕ). updated (bits_in_of 8 r (get_or bs i 0)) (drop k bs)) (sym (add-one i))
 
 -- none left
 pub updated-end : (r : ℕ) (bs : List ℕ) (i : ℕ) → length bs ≤ i → updated r (drop i bs) ≡ r
@@ -127,13 +127,13 @@ shift-lt : (r : ℕ) → r < 2 ^ 32 → shift r < 2 ^ 32
 unfolding shift
 shift-lt r h = xor_lt 32 (r / 2) (r % 2 * poly) (omega arith) (omega arith)
 
-bits-lt : (n r b : ℕ) → r < 2 ^ 32 → bitsIn n r b < 2 ^ 32
-unfolding bitsIn
-bits-lt zero r b h = h
-bits-lt (suc n) r b h =
-    bits-lt n (shift (bit_xor r (b % 2))) (b / 2) (shift-lt (bit_xor r (b % 2)) (xor_lt 32 r (b % 2) h (omega arith)))
+bits_lt : (n r b : ℕ) → r < 2 ^ 32 → bits_in_of n r b < 2 ^ 32
+unfolding bits_in_of
+bits_lt zero r b h = h
+bits_lt (suc n) r b h =
+    bits_lt n (shift (bit_xor r (b % 2))) (b / 2) (shift-lt (bit_xor r (b % 2)) (xor_lt 32 r (b % 2) h (omega arith)))
 
 pub updated-lt : (r : ℕ) (bs : List ℕ) → r < 2 ^ 32 → updated r bs < 2 ^ 32
 unfolding updated
 updated-lt r [] h = h
-updated-lt r (b ∷ bs) h = updated-lt (bitsIn 8 r b) bs (bits-lt 8 r b h)
+updated-lt r (b ∷ bs) h = updated-lt (bits_in_of 8 r b) bs (bits_lt 8 r b h)

@@ -1,7 +1,7 @@
 -- The checksum of a record: the 32-bit frame check sequence of ITU-T V.42, 8.1.1.6.2, as the register that divides by the polynomial.
 -- Document 01: "The checksum covers every byte from tag 1 up to and including tag 4, not itself: polynomial 0x04C11DB7 taken low bit
 -- first (0xEDB88320), start all ones, result inverted."
--- It stands for crc32fast::Hasher in log.rs: `new` (lines 232, 247, 381) is `allOnes`, `update` (256, 336, 386) is `updated`,
+-- It stands for crc32fast::Hasher in log.rs: `new` (lines 232, 247, 381) is `all_ones`, `update` (256, 336, 386) is `updated`,
 -- `finalize` (302, 444) is `finished`. Assumes nothing.
 use Rattle.std.specs.Prelude.{List, [], ◌∷◌, ℕ, zero, suc, ◌-◌, ◌*◌, ◌/◌, ◌%◌}
 use Rattle.std.specs.Int.Bits.{bit_xor}
@@ -13,27 +13,27 @@ abbrev pub poly : ℕ
 poly = 3988292384
 
 -- 2^32 - 1: what the register is preset to, 32 ones
-abbrev pub allOnes : ℕ
-allOnes = 4294967295
+abbrev pub all_ones : ℕ
+all_ones = 4294967295
 
 -- a step of the division, modulo 2: the remainder moves one place, and where the bit that falls out is 1 the polynomial is added
 unfoldable pub shift : ℕ → ℕ
 shift r = bit_xor (r / 2) (r % 2 * poly)
 
 -- n bits of b into the register, the low-order bit first, as V.42 sends them: each is added to the bit that is to fall out
-unfoldable pub bitsIn : ℕ → ℕ → ℕ → ℕ
-bitsIn zero r b = r
-bitsIn (suc n) r b = bitsIn n (shift (bit_xor r (b % 2))) (b / 2)
+unfoldable pub bits_in_of : ℕ → ℕ → ℕ → ℕ
+bits_in_of zero r b = r
+bits_in_of (suc n) r b = bits_in_of n (shift (bit_xor r (b % 2))) (b / 2)
 
 -- the register after the bytes: what was in it, modified by division of all of their bits
 unfoldable pub updated : ℕ → List ℕ → ℕ
 updated r [] = r
-updated r (b ∷ bs) = updated (bitsIn 8 r b) bs
+updated r (b ∷ bs) = updated (bits_in_of 8 r b) bs
 
 -- the ones complement of the remainder that results
 unfoldable pub finished : ℕ → ℕ
-finished r = allOnes - r
+finished r = all_ones - r
 
 -- the checksum of a string of bytes: preset, divided, inverted
-unfoldable pub checksumOf : List ℕ → ℕ
-checksumOf bs = finished (updated allOnes bs)
+unfoldable pub checksum_of : List ℕ → ℕ
+checksum_of bs = finished (updated all_ones bs)

@@ -10,12 +10,12 @@ unfoldable pub ahead : ℕ → List ℕ → ℕ
 ahead n bs = shifts (8 * length bs) (bit_xor n (little bs))
 
 -- what is carried to the words behind the next one, as one number
-abbrev pub carriedBehind : Carried → ℕ
-carriedBehind s = ((s.4 * 2 ^ 64 + s.3) * 2 ^ 64 + s.2) * 2 ^ 64 + s.1
+abbrev pub carried_behind : Carried → ℕ
+carried_behind s = ((s.4 * 2 ^ 64 + s.3) * 2 ^ 64 + s.2) * 2 ^ 64 + s.1
 
 -- the same with the next one
-abbrev pub carriedNumber : Carried → ℕ
-carriedNumber s = carriedBehind s * 2 ^ 64 + s.0
+abbrev pub carried_number : Carried → ℕ
+carried_number s = carried_behind s * 2 ^ 64 + s.0
 
 -- a word where it stands instead, counted from the next one on: 145, 183, 211 and 300 places further than before
 abbrev pub spread : ℕ → ℕ

@@ -2,8 +2,8 @@
 // A function builds a table that it names on the stack where it starts. So there is a small one only, which `update` lends to what looks in
 // it; of many bytes all but the last forty or so go without a table (long.rt).
 ghost use Rattle.std.specs.Prelude.{◌≡◌, ◌+◌, ◌-◌, ◌*◌, ◌%◌, ◌≤◌, length, drop};
-ghost use Rattle.checksum.specs.Checksum.{bitsIn, updated, finished, checksumOf};
-ghost use Rattle.checksum.specs.Inner.{ahead, carriedNumber};
+ghost use Rattle.checksum.specs.Checksum.{bits_in_of, updated, finished, checksum_of};
+ghost use Rattle.checksum.specs.Inner.{ahead, carried_number};
 ghost use Rattle.checksum.specs.Tables.{shifts, Moved};
 
 mod long;
@@ -46,7 +46,7 @@ fn word_in(t: &[u32; 256], word: u64) -> u32
 // One byte into the register.
 fn byte_in(t: &[u32; 256], r: u32, b: u8) -> u32
     requires { Moved 4 16 t.now }
-    ensures { result ≡ bitsIn 8 r b }
+    ensures { result ≡ bits_in_of 8 r b }
 {
     let x = (r ^ b as u32) % 256;
     (r / 256) ^ (t[(x / 16) as usize] ^ t[16 + (x % 16) as usize])
@@ -96,7 +96,7 @@ fn rest_in(t: &[u32; 256], register: u32, bytes: &[u8], from: usize) -> u32
 fn forty_in(t: &[u32; 256], s: Carried, bytes: &[u8], at: usize) -> u32
     requires moved { Moved 4 16 t.now }
     requires at_in_bounds { at + 40 ≤ length bytes.now }
-    ensures { updated result (drop (at + 40) bytes.now) ≡ ahead (carriedNumber s) (drop at bytes.now) }
+    ensures { updated result (drop (at + 40) bytes.now) ≡ ahead (carried_number s) (drop at bytes.now) }
 {
     let a = word_in(t, s.0 ^ u64_at(bytes, at));
     let b = word_in(t, (s.1 ^ a as u64) ^ u64_at(bytes, at + 8));
@@ -131,7 +131,7 @@ pub fn finish(register: u32) -> u32
 }
 
 pub fn checksum(bytes: &[u8]) -> u32
-    ensures { result ≡ checksumOf bytes.now }
+    ensures { result ≡ checksum_of bytes.now }
 {
     finish(update(START, bytes))
 }

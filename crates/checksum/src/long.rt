@@ -3,7 +3,7 @@
 ghost use Rattle.std.specs.Prelude.{◌≡◌, ◌+◌, ◌%◌, ◌^◌, ◌≤◌, ◌<◌, length, drop};
 ghost use Rattle.std.specs.Int.Bits.{bit_xor};
 ghost use Rattle.checksum.specs.Checksum.{updated};
-ghost use Rattle.checksum.specs.Inner.{ahead, carriedBehind, carriedNumber, spread};
+ghost use Rattle.checksum.specs.Inner.{ahead, carried_behind, carried_number, spread};
 
 use words::u64_at;
 
@@ -14,7 +14,7 @@ pub struct Carried(pub u64, pub u64, pub u64, pub u64, pub u64);
 // The next word is passed: what it comes to is carried to those behind it. That a word has 64 bits is said for whoever carries one through a
 // loop.
 fn carry(s: Carried, word: u64) -> Carried
-    ensures { (s.0 < 2 ^ 64) × (carriedNumber result ≡ bit_xor (carriedBehind s) (spread (bit_xor s.0 word))) }
+    ensures { (s.0 < 2 ^ 64) × (carried_number result ≡ bit_xor (carried_behind s) (spread (bit_xor s.0 word))) }
 {
     let w = s.0 ^ word;
     Carried(
@@ -29,7 +29,7 @@ fn carry(s: Carried, word: u64) -> Carried
 // What is carried behind the bytes up to a place, with forty bytes or more left.
 pub fn carry_all(register: u32, bytes: &[u8], to: usize) -> Carried
     requires { (to % 8 ≡ 0) × (to + 40 ≤ length bytes.now) }
-    ensures { ahead (carriedNumber result) (drop to bytes.now) ≡ updated register bytes.now }
+    ensures { ahead (carried_number result) (drop to bytes.now) ≡ updated register bytes.now }
 {
     let mut s = Carried(register as u64, 0, 0, 0, 0);
     let mut i = 0;

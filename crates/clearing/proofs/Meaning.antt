@@ -14,10 +14,10 @@ use Rattle.keys.specs.Keys.{rank}
 use Rattle.overlay.specs.Entries.{Entry}
 use Rattle.overlay.proofs.Entries.{unless}
 use Rattle.memory.specs.declared.span.Holder.TheVariants as holder
-use Rattle.memory.specs.Parts.{Parts, entryUnder, partsKept}
-use Rattle.memory.proofs.Under.{under-remove}
-use Rattle.clearing.specs.Clear.{named_by, clearedKey, clearedBy, hits, names}
-use Rattle.clearing.specs.EndRead.{nextAfter}
+use Rattle.memory.specs.Parts.{Parts, entry_under, parts_kept}
+use Rattle.memory.proofs.Under.{under_remove}
+use Rattle.clearing.specs.Clear.{named_by, cleared_key, cleared_by, hits, names}
+use Rattle.clearing.specs.EndRead.{next_after}
 use Rattle.clearing.specs.declared.clear.NamedKey.{NamedKey}
 use Rattle.clearing.specs.declared.clear.NamedKey.TheVariants.{Key, Nothing}
 use Rattle.clearing.proofs.Cleared.{key-kept}
@@ -32,45 +32,45 @@ module _ (kind : TableKind) (id k : ℕ) where
       by true q = refl
       by false q = rw q
 
-  key-found : (n : NamedKey) (p : Parts) → partsKept holder.Shared p ≡ true → entryUnder kind k (clearedKey id n p) ≡ (if hits kind k n then unless id (entryUnder kind k p) else entryUnder kind k p)
+  key-found : (n : NamedKey) (p : Parts) → parts_kept holder.Shared p ≡ true → entry_under kind k (cleared_key id n p) ≡ (if hits kind k n then unless id (entry_under kind k p) else entry_under kind k p)
   key-found Nothing p ok = refl
-  key-found (Key own table index) p ok = under-remove holder.Shared p ok own kind k (rank table index) id
+  key-found (Key own table index) p ok = under_remove holder.Shared p ok own kind k (rank table index) id
 
   -- what a lookup finds after a record was cleared
-  pub found_after : (ws : List Written) (p : Parts) → partsKept holder.Shared p ≡ true
-      → entryUnder kind k (clearedBy id ws p) ≡ (if names kind k ws then unless id (entryUnder kind k p) else entryUnder kind k p)
-  unfolding clearedBy
+  pub found_after : (ws : List Written) (p : Parts) → parts_kept holder.Shared p ≡ true
+      → entry_under kind k (cleared_by id ws p) ≡ (if names kind k ws then unless id (entry_under kind k p) else entry_under kind k p)
+  unfolding cleared_by
   found_after [] p ok = refl
   found_after (w ∷ ws) p ok =
-      found_after ws (clearedKey id (named_by w.action) p) (key-kept id (named_by w.action) p ok)
+      found_after ws (cleared_key id (named_by w.action) p) (key-kept id (named_by w.action) p ok)
       ∙ ap (λ (e : Option Entry). if names kind k ws then unless id e else e) (key-found (named_by w.action) p ok)
-      ∙ by (hits kind k (named_by w.action)) (names kind k ws) (entryUnder kind k p)
+      ∙ by (hits kind k (named_by w.action)) (names kind k ws) (entry_under kind k p)
     where
       by : (a b : Bool) (e : Option Entry) → (if b then unless id (if a then unless id e else e) else if a then unless id e else e) ≡ (if a || b then unless id e else e)
       by true true e = once e
       by true false e = refl
       by false b e = refl
 
-  module _ (ws : List Written) (p : Parts) (ok : partsKept holder.Shared p ≡ true) where
+  module _ (ws : List Written) (p : Parts) (ok : parts_kept holder.Shared p ≡ true) where
     -- "An entry goes only if its stored id equals the record's"
-    pub own-cleared : (e : Entry) → names kind k ws ≡ true → entryUnder kind k p ≡ some e → e.id ≡ id → entryUnder kind k (clearedBy id ws p) ≡ none
+    pub own-cleared : (e : Entry) → names kind k ws ≡ true → entry_under kind k p ≡ some e → e.id ≡ id → entry_under kind k (cleared_by id ws p) ≡ none
     own-cleared e n f i = found_after ws p ok ∙ rw (n, f, eq-eqb e.id id i)
 
     -- "a newer one stays"
-    pub newer-left : (e : Entry) → entryUnder kind k p ≡ some e → (e.id ≡ id → ⊥) → entryUnder kind k (clearedBy id ws p) ≡ some e
-    newer-left e f i = found_after ws p ok ∙ by (names kind k ws)
+    pub newer_left : (e : Entry) → entry_under kind k p ≡ some e → (e.id ≡ id → ⊥) → entry_under kind k (cleared_by id ws p) ≡ some e
+    newer_left e f i = found_after ws p ok ∙ by (names kind k ws)
       where
-        by : (b : Bool) → (if b then unless id (entryUnder kind k p) else entryUnder kind k p) ≡ some e
+        by : (b : Bool) → (if b then unless id (entry_under kind k p) else entry_under kind k p) ≡ some e
         by true = rw (f, ne_eqb e.id id i)
         by false = f
 
     -- and so does what stands under a key that the record doesn't name
-    pub others-left : names kind k ws ≡ false → entryUnder kind k (clearedBy id ws p) ≡ entryUnder kind k p
+    pub others-left : names kind k ws ≡ false → entry_under kind k (cleared_by id ws p) ≡ entry_under kind k p
     others-left n = found_after ws p ok ∙ rw n
 
 -- the next id is then above the record's, and no smaller than it was: no id is handed out twice
-pub next-raised : (next id : ℕ) → (id < nextAfter next id) × (next ≤ nextAfter next id)
-next-raised next id = by (ltb id next) refl
+pub next_raised : (next id : ℕ) → (id < next_after next id) × (next ≤ next_after next id)
+next_raised next id = by (ltb id next) refl
   where
     by : (b : Bool) → ltb id next ≡ b → (id < (if b then next else id + 1)) × (next ≤ (if b then next else id + 1))
     by true e = (ltb-true id next e, omega arith)

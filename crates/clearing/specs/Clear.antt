@@ -1,14 +1,14 @@
 -- What a record takes out of the overlays (document 01: "Clearing reads an accepted record again in place of `Cleared`."; log.rs: `Cleared`,
 -- lines 204 to 209, filled at lines 276, 285 and 294, and `end_read`, lines 905 to 932).
 use Rattle.std.specs.Prelude.{Bool, false, ◌&&◌, ◌||◌, List, [], ◌∷◌, ℕ, eqb}
-use Rattle.directory.specs.Table.{sameKind}
+use Rattle.directory.specs.Table.{same_kind_of}
 use Rattle.directory.specs.declared.table.TableKind.{TableKind}
 use Rattle.directory.specs.declared.table.TableKind.TheVariants.{Index, Value, RefCount}
 use Rattle.record.specs.declared.action.LogAction.{LogAction}
 use Rattle.record.specs.declared.action.LogAction.TheVariants.{BeginRecord, InsertIndex, InsertValue, InsertRefCount, EndRecord, DropTable, DropRefCountTable}
 use Rattle.effect.specs.Effect.{Written}
 use Rattle.keys.specs.Keys.{rank}
-use Rattle.memory.specs.Parts.{Parts, removeFrom}
+use Rattle.memory.specs.Parts.{Parts, remove_from}
 use Rattle.clearing.specs.declared.clear.NamedKey.{NamedKey}
 use Rattle.clearing.specs.declared.clear.NamedKey.TheVariants.{Key, Nothing}
 
@@ -23,19 +23,19 @@ named_by BeginRecord = Nothing
 named_by EndRecord = Nothing
 
 -- "An entry goes only if its stored id equals the record's; a newer one stays."
-abbrev pub clearedKey : ℕ → NamedKey → Parts → Parts
-clearedKey id Nothing p = p
-clearedKey id (Key kind table index) p = removeFrom kind p (rank table index) id
+abbrev pub cleared_key : ℕ → NamedKey → Parts → Parts
+cleared_key id Nothing p = p
+cleared_key id (Key kind table index) p = remove_from kind p (rank table index) id
 
 -- the overlays behind a record of that id, action by action
-unfoldable pub clearedBy : ℕ → List Written → Parts → Parts
-clearedBy id [] p = p
-clearedBy id (w ∷ ws) p = clearedBy id ws (clearedKey id (named_by w.action) p)
+unfoldable pub cleared_by : ℕ → List Written → Parts → Parts
+cleared_by id [] p = p
+cleared_by id (w ∷ ws) p = cleared_by id ws (cleared_key id (named_by w.action) p)
 
 -- whether an action, or a record's actions, name a key of a kind
 abbrev pub hits : TableKind → ℕ → NamedKey → Bool
 hits kind key Nothing = false
-hits kind key (Key own table index) = sameKind own kind && eqb (rank table index) key
+hits kind key (Key own table index) = same_kind_of own kind && eqb (rank table index) key
 
 -- whether a record's actions name a key of a kind
 abbrev pub names : TableKind → ℕ → List Written → Bool

@@ -1,12 +1,12 @@
 // The shared overlays, action by action.
 ghost use Rattle.std.specs.Prelude.{◌≡◌, true};
-ghost use Rattle.directory.specs.Inner.{directoryIn, Flat};
+ghost use Rattle.directory.specs.Inner.{directory_in, Flat};
 ghost use Rattle.memory.specs.declared.span.Holder.TheVariants.{Shared};
-ghost use Rattle.memory.specs.Parts.{parts_of, partsKept};
-ghost use Rattle.replay.specs.Inner.{isWalked, Walker};
-ghost use Rattle.replay.specs.Replay.{restIn};
-ghost use Rattle.clearing.specs.Clear.{named_by, clearedKey};
-ghost use Rattle.clearing.specs.Inner.{clearedWalk};
+ghost use Rattle.memory.specs.Parts.{parts_of, parts_kept};
+ghost use Rattle.replay.specs.Inner.{is_walked, Walker};
+ghost use Rattle.replay.specs.Replay.{rest_in};
+ghost use Rattle.clearing.specs.Clear.{named_by, cleared_key};
+ghost use Rattle.clearing.specs.Inner.{cleared_walk};
 
 use directory::TableKind;
 use memory::{Counts, Holder};
@@ -50,9 +50,9 @@ fn clear_action(
     bytes: &mut [u8],
     id: u64,
 ) -> Counts
-    requires { partsKept Shared (parts_of Shared counts words.old bytes.old) ≡ true }
+    requires { parts_kept Shared (parts_of Shared counts words.old bytes.old) ≡ true }
     ensures { parts_of Shared result words.new bytes.new
-        ≡ clearedKey id (named_by action) (parts_of Shared counts words.old bytes.old) }
+        ≡ cleared_key id (named_by action) (parts_of Shared counts words.old bytes.old) }
 {
     match named_by(action) {
         NamedKey::Nothing => counts,
@@ -78,10 +78,10 @@ pub fn clear_rest(
     words: &mut [u64],
     bytes: &mut [u8],
 ) -> Counts
-    requires { Flat t.now × Walker log.now r × (partsKept Shared (parts_of Shared counts words.old bytes.old) ≡ true)
-        × (isWalked (restIn (directoryIn t.now) log.now r) ≡ true) }
+    requires { Flat t.now × Walker log.now r × (parts_kept Shared (parts_of Shared counts words.old bytes.old) ≡ true)
+        × (is_walked (rest_in (directory_in t.now) log.now r) ≡ true) }
     ensures { parts_of Shared result words.new bytes.new
-        ≡ clearedWalk r.record_id (restIn (directoryIn t.now) log.now r) (parts_of Shared counts words.old bytes.old) }
+        ≡ cleared_walk r.record_id (rest_in (directory_in t.now) log.now r) (parts_of Shared counts words.old bytes.old) }
 {
     let id = r.record_id;
     let mut at = r.position;

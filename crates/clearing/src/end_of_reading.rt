@@ -1,13 +1,13 @@
 // The end of reading a record.
 ghost use Rattle.std.specs.Prelude.{◌≡◌, true};
-ghost use Rattle.answer.specs.Answer.{lastRecordId};
-ghost use Rattle.directory.specs.Directory.{directoryKept};
-ghost use Rattle.directory.specs.Inner.{directoryIn, Flat};
+ghost use Rattle.answer.specs.Answer.{last_record_id};
+ghost use Rattle.directory.specs.Directory.{directory_kept};
+ghost use Rattle.directory.specs.Inner.{directory_in, Flat};
 ghost use Rattle.memory.specs.declared.span.Holder.TheVariants.{Shared};
-ghost use Rattle.memory.specs.Parts.{parts_of, partsKept};
-ghost use Rattle.memory.specs.Overlays.{overlaysOf};
-ghost use Rattle.clearing.specs.EndRead.{recordAgain, clearable, nextAfter, endReadBy, endRead, endReadOf};
-ghost use Rattle.clearing.specs.Inner.{nothingRead};
+ghost use Rattle.memory.specs.Parts.{parts_of, parts_kept};
+ghost use Rattle.memory.specs.Overlays.{overlays_of};
+ghost use Rattle.clearing.specs.EndRead.{record_again, clearable, next_after, end_read_by, end_read_of, end_read_of_of};
+ghost use Rattle.clearing.specs.Inner.{nothing_read};
 
 use super::clear::clear_rest;
 use answer::Answer;
@@ -33,7 +33,7 @@ fn nothing_read(
     overlays: LogOverlays,
     next: u64,
 ) -> EndRead
-    ensures { result ≡ nothingRead answer fault_at position overlays next }
+    ensures { result ≡ nothing_read answer fault_at position overlays next }
 {
     EndRead {
         answer: answer,
@@ -47,8 +47,8 @@ fn nothing_read(
 
 // No id of a record that was read is handed out again.
 fn raised(next: u64, id: u64) -> u64
-    requires { id ≡ lastRecordId → ⊥ }
-    ensures { result ≡ nextAfter next id }
+    requires { id ≡ last_record_id → ⊥ }
+    ensures { result ≡ next_after next id }
 {
     if id < next { next } else { id + 1 }
 }
@@ -63,9 +63,9 @@ fn end_read_in(
     bytes: &mut [u8],
     next: u64,
 ) -> EndRead
-    requires { Flat t.now × (partsKept Shared (parts_of Shared overlays.counts words.old bytes.old) ≡ true) }
-    ensures { endReadOf result words.new bytes.new
-        ≡ endReadBy position (overlaysOf overlays words.old bytes.old) next (clearable (recordAgain (directoryIn t.now) log.now position)) }
+    requires { Flat t.now × (parts_kept Shared (parts_of Shared overlays.counts words.old bytes.old) ≡ true) }
+    ensures { end_read_of_of result words.new bytes.new
+        ≡ end_read_by position (overlays_of overlays words.old bytes.old) next (clearable (record_again (directory_in t.now) log.now position)) }
 {
     match replay::check_record_in(t, log, position) {
         WholeAnswer::NotWhole(x) => {
@@ -107,9 +107,9 @@ pub fn end_read_kept(
     bytes: &mut [u8],
     next: u64,
 ) -> EndRead
-    requires { (directoryKept directory ≡ true) × (partsKept Shared (parts_of Shared overlays.counts words.old bytes.old) ≡ true) × (next ≡ 0 → ⊥) }
-    ensures { endReadOf result words.new bytes.new
-        ≡ endReadBy position (overlaysOf overlays words.old bytes.old) next (clearable (recordAgain directory log.now position)) }
+    requires { (directory_kept directory ≡ true) × (parts_kept Shared (parts_of Shared overlays.counts words.old bytes.old) ≡ true) × (next ≡ 0 → ⊥) }
+    ensures { end_read_of_of result words.new bytes.new
+        ≡ end_read_by position (overlays_of overlays words.old bytes.old) next (clearable (record_again directory log.now position)) }
 {
     let t = directory::flat(directory);
     end_read_in(&t, log, position, overlays, words, bytes, next)
@@ -125,8 +125,8 @@ pub fn end_read(
     bytes: &mut [u8],
     next: u64,
 ) -> EndRead
-    ensures { endReadOf result words.new bytes.new
-        ≡ endRead directory log.now position (overlaysOf overlays words.old bytes.old) next }
+    ensures { end_read_of_of result words.new bytes.new
+        ≡ end_read_of directory log.now position (overlays_of overlays words.old bytes.old) next }
 {
     if !directory.kept() {
         return nothing_read(Answer::BadState, position, position, overlays, next);

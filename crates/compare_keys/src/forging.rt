@@ -1,6 +1,6 @@
 // A key that no call would put in.
 ghost use Rattle.std.specs.Prelude.{◌+◌, ◌*◌, ◌≤◌, ◌<◌, length};
-ghost use Rattle.memory.specs.Parts.{wordsAll, bytesAll};
+ghost use Rattle.memory.specs.Parts.{words_all, bytes_all};
 
 use super::part::{part_of, slot_of};
 use compare_lines::least;
@@ -96,7 +96,7 @@ pub fn append(
     bytes: &mut [u8],
     row: Forged,
 ) -> Counts
-    requires { (wordsAll holder ≤ length words.old) × (bytesAll holder ≤ length bytes.old) }
+    requires { (words_all holder ≤ length words.old) × (bytes_all holder ≤ length bytes.old) }
 {
     let s = part_of(holder, kind);
     let a = s.words_at;

@@ -1,6 +1,6 @@
 // What is kept, with checksums for the bytes.
 ghost use Rattle.std.specs.Prelude.{◌+◌, ◌*◌, ◌≤◌, ◌<◌, length};
-ghost use Rattle.memory.specs.Parts.{wordsAll, bytesAll};
+ghost use Rattle.memory.specs.Parts.{words_all, bytes_all};
 
 use super::part::{part_of, slot_of};
 use compare_lines::{least, put};
@@ -93,7 +93,7 @@ fn put_kind(
     words: &[u64],
     bytes: &[u8],
 ) -> usize
-    requires { (at + 7682 ≤ 65536) × (wordsAll holder ≤ length words.now) × (bytesAll holder ≤ length bytes.now) }
+    requires { (at + 7682 ≤ 65536) × (words_all holder ≤ length words.now) × (bytes_all holder ≤ length bytes.now) }
     ensures { result ≤ at + 7682 }
 {
     let s = part_of(holder, kind);
@@ -122,7 +122,7 @@ pub fn put_keys(
     words: &[u64],
     bytes: &[u8],
 ) -> usize
-    requires { (at ≤ 8) × (wordsAll holder ≤ length words.now) × (bytesAll holder ≤ length bytes.now) }
+    requires { (at ≤ 8) × (words_all holder ≤ length words.now) × (bytes_all holder ≤ length bytes.now) }
     ensures { result ≤ 23054 }
 {
     let b = put_kind(answer, at, holder, TableKind::Index, counts, words, bytes);

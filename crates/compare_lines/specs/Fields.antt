@@ -13,8 +13,8 @@ unfoldable pub kind_of : ℕ → TableKind
 kind_of n = if eqb n 0 then Index else if eqb n 1 then Value else RefCount
 
 -- a command of so many bytes whose opcode wants another number of them
-unfoldable pub lengthFault : ℕ → ℕ → Fault
-lengthFault n wanted = if ltb n wanted then ShortCommand else LongCommand
+unfoldable pub length_fault : ℕ → ℕ → Fault
+length_fault n wanted = if ltb n wanted then ShortCommand else LongCommand
 
-unfoldable pub wrongLength : ℕ → ℕ → Reply
-wrongLength n wanted = Broken (lengthFault n wanted)
+unfoldable pub wrong_length : ℕ → ℕ → Reply
+wrong_length n wanted = Broken (length_fault n wanted)

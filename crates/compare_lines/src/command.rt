@@ -1,6 +1,6 @@
 // The fields of a command.
 ghost use Rattle.std.specs.Prelude.{◌≡◌, ◌≤◌, ◌<◌, length};
-ghost use Rattle.compare_lines.specs.Fields.{lengthFault};
+ghost use Rattle.compare_lines.specs.Fields.{length_fault};
 
 use super::fault::Fault;
 use super::room::least;
@@ -21,7 +21,7 @@ pub fn wide(byte: u8) -> usize
 
 // Where a command hasn't the length of its opcode.
 pub fn length_fault(length: usize, wanted: usize) -> Fault
-    ensures { result ≡ lengthFault length wanted }
+    ensures { result ≡ length_fault length wanted }
 {
     if length < wanted {
         Fault::ShortCommand

@@ -1,6 +1,6 @@
 // What a command comes to.
 ghost use Rattle.std.specs.Prelude.{◌≡◌};
-ghost use Rattle.compare_lines.specs.Fields.{wrongLength};
+ghost use Rattle.compare_lines.specs.Fields.{wrong_length};
 
 use super::command::length_fault;
 use super::fault::Fault;
@@ -16,7 +16,7 @@ pub enum Reply {
 }
 
 pub fn wrong_length(length: usize, wanted: usize) -> Reply
-    ensures { result ≡ wrongLength length wanted }
+    ensures { result ≡ wrong_length length wanted }
 {
     Reply::Broken(length_fault(length, wanted))
 }

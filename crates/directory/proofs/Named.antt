@@ -11,13 +11,13 @@ use lib.Dec.{eqb, ltb}
 use lib.ListN.{length, take, get_or, set}
 use lib.Seq.{get_or-set_same, get_or-set_other}
 use Rattle.words.specs.Choice.{if◌then◌else◌}
-use Rattle.directory.specs.Table.{sameKind, isTable}
+use Rattle.directory.specs.Table.{same_kind_of, is_table}
 use Rattle.directory.specs.Directory.{stands, apart}
-use Rattle.directory.specs.Inner.{name_of, kindNamed, among, allDistinct, Names}
+use Rattle.directory.specs.Inner.{name_of, kind_named, among, all_distinct, Names}
 use Rattle.directory.specs.declared.table.TableKind.{TableKind}
 use Rattle.directory.specs.declared.table.TableKind.TheVariants.{Index, Value, RefCount}
 use Rattle.directory.specs.declared.table.TableDescription.{TableDescription}
-use Rattle.directory.proofs.Tables.{noTable}
+use Rattle.directory.proofs.Tables.{no_table_lem}
 
 -- the same added to both
 added : (c a b : ℕ) → eqb a b ≡ eqb (c + a) (c + b)
@@ -28,7 +28,7 @@ added c a b = go (eqb a b) refl
     go false e = e ∙ sym (ne_eqb (c + a) (c + b) (λ q. eqb-false a b e (omega arith)))
 
 -- a name says kind and number
-name-same : (k l : TableKind) (a b : ℕ) → a < 65536 → b < 65536 → (sameKind k l && eqb a b) ≡ eqb (name_of k a) (name_of l b)
+name-same : (k l : TableKind) (a b : ℕ) → a < 65536 → b < 65536 → (same_kind_of k l && eqb a b) ≡ eqb (name_of k a) (name_of l b)
 name-same Index Index a b ha hb = refl
 name-same Index Value a b ha hb = sym (ne_eqb a (65536 + b) (λ q. omega arith))
 name-same Index RefCount a b ha hb = sym (ne_eqb a (131072 + b) (λ q. omega arith))
@@ -40,13 +40,13 @@ name-same RefCount Value a b ha hb = sym (ne_eqb (131072 + a) (65536 + b) (λ q.
 name-same RefCount RefCount a b ha hb = added 131072 a b
 
 pub is-named : (t : TableDescription) (kind : TableKind) (number : ℕ) → t.number < 65536 → number < 65536
-    → isTable t kind number ≡ eqb (name_of t.kind t.number) (name_of kind number)
-unfolding isTable
+    → is_table t kind number ≡ eqb (name_of t.kind t.number) (name_of kind number)
+unfolding is_table
 is-named t kind number h k = name-same t.kind kind t.number number h k
 
 -- and can be read back
-pub named-kind : (kind : TableKind) (number : ℕ) → number < 65536 → kindNamed (name_of kind number) ≡ kind
-unfolding kindNamed
+pub named-kind : (kind : TableKind) (number : ℕ) → number < 65536 → kind_named (name_of kind number) ≡ kind
+unfolding kind_named
 named-kind Index n h = rw (lt-ltb n 65536 h)
 named-kind Value n h = rw (le-ltb (65536 + n) 65536 (omega arith), lt-ltb (65536 + n) 131072 (omega arith))
 named-kind RefCount n h = rw (le-ltb (131072 + n) 65536 (omega arith), le-ltb (131072 + n) 131072 (omega arith))
@@ -61,8 +61,8 @@ named_small Index n h = omega arith
 named_small Value n h = omega arith
 named_small RefCount n h = omega arith
 
-pub renamed : (x : ℕ) → x < 196608 → name_of (kindNamed x) (x % 65536) ≡ x
-unfolding kindNamed
+pub renamed : (x : ℕ) → x < 196608 → name_of (kind_named x) (x % 65536) ≡ x
+unfolding kind_named
 renamed x h = first (ltb x 65536) refl
   where
     second : (b : Bool) → ltb x 131072 ≡ b → 65536 ≤ x → name_of (if b then Value else RefCount) (x % 65536) ≡ x
@@ -77,10 +77,10 @@ renamed x h = first (ltb x 65536) refl
 
 -- one name more
 pub names_more : (ns : List ℕ) (ts : List TableDescription) (i x : ℕ) → i < length ns → Names ns ts i
-    → x ≡ name_of (get_or ts i noTable).kind (get_or ts i noTable).number → (get_or ts i noTable).number < 65536 → Names (set ns i x) ts (i + 1)
+    → x ≡ name_of (get_or ts i no_table_lem).kind (get_or ts i no_table_lem).number → (get_or ts i no_table_lem).number < 65536 → Names (set ns i x) ts (i + 1)
 names_more ns ts i x room h e l = record {
-  name = λ k m. ⊎_elim (λ q. subst (λ (j : ℕ). get_or (set ns i x) j 0 ≡ name_of (get_or ts j noTable).kind (get_or ts j noTable).number) (sym q) (get_or-set_same ns i x 0 room ∙ e)) (λ q. get_or-set_other ns i k x 0 (λ r. omega arith) ∙ h.name k q) (eq-or-lt_of_le (omega arith));
-  small = λ k m. ⊎_elim (λ q. subst (λ (j : ℕ). (get_or ts j noTable).number < 65536) (sym q) l) (h.small k) (eq-or-lt_of_le (omega arith));
+  name = λ k m. ⊎_elim (λ q. subst (λ (j : ℕ). get_or (set ns i x) j 0 ≡ name_of (get_or ts j no_table_lem).kind (get_or ts j no_table_lem).number) (sym q) (get_or-set_same ns i x 0 room ∙ e)) (λ q. get_or-set_other ns i k x 0 (λ r. omega arith) ∙ h.name k q) (eq-or-lt_of_le (omega arith));
+  small = λ k m. ⊎_elim (λ q. subst (λ (j : ℕ). (get_or ts j no_table_lem).number < 65536) (sym q) l) (h.small k) (eq-or-lt_of_le (omega arith));
 }
 
 behind : {x : ℕ} {ns : List ℕ} {t : TableDescription} {ts : List TableDescription} {n : ℕ} → Names (x ∷ ns) (t ∷ ts) (suc n) → Names ns ts n
@@ -98,8 +98,8 @@ stands-among (suc n) (x ∷ ns) (t ∷ ts) l m h kind number k =
     (stands-among n ns ts (le_of_suc-le-suc l) (le_of_suc-le-suc m) (behind h) kind number k)
 
 pub apart_distinct : (n : ℕ) (ns : List ℕ) (ts : List TableDescription) → n ≤ length ns → n ≤ length ts → Names ns ts n
-    → allDistinct (take n ns) ≡ apart (take n ts)
-unfolding apart allDistinct
+    → all_distinct (take n ns) ≡ apart (take n ts)
+unfolding apart all_distinct
 apart_distinct zero ns ts l m h = refl
 apart_distinct (suc n) [] ts l m h = absurd (omega arith)
 apart_distinct (suc n) (x ∷ ns) [] l m h = absurd (omega arith)
@@ -129,10 +129,10 @@ unlike-more x y ys = go (eqb y x)
     go true = refl
     go false = refl
 
-pub distinct-start : allDistinct [] ≡ true
-unfolding allDistinct
+pub distinct-start : all_distinct [] ≡ true
+unfolding all_distinct
 distinct-start = refl
 
-pub distinct_more : (x : ℕ) (xs : List ℕ) → allDistinct (x ∷ xs) ≡ unlike x xs && allDistinct xs
-unfolding allDistinct
+pub distinct_more : (x : ℕ) (xs : List ℕ) → all_distinct (x ∷ xs) ≡ unlike x xs && all_distinct xs
+unfolding all_distinct
 distinct_more x xs = refl

@@ -11,25 +11,25 @@ use borrow.Author.Tests.{leb-true, eq-eqb, ne_eqb}
 use lib.Dec.{eqb, leb}
 use lib.ListN.{length, take, drop, get_or, set, length-set}
 use lib.Seq.{get_or-set_same, get_or-set_other, length-take-le, take-suc, take-take, ext_get_or}
-use Rattle.directory.specs.Table.{isTable, size_of, description}
-use Rattle.directory.specs.Directory.{tables_of, findFrom, findTable, eachKept, apart, sizesOf, start_of, directoryKept}
-use Rattle.directory.specs.Inner.{name_of, row_in, rowsIn, directoryIn, Flat, Row, Rows}
+use Rattle.directory.specs.Table.{is_table, size_of, description}
+use Rattle.directory.specs.Directory.{tables_of, find_from, find_table, each_kept, apart, sizes_of, start_of, directory_kept}
+use Rattle.directory.specs.Inner.{name_of, row_in, rows_in, directory_in, Flat, Row, Rows}
 use Rattle.directory.specs.declared.table.TableKind.{TableKind}
 use Rattle.directory.specs.declared.table.TableDescription.{TableDescription}
 use Rattle.directory.specs.declared.directory.Directory.{Directory}
 use Rattle.directory.specs.declared.directory.Found.TheVariants.{At, Nothing}
 use Rattle.directory.proofs.Named.{is-named, named-kind, named-number, named_small, renamed}
-use Rattle.directory.proofs.Tables.{noTable, hit, miss, past, found_within}
+use Rattle.directory.proofs.Tables.{no_table_lem, hit, miss, past, found_within}
 
 -- ---- the rows that are read
 
-pub rows-length : (t : List ℕ) (i n : ℕ) → length (rowsIn t i n) ≡ n
-unfolding rowsIn
+pub rows-length : (t : List ℕ) (i n : ℕ) → length (rows_in t i n) ≡ n
+unfolding rows_in
 rows-length t i zero = refl
 rows-length t i (suc n) = ap suc (rows-length t (suc i) n)
 
-pub rows_at : (t : List ℕ) (i n k : ℕ) → k < n → get_or (rowsIn t i n) k noTable ≡ row_in t (i + k)
-unfolding rowsIn
+pub rows_at : (t : List ℕ) (i n k : ℕ) → k < n → get_or (rows_in t i n) k no_table_lem ≡ row_in t (i + k)
+unfolding rows_in
 rows_at t i zero k h = absurd (omega arith)
 rows_at t i (suc n) zero h = ap (row_in t) (sym (add-zero i))
 rows_at t i (suc n) (suc k) h = rows_at t (suc i) n k (le_of_suc-le-suc h) ∙ ap (row_in t) (suc-add i k ∙ sym (add-suc i k))
@@ -129,23 +129,23 @@ keeps t u i x start s r = record {
 
 -- ---- row by row
 
-sizes-append : (xs ys : List TableDescription) → sizesOf (xs ++ ys) ≡ sizesOf xs + sizesOf ys
-unfolding sizesOf
-sizes-append [] ys = omega arith
-sizes-append (x ∷ xs) ys = omega (arith, sizes-append xs ys)
+sizes_append : (xs ys : List TableDescription) → sizes_of (xs ++ ys) ≡ sizes_of xs + sizes_of ys
+unfolding sizes_of
+sizes_append [] ys = omega arith
+sizes_append (x ∷ xs) ys = omega (arith, sizes_append xs ys)
 
 -- one table more
-pub sizes-more : (ts : List TableDescription) (i : ℕ) → i < length ts → sizesOf (take (i + 1) ts) ≡ sizesOf (take i ts) + size_of (get_or ts i noTable)
-unfolding sizesOf
-sizes-more ts i h = rw (add-one, take-suc ts i noTable) (sizes-append (take i ts) (get_or ts i noTable ∷ []) ∙ omega arith)
+pub sizes_more : (ts : List TableDescription) (i : ℕ) → i < length ts → sizes_of (take (i + 1) ts) ≡ sizes_of (take i ts) + size_of (get_or ts i no_table_lem)
+unfolding sizes_of
+sizes_more ts i h = rw (add-one, take-suc ts i no_table_lem) (sizes_append (take i ts) (get_or ts i no_table_lem ∷ []) ∙ omega arith)
 
-pub rows_more : (t u : List ℕ) (ts : List TableDescription) (i start : ℕ) → Rows u ts i → Row t i (get_or ts i noTable) start → start ≡ sizesOf (take i ts)
+pub rows_more : (t u : List ℕ) (ts : List TableDescription) (i start : ℕ) → Rows u ts i → Row t i (get_or ts i no_table_lem) start → start ≡ sizes_of (take i ts)
     → ((k : ℕ) → k < 5 * i → get_or t k 0 ≡ get_or u k 0) → Rows t ts (i + 1)
 rows_more t u ts i start r new e same = record { row = at }
   where
-    earlier : (k : ℕ) → k < i → Row t k (get_or ts k noTable) (sizesOf (take k ts))
+    earlier : (k : ℕ) → k < i → Row t k (get_or ts k no_table_lem) (sizes_of (take k ts))
     earlier k h =
-        keeps t u k (get_or ts k noTable) (sizesOf (take k ts))
+        keeps t u k (get_or ts k no_table_lem) (sizes_of (take k ts))
         (record {
           zeroth = same (5 * k) (omega arith);
           first = same (5 * k + 1) (omega arith);
@@ -155,17 +155,17 @@ rows_more t u ts i start r new e same = record { row = at }
         })
         (r.row k h)
 
-    own : (k : ℕ) → k ≡ i → Row t k (get_or ts k noTable) (sizesOf (take k ts))
-    own k q = subst (λ (j : ℕ). Row t j (get_or ts j noTable) (sizesOf (take j ts))) (sym q) (subst (Row t i (get_or ts i noTable)) e new)
+    own : (k : ℕ) → k ≡ i → Row t k (get_or ts k no_table_lem) (sizes_of (take k ts))
+    own k q = subst (λ (j : ℕ). Row t j (get_or ts j no_table_lem) (sizes_of (take j ts))) (sym q) (subst (Row t i (get_or ts i no_table_lem)) e new)
 
-    at : (k : ℕ) → k < i + 1 → Row t k (get_or ts k noTable) (sizesOf (take k ts))
+    at : (k : ℕ) → k < i + 1 → Row t k (get_or ts k no_table_lem) (sizes_of (take k ts))
     at k h = ⊎_elim (own k) (earlier k) (eq-or-lt_of_le (omega arith))
 
 -- ---- all of them, and the count
 
-pub kept-few : (d : Directory) → directoryKept d ≡ true → d.count ≤ 16
-unfolding directoryKept
-kept-few d e = leb-true d.count 16 ((and-eq-true_iff (leb d.count 16) (eachKept (tables_of d) && apart (tables_of d))).0 e).0
+pub kept-few : (d : Directory) → directory_kept d ≡ true → d.count ≤ 16
+unfolding directory_kept
+kept-few d e = leb-true d.count 16 ((and-eq-true_iff (leb d.count 16) (each_kept (tables_of d) && apart (tables_of d))).0 e).0
 
 module _ (t : List ℕ) (d : Directory) (long : length t ≡ 81) (sixteen : length d.tables ≡ 16) (r : Rows t d.tables 16) where
   abbrev pub whole : List ℕ
@@ -174,9 +174,9 @@ module _ (t : List ℕ) (d : Directory) (long : length t ≡ 81) (sixteen : leng
   counted : get_or whole 80 0 ≡ d.count
   counted = get_or-set_same t 80 d.count 0 (omega arith)
 
-  row_of : (k : ℕ) → k < 16 → Row whole k (get_or d.tables k noTable) (sizesOf (take k d.tables))
+  row_of : (k : ℕ) → k < 16 → Row whole k (get_or d.tables k no_table_lem) (sizes_of (take k d.tables))
   row_of k h =
-      keeps whole t k (get_or d.tables k noTable) (sizesOf (take k d.tables))
+      keeps whole t k (get_or d.tables k no_table_lem) (sizes_of (take k d.tables))
       (record {
         zeroth = get_or-set_other t 80 (5 * k) d.count 0 (λ q. omega arith);
         first = get_or-set_other t 80 (5 * k + 1) d.count 0 (λ q. omega arith);
@@ -187,16 +187,16 @@ module _ (t : List ℕ) (d : Directory) (long : length t ≡ 81) (sixteen : leng
       (r.row k h)
 
   -- nothing is lost
-  pub whole-directory : directoryIn whole ≡ d
-  unfolding directoryIn
+  pub whole-directory : directory_in whole ≡ d
+  unfolding directory_in
   whole-directory =
       let of : List TableDescription → ℕ → Directory = λ ts n. record { tables = ts; count = n } in
       ap₂ of
-      (ext_get_or noTable (rowsIn whole 0 16) d.tables (rows-length whole 0 16 ∙ sym sixteen)
+      (ext_get_or no_table_lem (rows_in whole 0 16) d.tables (rows-length whole 0 16 ∙ sym sixteen)
       (λ k h. let l : k < 16 = omega (arith, rows-length whole 0 16) in rows_at whole 0 16 k l ∙ ap (row_in whole) (zero-add k) ∙ (row_of k l).same))
       counted
 
-  module _ (kept : directoryKept d ≡ true) (few : d.count ≤ 16) where
+  module _ (kept : directory_kept d ≡ true) (few : d.count ≤ 16) where
     pub whole-flat : Flat whole
     unfolding start_of
     whole-flat = record {
@@ -207,7 +207,7 @@ module _ (t : List ℕ) (d : Directory) (long : length t ≡ 81) (sixteen : leng
           λ k h.
           let l : k < d.count = omega (arith, counted) in
           (row_of k (omega arith)).begins
-          ∙ ap sizesOf (sym (take-take k d.count d.tables (omega arith)))
+          ∙ ap sizes_of (sym (take-take k d.count d.tables (omega arith)))
           ∙ ap (λ (e : Directory). start_of e k) (sym whole-directory);
     }
 
@@ -219,37 +219,37 @@ pub plain_row : (t : List ℕ) (i : ℕ) (kind : TableKind) (number : ℕ) → n
 plain_row t i kind number h e = rw (e, named-kind kind number h, named-number kind number h)
 
 module _ (t : List ℕ) (f : Flat t) (kind : TableKind) (number : ℕ) (small : number < 65536) (i : ℕ) where
-  fits : get_or t 80 0 ≤ length (rowsIn t 0 16)
+  fits : get_or t 80 0 ≤ length (rows_in t 0 16)
   fits = omega (arith, f.few, rows-length t 0 16)
 
-  row_at : i < get_or t 80 0 → get_or (rowsIn t 0 16) i noTable ≡ row_in t i
+  row_at : i < get_or t 80 0 → get_or (rows_in t 0 16) i no_table_lem ≡ row_in t i
   row_at h = rows_at t 0 16 i (omega (arith, f.few)) ∙ ap (row_in t) (zero-add i)
 
-  is_row : i < get_or t 80 0 → isTable (get_or (rowsIn t 0 16) i noTable) kind number ≡ eqb (get_or t (5 * i) 0) (name_of kind number)
+  is_row : i < get_or t 80 0 → is_table (get_or (rows_in t 0 16) i no_table_lem) kind number ≡ eqb (get_or t (5 * i) 0) (name_of kind number)
   is_row h =
-      ap (λ (x : TableDescription). isTable x kind number) (row_at h)
+      ap (λ (x : TableDescription). is_table x kind number) (row_at h)
       ∙ is-named (row_in t i) kind number (omega arith) small
       ∙ ap (λ (x : ℕ). eqb x (name_of kind number)) (renamed (get_or t (5 * i) 0) (f.rows i (omega (arith, f.few))).name)
 
-  pub plain-hit : i < get_or t 80 0 → get_or t (5 * i) 0 ≡ name_of kind number → findFrom i (drop i (take (get_or t 80 0) (rowsIn t 0 16))) kind number ≡ At i (row_in t i)
+  pub plain-hit : i < get_or t 80 0 → get_or t (5 * i) 0 ≡ name_of kind number → find_from i (drop i (take (get_or t 80 0) (rows_in t 0 16))) kind number ≡ At i (row_in t i)
   plain-hit h e =
-      hit (rowsIn t 0 16) (get_or t 80 0) fits kind number i noTable h (is_row h ∙ eq-eqb (get_or t (5 * i) 0) (name_of kind number) e) ∙ ap (At i) (row_at h)
+      hit (rows_in t 0 16) (get_or t 80 0) fits kind number i no_table_lem h (is_row h ∙ eq-eqb (get_or t (5 * i) 0) (name_of kind number) e) ∙ ap (At i) (row_at h)
 
   pub plain-miss : i < get_or t 80 0 → (get_or t (5 * i) 0 ≡ name_of kind number → ⊥)
-      → findFrom i (drop i (take (get_or t 80 0) (rowsIn t 0 16))) kind number ≡ findFrom (i + 1) (drop (i + 1) (take (get_or t 80 0) (rowsIn t 0 16))) kind number
-  plain-miss h e = miss (rowsIn t 0 16) (get_or t 80 0) fits kind number i noTable h (is_row h ∙ ne_eqb (get_or t (5 * i) 0) (name_of kind number) e)
+      → find_from i (drop i (take (get_or t 80 0) (rows_in t 0 16))) kind number ≡ find_from (i + 1) (drop (i + 1) (take (get_or t 80 0) (rows_in t 0 16))) kind number
+  plain-miss h e = miss (rows_in t 0 16) (get_or t 80 0) fits kind number i no_table_lem h (is_row h ∙ ne_eqb (get_or t (5 * i) 0) (name_of kind number) e)
 
-  pub plain-past : get_or t 80 0 ≤ i → findFrom i (drop i (take (get_or t 80 0) (rowsIn t 0 16))) kind number ≡ Nothing
-  plain-past h = past (rowsIn t 0 16) (get_or t 80 0) fits kind number i h
+  pub plain-past : get_or t 80 0 ≤ i → find_from i (drop i (take (get_or t 80 0) (rows_in t 0 16))) kind number ≡ Nothing
+  plain-past h = past (rows_in t 0 16) (get_or t 80 0) fits kind number i h
 
 -- the whole search
-pub plain-whole : (t : List ℕ) (kind : TableKind) (number : ℕ) → findFrom 0 (take (get_or t 80 0) (rowsIn t 0 16)) kind number ≡ findTable (directoryIn t) kind number
-unfolding findTable directoryIn
+pub plain-whole : (t : List ℕ) (kind : TableKind) (number : ℕ) → find_from 0 (take (get_or t 80 0) (rows_in t 0 16)) kind number ≡ find_table (directory_in t) kind number
+unfolding find_table directory_in
 plain-whole t kind number = refl
 
 -- a table that was found is in use
-pub plain-found : (t : List ℕ) (f : Flat t) (kind : TableKind) (number row : ℕ) (x : TableDescription) → findTable (directoryIn t) kind number ≡ At row x
+pub plain-found : (t : List ℕ) (f : Flat t) (kind : TableKind) (number row : ℕ) (x : TableDescription) → find_table (directory_in t) kind number ≡ At row x
     → row < get_or t 80 0
 plain-found t f kind number row x e =
-    let l : length (take (get_or t 80 0) (rowsIn t 0 16)) ≡ get_or t 80 0 = length-take-le (get_or t 80 0) (rowsIn t 0 16) (omega (arith, f.few, rows-length t 0 16)) in
-    omega (arith, found_within 0 (take (get_or t 80 0) (rowsIn t 0 16)) kind number row x (plain-whole t kind number ∙ e))
+    let l : length (take (get_or t 80 0) (rows_in t 0 16)) ≡ get_or t 80 0 = length-take-le (get_or t 80 0) (rows_in t 0 16) (omega (arith, f.few, rows-length t 0 16)) in
+    omega (arith, found_within 0 (take (get_or t 80 0) (rows_in t 0 16)) kind number row x (plain-whole t kind number ∙ e))

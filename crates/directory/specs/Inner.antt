@@ -2,7 +2,7 @@
 use Rattle.std.specs.Prelude.{◌≡◌, Bool, true, false, ◌&&◌, ◌||◌, not, List, [], ◌∷◌, ℕ, zero, suc, ◌+◌, ◌*◌, ◌%◌, ◌≤◌, ◌<◌, eqb, ltb, get_or, take}
 use Rattle.words.specs.Choice.{if◌then◌else◌}
 use Rattle.directory.specs.Table.{description}
-use Rattle.directory.specs.Directory.{directoryKept, sizesOf, start_of}
+use Rattle.directory.specs.Directory.{directory_kept, sizes_of, start_of}
 use Rattle.directory.specs.declared.table.TableKind.{TableKind}
 use Rattle.directory.specs.declared.table.TableKind.TheVariants.{Index, Value, RefCount}
 use Rattle.directory.specs.declared.table.TableDescription.{TableDescription}
@@ -15,8 +15,8 @@ name_of Value number = 65536 + number
 name_of RefCount number = 131072 + number
 
 -- the kind in such a number
-unfoldable pub kindNamed : ℕ → TableKind
-kindNamed name = if ltb name 65536 then Index else if ltb name 131072 then Value else RefCount
+unfoldable pub kind_named : ℕ → TableKind
+kind_named name = if ltb name 65536 then Index else if ltb name 131072 then Value else RefCount
 
 -- whether a number is one of several
 unfoldable pub among : ℕ → List ℕ → Bool
@@ -24,24 +24,24 @@ among x [] = false
 among x (y ∷ ys) = eqb y x || among x ys
 
 -- no two are one
-unfoldable pub allDistinct : List ℕ → Bool
-allDistinct [] = true
-allDistinct (x ∷ xs) = not (among x xs) && allDistinct xs
+unfoldable pub all_distinct : List ℕ → Bool
+all_distinct [] = true
+all_distinct (x ∷ xs) = not (among x xs) && all_distinct xs
 
 -- a directory as 81 numbers, five a table: name, count, length of a value, column, start in the image; and how many tables there are.
 -- The table in row i:
 abbrev pub row_in : List ℕ → ℕ → TableDescription
 row_in t i =
-    description (kindNamed (get_or t (5 * i) 0)) (get_or t (5 * i) 0 % 65536) (get_or t (5 * i + 3) 0) (get_or t (5 * i + 1) 0) (get_or t (5 * i + 2) 0)
+    description (kind_named (get_or t (5 * i) 0)) (get_or t (5 * i) 0 % 65536) (get_or t (5 * i + 3) 0) (get_or t (5 * i + 1) 0) (get_or t (5 * i + 2) 0)
 
 -- n of them from row i on
-unfoldable pub rowsIn : List ℕ → ℕ → ℕ → List TableDescription
-rowsIn t i zero = []
-rowsIn t i (suc n) = row_in t i ∷ rowsIn t (suc i) n
+unfoldable pub rows_in : List ℕ → ℕ → ℕ → List TableDescription
+rows_in t i zero = []
+rows_in t i (suc n) = row_in t i ∷ rows_in t (suc i) n
 
 -- the directory that they are
-unfoldable pub directoryIn : List ℕ → Directory
-directoryIn t = record { tables = rowsIn t 0 16; count = get_or t 80 0 }
+unfoldable pub directory_in : List ℕ → Directory
+directory_in t = record { tables = rows_in t 0 16; count = get_or t 80 0 }
 
 -- each number of a row is within its field's range
 pub record RowFits (t : List ℕ) (i : ℕ) : Type 0 where
@@ -52,10 +52,10 @@ pub record RowFits (t : List ℕ) (i : ℕ) : Type 0 where
 
 -- numbers that are a directory which keeps its rules
 pub record Flat (t : List ℕ) : Type 0 where
-  pub kept : directoryKept (directoryIn t) ≡ true
+  pub kept : directory_kept (directory_in t) ≡ true
   pub few : get_or t 80 0 ≤ 16
   pub rows : (i : ℕ) → i < 16 → RowFits t i
-  pub starts : (i : ℕ) → i < get_or t 80 0 → get_or t (5 * i + 4) 0 ≡ start_of (directoryIn t) i
+  pub starts : (i : ℕ) → i < get_or t 80 0 → get_or t (5 * i + 4) 0 ≡ start_of (directory_in t) i
 
 -- row i of them, as it was written
 pub record Row (t : List ℕ) (i : ℕ) (x : TableDescription) (start : ℕ) : Type 0 where
@@ -65,7 +65,7 @@ pub record Row (t : List ℕ) (i : ℕ) (x : TableDescription) (start : ℕ) : T
 
 -- the first n rows of them, with the sizes of the tables before each
 pub record Rows (t : List ℕ) (ts : List TableDescription) (n : ℕ) : Type 0 where
-  pub row : (i : ℕ) → i < n → Row t i (get_or ts i (description Index 0 0 0 0)) (sizesOf (take i ts))
+  pub row : (i : ℕ) → i < n → Row t i (get_or ts i (description Index 0 0 0 0)) (sizes_of (take i ts))
 
 -- the names of the first n tables
 pub record Names (names : List ℕ) (ts : List TableDescription) (n : ℕ) : Type 0 where

@@ -1,7 +1,7 @@
 // A directory as plain numbers, which a walk over many actions writes once and lends: a directory by value is copied at every call.
 ghost use Rattle.std.specs.Prelude.{◌≡◌, true, ℕ, ◌+◌, ◌*◌, ◌<◌, length, get_or};
-ghost use Rattle.directory.specs.Directory.{findTable, directoryKept, start_of};
-ghost use Rattle.directory.specs.Inner.{name_of, row_in, directoryIn, Flat, Row, Rows};
+ghost use Rattle.directory.specs.Directory.{find_table, directory_kept, start_of};
+ghost use Rattle.directory.specs.Inner.{name_of, row_in, directory_in, Flat, Row, Rows};
 
 use super::directory::{Directory, Found};
 use super::table::{TableDescription, TableKind};
@@ -36,8 +36,8 @@ fn put_rows(d: Directory) -> [u64; 81]
 }
 
 pub fn flat(d: Directory) -> [u64; 81]
-    requires { directoryKept d ≡ true }
-    ensures { (directoryIn result ≡ d) × Flat result }
+    requires { directory_kept d ≡ true }
+    ensures { (directory_in result ≡ d) × Flat result }
 {
     let mut t = put_rows(d);
     t[80] = d.count as u64;
@@ -61,7 +61,7 @@ fn row_in(t: &[u64; 81], i: usize, kind: TableKind, number: u16) -> TableDescrip
 // As `Directory::find`.
 pub fn find_in(t: &[u64; 81], kind: TableKind, number: u16) -> Found
     requires { Flat t.now }
-    ensures { result ≡ findTable (directoryIn t.now) kind number }
+    ensures { result ≡ find_table (directory_in t.now) kind number }
 {
     let name = kind.name(number);
     let n = t[80] as usize;
@@ -78,7 +78,7 @@ pub fn find_in(t: &[u64; 81], kind: TableKind, number: u16) -> Found
 // As `Directory::start`, for a row that is in use.
 pub fn start_in(t: &[u64; 81], row: usize) -> usize
     requires { Flat t.now × (row < get_or t.now 80 0) }
-    ensures { result ≡ start_of (directoryIn t.now) row }
+    ensures { result ≡ start_of (directory_in t.now) row }
 {
     t[5 * row + 4] as usize
 }

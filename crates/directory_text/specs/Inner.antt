@@ -2,8 +2,8 @@
 use Rattle.std.specs.Prelude.{◌≡◌, List, ℕ, ◌≤◌, length, drop}
 use Rattle.words.specs.Choice.{if◌then◌else◌}
 use Rattle.directory.specs.declared.table.TableKind.{TableKind}
-use Rattle.directory_text.specs.Scan.{scansPast, behind, is_none}
-use Rattle.directory_text.specs.Line.{isAny, fitted, numberThen, lengthIn}
+use Rattle.directory_text.specs.Scan.{scans_past, behind, is_none}
+use Rattle.directory_text.specs.Line.{is_any, fitted, number_then, length_in}
 use Rattle.directory_text.specs.declared.scan.Pass.TheVariants.{Blanks}
 use Rattle.directory_text.specs.declared.number.Number.{Number}
 use Rattle.directory_text.specs.declared.fault.Fault.{Fault}
@@ -17,33 +17,33 @@ abbrev pub stopped : ℕ → Fault → Taken
 stopped next fault = record { value = 0; next = next; fault = fault }
 
 -- a fault, or else a line
-unfoldable pub orLine : Fault → Line → Line
-orLine fault l = if isAny fault then Broken fault else l
+unfoldable pub or_line : Fault → Line → Line
+or_line fault l = if is_any fault then Broken fault else l
 
 -- what comes of a number that was read and of what stands behind it
-unfoldable pub onTaken : List ℕ → Taken → (ℕ → List ℕ → Line) → Line
-onTaken code t go = orLine t.fault (go t.value (drop t.next code))
+unfoldable pub on_taken : List ℕ → Taken → (ℕ → List ℕ → Line) → Line
+on_taken code t go = or_line t.fault (go t.value (drop t.next code))
 
 pub record Fitted (number : Number) (which most next : ℕ) (t : Taken) : Type 0 where
   pub small : t.value ≤ most
   pub behind : t.next ≡ next
-  pub same : (go : ℕ → Line) → fitted which most number go ≡ orLine t.fault (go t.value)
+  pub same : (go : ℕ → Line) → fitted which most number go ≡ or_line t.fault (go t.value)
 
 pub record Took (code : List ℕ) (from which most : ℕ) (t : Taken) : Type 0 where
   pub small : t.value ≤ most
   pub within : t.next ≤ length code
-  pub same : (go : ℕ → List ℕ → Line) → numberThen which most (drop from code) go ≡ onTaken code t go
+  pub same : (go : ℕ → List ℕ → Line) → number_then which most (drop from code) go ≡ on_taken code t go
 
 pub record TookBehind (code : List ℕ) (before : Taken) (which most : ℕ) (t : Taken) : Type 0 where
   pub small : t.value ≤ most
   pub within : t.next ≤ length code
-  pub same : (go : ℕ → List ℕ → Line) → orLine before.fault (numberThen which most (drop before.next code) go) ≡ onTaken code t go
+  pub same : (go : ℕ → List ℕ → Line) → or_line before.fault (number_then which most (drop before.next code) go) ≡ on_taken code t go
 
 pub record TookLength (code : List ℕ) (before : Taken) (kind : TableKind) (t : Taken) : Type 0 where
   pub small : t.value ≤ 65535
   pub within : t.next ≤ length code
-  pub same : (go : ℕ → List ℕ → Line) → orLine before.fault (lengthIn kind (drop before.next code) go) ≡ onTaken code t go
+  pub same : (go : ℕ → List ℕ → Line) → or_line before.fault (length_in kind (drop before.next code) go) ≡ on_taken code t go
 
 -- nothing but blanks may stand behind the last number
 pub record Ended (code : List ℕ) (last : Taken) (fault : Fault) : Type 0 where
-  pub same : (l : Line) → orLine last.fault (if is_none (behind (scansPast Blanks) (drop last.next code)) then l else Broken MoreWords) ≡ orLine fault l
+  pub same : (l : Line) → or_line last.fault (if is_none (behind (scans_past Blanks) (drop last.next code)) then l else Broken MoreWords) ≡ or_line fault l

@@ -5,14 +5,14 @@ use Rattle.directory_text.specs.declared.scan.Pass.{Pass}
 use Rattle.directory_text.specs.declared.scan.Pass.TheVariants.{Blanks, Word, Before}
 
 -- a space, a tab, or a carriage return
-unfoldable pub isBlank : ℕ → Bool
-isBlank b = eqb b 32 || (eqb b 9 || eqb b 13)
+unfoldable pub is_blank : ℕ → Bool
+is_blank b = eqb b 32 || (eqb b 9 || eqb b 13)
 
 -- what is passed over
-unfoldable pub scansPast : Pass → ℕ → Bool
-scansPast Blanks b = isBlank b
-scansPast Word b = not (isBlank b)
-scansPast (Before c) b = not (eqb b c)
+unfoldable pub scans_past : Pass → ℕ → Bool
+scans_past Blanks b = is_blank b
+scans_past Word b = not (is_blank b)
+scans_past (Before c) b = not (eqb b c)
 
 -- the bytes in front that pass, up to the first that doesn't
 unfoldable pub front : (ℕ → Bool) → List ℕ → List ℕ
@@ -26,11 +26,11 @@ behind p (b ∷ bs) = if p b then behind p bs else b ∷ bs
 
 -- the first word, and what stands behind it
 unfoldable pub word_of : List ℕ → List ℕ
-word_of bs = front (scansPast Word) (behind (scansPast Blanks) bs)
+word_of bs = front (scans_past Word) (behind (scans_past Blanks) bs)
 
 -- what stands behind the first word
-unfoldable pub behindWord : List ℕ → List ℕ
-behindWord bs = behind (scansPast Word) (behind (scansPast Blanks) bs)
+unfoldable pub behind_word : List ℕ → List ℕ
+behind_word bs = behind (scans_past Word) (behind (scans_past Blanks) bs)
 
 -- whether there are no bytes
 unfoldable pub is_none : List ℕ → Bool
@@ -38,18 +38,18 @@ is_none [] = true
 is_none (b ∷ bs) = false
 
 -- whether two words are one
-unfoldable pub sameBytes : List ℕ → List ℕ → Bool
-sameBytes [] [] = true
-sameBytes [] (b ∷ bs) = false
-sameBytes (a ∷ l) [] = false
-sameBytes (a ∷ l) (b ∷ bs) = eqb a b && sameBytes l bs
+unfoldable pub same_bytes : List ℕ → List ℕ → Bool
+same_bytes [] [] = true
+same_bytes [] (b ∷ bs) = false
+same_bytes (a ∷ l) [] = false
+same_bytes (a ∷ l) (b ∷ bs) = eqb a b && same_bytes l bs
 
 -- a byte in front of the first line
-unfoldable pub onFirst : ℕ → List (List ℕ) → List (List ℕ)
-onFirst b [] = (b ∷ []) ∷ []
-onFirst b (l ∷ ls) = (b ∷ l) ∷ ls
+unfoldable pub on_first : ℕ → List (List ℕ) → List (List ℕ)
+on_first b [] = (b ∷ []) ∷ []
+on_first b (l ∷ ls) = (b ∷ l) ∷ ls
 
 -- the lines of a text: each ends at a line feed, the last one may lack it
-unfoldable pub textLines : List ℕ → List (List ℕ)
-textLines [] = []
-textLines (b ∷ bs) = if eqb b 10 then [] ∷ textLines bs else onFirst b (textLines bs)
+unfoldable pub text_lines : List ℕ → List (List ℕ)
+text_lines [] = []
+text_lines (b ∷ bs) = if eqb b 10 then [] ∷ text_lines bs else on_first b (text_lines bs)

@@ -1,6 +1,6 @@
 // What can be wrong in a line.
 ghost use Rattle.std.specs.Prelude.{◌≡◌};
-ghost use Rattle.directory_text.specs.Line.{isAny};
+ghost use Rattle.directory_text.specs.Line.{is_any};
 
 // A number is given by its place in its line, from 1 on.
 #[derive(Drop)]
@@ -18,7 +18,7 @@ pub enum Fault {
 
 impl Fault {
     pub fn is_any(self) -> bool
-        ensures { result ≡ isAny self }
+        ensures { result ≡ is_any self }
     {
         match self {
             Fault::None => false,

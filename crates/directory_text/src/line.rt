@@ -1,6 +1,6 @@
 // A line of the text.
 ghost use Rattle.std.specs.Prelude.{◌≡◌, ◌≤◌, length, drop};
-ghost use Rattle.directory_text.specs.Line.{tableIn, kindIn, code_in, lineIn};
+ghost use Rattle.directory_text.specs.Line.{table_in, kind_in, code_in, line_in};
 ghost use Rattle.directory_text.specs.Inner.{stopped, Fitted, Took, TookBehind, TookLength, Ended};
 
 use super::fault::Fault;
@@ -109,7 +109,7 @@ fn fault_at_end(code: &[u8], last: Taken) -> Fault
 
 fn table_of(code: &[u8], from: usize, kind: TableKind) -> Line
     requires { from ≤ length code.now }
-    ensures { result ≡ tableIn kind (drop from code.now) }
+    ensures { result ≡ table_in kind (drop from code.now) }
 {
     let number = number_at(code, from, 1, 65535);
     let column = number_behind(code, number, 2, 255);
@@ -131,7 +131,7 @@ fn table_of(code: &[u8], from: usize, kind: TableKind) -> Line
 // What a line comes to by its first word, behind which it goes on at a place.
 fn table_for(word: &[u8], code: &[u8], next: usize) -> Line
     requires { next ≤ length code.now }
-    ensures { result ≡ kindIn word.now (drop next code.now) }
+    ensures { result ≡ kind_in word.now (drop next code.now) }
 {
     if same(word, b"index") {
         return table_of(code, next, TableKind::Index);
@@ -158,7 +158,7 @@ fn code_of(code: &[u8]) -> Line
 }
 
 pub fn line_of(line: &[u8]) -> Line
-    ensures { result ≡ lineIn line.now }
+    ensures { result ≡ line_in line.now }
 {
     let stop = pass_over(line, 0, Pass::Before(b'#'));
     code_of(&line[0..stop])

@@ -1,6 +1,6 @@
 // Decimal numbers below 2^64.
 ghost use Rattle.std.specs.Prelude.{◌≡◌, ◌≤◌};
-ghost use Rattle.directory_text.specs.Number.{decimalDigit, wordNumber};
+ghost use Rattle.directory_text.specs.Number.{decimal_digit, word_number};
 
 #[derive(Drop)]
 pub enum Number {
@@ -10,7 +10,7 @@ pub enum Number {
 }
 
 fn digit_of(character: u8) -> u64
-    ensures { (result ≡ decimalDigit character) × (result ≤ 10) }
+    ensures { (result ≡ decimal_digit character) × (result ≤ 10) }
 {
     if character < 48 {
         return 10;
@@ -22,7 +22,7 @@ fn digit_of(character: u8) -> u64
 }
 
 pub fn number_of(word: &[u8]) -> Number
-    ensures { result ≡ wordNumber word.now }
+    ensures { result ≡ word_number word.now }
 {
     if word.len() == 0 {
         return Number::NotDecimal;

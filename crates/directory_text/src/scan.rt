@@ -1,6 +1,6 @@
 // Where the parts of a text begin and end.
 ghost use Rattle.std.specs.Prelude.{◌≡◌, ◌+◌, ◌≤◌, length, drop};
-ghost use Rattle.directory_text.specs.Scan.{isBlank, scansPast, front, sameBytes};
+ghost use Rattle.directory_text.specs.Scan.{is_blank, scans_past, front, same_bytes};
 
 // What is passed over: blanks, what is no blank, or all before a character.
 #[derive(Drop)]
@@ -11,7 +11,7 @@ pub enum Pass {
 }
 
 fn is_blank(character: u8) -> bool
-    ensures { result ≡ isBlank character }
+    ensures { result ≡ is_blank character }
 {
     if character == b' ' {
         return true;
@@ -23,7 +23,7 @@ fn is_blank(character: u8) -> bool
 }
 
 fn is_passed(pass: Pass, character: u8) -> bool
-    ensures { result ≡ scansPast pass character }
+    ensures { result ≡ scans_past pass character }
 {
     match pass {
         Pass::Blanks => is_blank(character),
@@ -35,7 +35,7 @@ fn is_passed(pass: Pass, character: u8) -> bool
 // Passes over what it may, from a place on. Answers where it stops.
 pub fn pass_over(text: &[u8], from: usize, pass: Pass) -> usize
     requires { from ≤ length text.now }
-    ensures { (from ≤ result) × (result ≤ length text.now) × (result ≡ from + length (front (scansPast pass) (drop from text.now))) }
+    ensures { (from ≤ result) × (result ≤ length text.now) × (result ≡ from + length (front (scans_past pass) (drop from text.now))) }
 {
     let mut at = from;
     while at < text.len() {
@@ -48,7 +48,7 @@ pub fn pass_over(text: &[u8], from: usize, pass: Pass) -> usize
 }
 
 pub fn same(word: &[u8], other: &[u8]) -> bool
-    ensures { result ≡ sameBytes word.now other.now }
+    ensures { result ≡ same_bytes word.now other.now }
 {
     if word.len() != other.len() {
         return false;

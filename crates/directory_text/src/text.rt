@@ -1,6 +1,6 @@
 // The whole text, line by line, up to the first fault.
 ghost use Rattle.std.specs.Prelude.{◌≡◌};
-ghost use Rattle.directory_text.specs.Text.{faultOf, withTable, withLine, parsed};
+ghost use Rattle.directory_text.specs.Text.{fault_of, with_table, with_line, parsed};
 
 use super::fault::Fault;
 use super::line::{Line, line_of};
@@ -17,7 +17,7 @@ pub struct Parsed {
 
 // What a table would break that a line adds.
 fn fault_of(directory: Directory, table: TableDescription) -> Fault
-    ensures { result ≡ faultOf directory table }
+    ensures { result ≡ fault_of directory table }
 {
     if 16 <= directory.count {
         return Fault::SeventeenthTable;
@@ -33,7 +33,7 @@ fn fault_of(directory: Directory, table: TableDescription) -> Fault
 }
 
 fn with_table(directory: Directory, table: TableDescription, line: u64) -> Parsed
-    ensures { result ≡ withTable directory table line }
+    ensures { result ≡ with_table directory table line }
 {
     let fault = fault_of(directory, table);
     let count = directory.count;
@@ -58,7 +58,7 @@ fn with_table(directory: Directory, table: TableDescription, line: u64) -> Parse
 }
 
 fn with_line(directory: Directory, text: &[u8], line: u64) -> Parsed
-    ensures { result ≡ withLine directory text.now line }
+    ensures { result ≡ with_line directory text.now line }
 {
     match line_of(text) {
         Line::Empty => Parsed {

@@ -5,32 +5,32 @@ use Prim.Native.Nat.{ℕ}
 use Rattle.directory.specs.declared.directory.Directory.{Directory}
 use Rattle.memory.specs.Parts.{parts_of}
 use Rattle.memory.specs.declared.span.Holder.TheVariants as holder
-use Rattle.change.specs.Change.{Change, changeOf}
+use Rattle.change.specs.Change.{Change, change_of}
 use Rattle.change.specs.Insert.{Made, made_of}
 use Rattle.change.specs.declared.change.LogChange.{LogChange}
 use Rattle.change.specs.declared.change.Changed.{Changed}
 use Rattle.change.specs.declared.size.Sized.{Sized}
 use Rattle.change.specs.declared.values.LocalValues.{LocalValues}
 use Rattle.host_words.specs.Head.{HeadLeft}
-use Rattle.host_words.specs.Change.{listSize, listWords, countsIn, head_of}
+use Rattle.host_words.specs.Change.{list_size, list_words_of, counts_in, head_of}
 use Rattle.edge_lists.specs.Listing.{DropLeft, InsertLeft, SizeLeft, ValuesLeft}
 
 -- a definition over what was loaded, and over the words themselves
-pub loaded : {A : Type 0} (f : Directory → Change → A) (items chunks : List ℕ) {d e : Directory} {l m : LogChange} → d ≡ e → l ≡ m → f d (changeOf l items chunks) ≡ f e (changeOf m items chunks)
-loaded f items chunks p q = ap₂ (λ (x : Directory) (y : LogChange). f x (changeOf y items chunks)) p q
+pub loaded : {A : Type 0} (f : Directory → Change → A) (items chunks : List ℕ) {d e : Directory} {l m : LogChange} → d ≡ e → l ≡ m → f d (change_of l items chunks) ≡ f e (change_of m items chunks)
+loaded f items chunks p q = ap₂ (λ (x : Directory) (y : LogChange). f x (change_of y items chunks)) p q
 
-module _ (w words bytes : List ℕ) (r : Changed) {m : Made} (e : made_of r words bytes ≡ m) {n : ℕ} {z : List ℕ} (p : HeadLeft listSize r.answer (listWords r.list) w n z) where
-  kept : HeadLeft listSize m.answer (listWords (head_of m.change)) w n z
-  kept = subst (λ (x : Made). HeadLeft listSize x.answer (listWords (head_of x.change)) w n z) e p
+module _ (w words bytes : List ℕ) (r : Changed) {m : Made} (e : made_of r words bytes ≡ m) {n : ℕ} {z : List ℕ} (p : HeadLeft list_size r.answer (list_words_of r.list) w n z) where
+  kept : HeadLeft list_size m.answer (list_words_of (head_of m.change)) w n z
+  kept = subst (λ (x : Made). HeadLeft list_size x.answer (list_words_of (head_of x.change)) w n z) e p
 
-  pub drop-left : DropLeft m w n z
-  drop-left = record { list = kept }
+  pub drop_left : DropLeft m w n z
+  drop_left = record { list = kept }
 
   pub insert-left : InsertLeft m w n z words bytes
-  insert-left = record { list = kept; memories = subst (λ (x : Made). parts_of holder.List (countsIn x.change.parts) words bytes ≡ x.change.parts) e refl }
+  insert-left = record { list = kept; memories = subst (λ (x : Made). parts_of holder.List (counts_in x.change.parts) words bytes ≡ x.change.parts) e refl }
 
 pub size-left : {d e : Sized} {answer size : ℕ} → d ≡ e → SizeLeft d answer size → SizeLeft e answer size
 size-left {answer = answer} {size = size} q p = subst (λ (x : Sized). SizeLeft x answer size) q p
 
-pub values-left : {d e : LocalValues} {answer from to : ℕ} → d ≡ e → ValuesLeft d answer from to → ValuesLeft e answer from to
-values-left {answer = answer} {from = from} {to = to} q p = subst (λ (x : LocalValues). ValuesLeft x answer from to) q p
+pub values_left : {d e : LocalValues} {answer from to : ℕ} → d ≡ e → ValuesLeft d answer from to → ValuesLeft e answer from to
+values_left {answer = answer} {from = from} {to = to} q p = subst (λ (x : LocalValues). ValuesLeft x answer from to) q p

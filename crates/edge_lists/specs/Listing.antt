@@ -7,16 +7,16 @@ use Rattle.change.specs.Insert.{Made}
 use Rattle.change.specs.declared.size.Sized.{Sized}
 use Rattle.change.specs.declared.values.LocalValues.{LocalValues}
 use Rattle.host_words.specs.Head.{HeadLeft}
-use Rattle.host_words.specs.Change.{listSize, listWords, countsIn, head_of}
+use Rattle.host_words.specs.Change.{list_size, list_words_of, counts_in, head_of}
 
 -- a drop: its answer's number, and the list's words from as they were to as they then are
 pub record DropLeft (m : Made) (w : List ℕ) (answer : ℕ) (after : List ℕ) : Type 0 where
-  pub list : HeadLeft listSize m.answer (listWords (head_of m.change)) w answer after
+  pub list : HeadLeft list_size m.answer (list_words_of (head_of m.change)) w answer after
 
 -- an insert: and the two memories as they then are
 pub record InsertLeft (m : Made) (w : List ℕ) (answer : ℕ) (after items chunks : List ℕ) : Type 0 where
-  pub list : HeadLeft listSize m.answer (listWords (head_of m.change)) w answer after
-  pub memories : parts_of holder.List (countsIn m.change.parts) items chunks ≡ m.change.parts
+  pub list : HeadLeft list_size m.answer (list_words_of (head_of m.change)) w answer after
+  pub memories : parts_of holder.List (counts_in m.change.parts) items chunks ≡ m.change.parts
 
 -- a record's length: its answer's number, and the length
 pub record SizeLeft (d : Sized) (answer size : ℕ) : Type 0 where

@@ -2,15 +2,15 @@
 ghost use Rattle.std.specs.Prelude.{◌≡◌, true};
 ghost use Rattle.answer.specs.Answer.{number_of};
 ghost use Rattle.directory.specs.declared.table.TableKind.TheVariants.{Index, Value, RefCount};
-ghost use Rattle.change.specs.Change.{changeOf, newList, changeRuled, changeKept};
-ghost use Rattle.change.specs.Insert.{insertedKept, inserted};
-ghost use Rattle.change.specs.Drop.{tableDroppedKept, tableDropped, countTableDroppedKept, countTableDropped};
-ghost use Rattle.change.specs.Size.{sizedKept, sized};
-ghost use Rattle.change.specs.Values.{valuesOfKept, values_of};
-ghost use Rattle.writer.specs.Flush.{flushToFileKept, flushToFile};
-ghost use Rattle.host_words.specs.Tables.{directoryFrom};
-ghost use Rattle.host_words.specs.Head.{headRoom, headAfter, HeadLeft};
-ghost use Rattle.host_words.specs.Change.{listSize, list_from, listWords};
+ghost use Rattle.change.specs.Change.{change_of, new_list, change_ruled, change_kept};
+ghost use Rattle.change.specs.Insert.{inserted_kept, inserted};
+ghost use Rattle.change.specs.Drop.{table_dropped_kept, table_dropped, count_table_dropped_kept, count_table_dropped};
+ghost use Rattle.change.specs.Size.{sized_kept, sized};
+ghost use Rattle.change.specs.Values.{values_of_kept, values_of};
+ghost use Rattle.writer.specs.Flush.{flush_to_file_kept, flush_to_file};
+ghost use Rattle.host_words.specs.Tables.{directory_from};
+ghost use Rattle.host_words.specs.Head.{head_room, head_after, HeadLeft};
+ghost use Rattle.host_words.specs.Change.{list_size, list_from, list_words_of};
 ghost use Rattle.edge_lists.specs.Listing.{DropLeft, InsertLeft, SizeLeft, ValuesLeft};
 
 use change::{Changed, LocalValues, LogChange, Sized};
@@ -20,7 +20,7 @@ use host_words::{directory_of, head_room, keep_list, list_of, number};
 
 // What a call hands back, stored where the host lent room for it: one for both doors.
 fn keep_changed(list: &mut [u64], done: Changed) -> u64
-    ensures { HeadLeft listSize done.answer (listWords done.list) list.old result list.new }
+    ensures { HeadLeft list_size done.answer (list_words_of done.list) list.old result list.new }
 {
     let answer = done.answer;
     let left = done.list;
@@ -56,7 +56,7 @@ fn insert(
     sub: u8,
     data: &[u8],
 ) -> u64
-    ensures { InsertLeft (inserted kind (directoryFrom tables.now) (changeOf (list_from list.old) items.old chunks.old) table index sub «data».now) list.old result list.new items.new chunks.new }
+    ensures { InsertLeft (inserted kind (directory_from tables.now) (change_of (list_from list.old) items.old chunks.old) table index sub «data».now) list.old result list.new items.new chunks.new }
 {
     let d = directory_of(tables);
     let done = list_of(list).insert(d, items, chunks, kind, table, index, sub, data);
@@ -74,8 +74,8 @@ fn insert_kept(
     sub: u8,
     data: &[u8],
 ) -> u64
-    requires { changeKept (directoryFrom tables.now) (changeOf (list_from list.old) items.old chunks.old) ≡ true }
-    ensures { InsertLeft (insertedKept kind (directoryFrom tables.now) (changeOf (list_from list.old) items.old chunks.old) table index sub «data».now) list.old result list.new items.new chunks.new }
+    requires { change_kept (directory_from tables.now) (change_of (list_from list.old) items.old chunks.old) ≡ true }
+    ensures { InsertLeft (inserted_kept kind (directory_from tables.now) (change_of (list_from list.old) items.old chunks.old) table index sub «data».now) list.old result list.new items.new chunks.new }
 {
     let d = directory_of(tables);
     let done = list_of(list).insert_kept(d, items, chunks, kind, table, index, sub, data);
@@ -84,8 +84,8 @@ fn insert_kept(
 
 #[unsafe(no_mangle)]
 pub extern "C" fn hongsathep_list_new(list: &mut [u64], id: u64) -> u64
-    ensures answer { result ≡ number_of (headRoom listSize list.old) }
-    ensures list { list.new ≡ headAfter listSize (number_of (headRoom listSize list.old)) list.old (listWords (newList id)) }
+    ensures answer { result ≡ number_of (head_room list_size list.old) }
+    ensures list { list.new ≡ head_after list_size (number_of (head_room list_size list.old)) list.old (list_words_of (new_list id)) }
 {
     let answer = head_room(list, 38);
     keep_list(list, answer, LogChange::new(id))
@@ -102,7 +102,7 @@ pub extern "C" fn hongsathep_insert_index(
     sub: u8,
     data: &[u8],
 ) -> u64
-    ensures { InsertLeft (inserted Index (directoryFrom tables.now) (changeOf (list_from list.old) items.old chunks.old) table index sub «data».now) list.old result list.new items.new chunks.new }
+    ensures { InsertLeft (inserted Index (directory_from tables.now) (change_of (list_from list.old) items.old chunks.old) table index sub «data».now) list.old result list.new items.new chunks.new }
 {
     insert(tables, list, items, chunks, Index, table, index, sub, data)
 }
@@ -118,8 +118,8 @@ pub extern "C" fn hongsathep_insert_index_kept(
     sub: u8,
     data: &[u8],
 ) -> u64
-    requires { changeKept (directoryFrom tables.now) (changeOf (list_from list.old) items.old chunks.old) ≡ true }
-    ensures { InsertLeft (insertedKept Index (directoryFrom tables.now) (changeOf (list_from list.old) items.old chunks.old) table index sub «data».now) list.old result list.new items.new chunks.new }
+    requires { change_kept (directory_from tables.now) (change_of (list_from list.old) items.old chunks.old) ≡ true }
+    ensures { InsertLeft (inserted_kept Index (directory_from tables.now) (change_of (list_from list.old) items.old chunks.old) table index sub «data».now) list.old result list.new items.new chunks.new }
 {
     insert_kept(tables, list, items, chunks, Index, table, index, sub, data)
 }
@@ -132,7 +132,7 @@ pub extern "C" fn hongsathep_drop_table(
     chunks: &[u8],
     table: u16,
 ) -> u64
-    ensures { DropLeft (tableDropped (directoryFrom tables.now) (changeOf (list_from list.old) items.now chunks.now) table) list.old result list.new }
+    ensures { DropLeft (table_dropped (directory_from tables.now) (change_of (list_from list.old) items.now chunks.now) table) list.old result list.new }
 {
     let d = directory_of(tables);
     let done = list_of(list).drop_table(d, items, chunks, IndexTableId(table));
@@ -147,8 +147,8 @@ pub extern "C" fn hongsathep_drop_table_kept(
     chunks: &[u8],
     table: u16,
 ) -> u64
-    requires { changeKept (directoryFrom tables.now) (changeOf (list_from list.old) items.now chunks.now) ≡ true }
-    ensures { DropLeft (tableDroppedKept (directoryFrom tables.now) (changeOf (list_from list.old) items.now chunks.now) table) list.old result list.new }
+    requires { change_kept (directory_from tables.now) (change_of (list_from list.old) items.now chunks.now) ≡ true }
+    ensures { DropLeft (table_dropped_kept (directory_from tables.now) (change_of (list_from list.old) items.now chunks.now) table) list.old result list.new }
 {
     let d = directory_of(tables);
     let done = list_of(list).drop_table_kept(d, items, chunks, IndexTableId(table));
@@ -165,7 +165,7 @@ pub extern "C" fn hongsathep_insert_value(
     index: u64,
     data: &[u8],
 ) -> u64
-    ensures { InsertLeft (inserted Value (directoryFrom tables.now) (changeOf (list_from list.old) items.old chunks.old) table index 0 «data».now) list.old result list.new items.new chunks.new }
+    ensures { InsertLeft (inserted Value (directory_from tables.now) (change_of (list_from list.old) items.old chunks.old) table index 0 «data».now) list.old result list.new items.new chunks.new }
 {
     insert(tables, list, items, chunks, Value, table, index, 0, data)
 }
@@ -180,8 +180,8 @@ pub extern "C" fn hongsathep_insert_value_kept(
     index: u64,
     data: &[u8],
 ) -> u64
-    requires { changeKept (directoryFrom tables.now) (changeOf (list_from list.old) items.old chunks.old) ≡ true }
-    ensures { InsertLeft (insertedKept Value (directoryFrom tables.now) (changeOf (list_from list.old) items.old chunks.old) table index 0 «data».now) list.old result list.new items.new chunks.new }
+    requires { change_kept (directory_from tables.now) (change_of (list_from list.old) items.old chunks.old) ≡ true }
+    ensures { InsertLeft (inserted_kept Value (directory_from tables.now) (change_of (list_from list.old) items.old chunks.old) table index 0 «data».now) list.old result list.new items.new chunks.new }
 {
     insert_kept(tables, list, items, chunks, Value, table, index, 0, data)
 }
@@ -195,7 +195,7 @@ pub extern "C" fn hongsathep_local_values_changes(
     from: &mut u64,
     to: &mut u64,
 ) -> u64
-    ensures { ValuesLeft (values_of (changeOf (list_from list.now) items.now chunks.now) table) result from.new to.new }
+    ensures { ValuesLeft (values_of (change_of (list_from list.now) items.now chunks.now) table) result from.new to.new }
 {
     let done = list_of(list).local_values_changes(items, chunks, ValueTableId(table));
     keep_values(done, from, to)
@@ -210,8 +210,8 @@ pub extern "C" fn hongsathep_local_values_changes_kept(
     from: &mut u64,
     to: &mut u64,
 ) -> u64
-    requires { changeRuled (changeOf (list_from list.now) items.now chunks.now) ≡ true }
-    ensures { ValuesLeft (valuesOfKept (changeOf (list_from list.now) items.now chunks.now) table) result from.new to.new }
+    requires { change_ruled (change_of (list_from list.now) items.now chunks.now) ≡ true }
+    ensures { ValuesLeft (values_of_kept (change_of (list_from list.now) items.now chunks.now) table) result from.new to.new }
 {
     let done = list_of(list).local_values_changes_kept(items, chunks, ValueTableId(table));
     keep_values(done, from, to)
@@ -228,7 +228,7 @@ pub extern "C" fn hongsathep_insert_ref_count(
     sub: u8,
     data: &[u8],
 ) -> u64
-    ensures { InsertLeft (inserted RefCount (directoryFrom tables.now) (changeOf (list_from list.old) items.old chunks.old) table index sub «data».now) list.old result list.new items.new chunks.new }
+    ensures { InsertLeft (inserted RefCount (directory_from tables.now) (change_of (list_from list.old) items.old chunks.old) table index sub «data».now) list.old result list.new items.new chunks.new }
 {
     insert(
         tables, list, items, chunks, RefCount, table, index, sub, data,
@@ -246,8 +246,8 @@ pub extern "C" fn hongsathep_insert_ref_count_kept(
     sub: u8,
     data: &[u8],
 ) -> u64
-    requires { changeKept (directoryFrom tables.now) (changeOf (list_from list.old) items.old chunks.old) ≡ true }
-    ensures { InsertLeft (insertedKept RefCount (directoryFrom tables.now) (changeOf (list_from list.old) items.old chunks.old) table index sub «data».now) list.old result list.new items.new chunks.new }
+    requires { change_kept (directory_from tables.now) (change_of (list_from list.old) items.old chunks.old) ≡ true }
+    ensures { InsertLeft (inserted_kept RefCount (directory_from tables.now) (change_of (list_from list.old) items.old chunks.old) table index sub «data».now) list.old result list.new items.new chunks.new }
 {
     insert_kept(
         tables, list, items, chunks, RefCount, table, index, sub, data,
@@ -262,7 +262,7 @@ pub extern "C" fn hongsathep_drop_ref_count_table(
     chunks: &[u8],
     table: u16,
 ) -> u64
-    ensures { DropLeft (countTableDropped (directoryFrom tables.now) (changeOf (list_from list.old) items.now chunks.now) table) list.old result list.new }
+    ensures { DropLeft (count_table_dropped (directory_from tables.now) (change_of (list_from list.old) items.now chunks.now) table) list.old result list.new }
 {
     let d = directory_of(tables);
     let done = list_of(list).drop_ref_count_table(d, items, chunks, RefCountTableId(table));
@@ -277,8 +277,8 @@ pub extern "C" fn hongsathep_drop_ref_count_table_kept(
     chunks: &[u8],
     table: u16,
 ) -> u64
-    requires { changeKept (directoryFrom tables.now) (changeOf (list_from list.old) items.now chunks.now) ≡ true }
-    ensures { DropLeft (countTableDroppedKept (directoryFrom tables.now) (changeOf (list_from list.old) items.now chunks.now) table) list.old result list.new }
+    requires { change_kept (directory_from tables.now) (change_of (list_from list.old) items.now chunks.now) ≡ true }
+    ensures { DropLeft (count_table_dropped_kept (directory_from tables.now) (change_of (list_from list.old) items.now chunks.now) table) list.old result list.new }
 {
     let d = directory_of(tables);
     let done = list_of(list).drop_ref_count_table_kept(d, items, chunks, RefCountTableId(table));
@@ -293,7 +293,7 @@ pub extern "C" fn hongsathep_record_size(
     chunks: &[u8],
     size: &mut u64,
 ) -> u64
-    ensures { SizeLeft (sized (directoryFrom tables.now) (changeOf (list_from list.now) items.now chunks.now)) result size.new }
+    ensures { SizeLeft (sized (directory_from tables.now) (change_of (list_from list.now) items.now chunks.now)) result size.new }
 {
     let done = list_of(list).record_size(directory_of(tables), items, chunks);
     keep_size(done, size)
@@ -306,8 +306,8 @@ pub extern "C" fn hongsathep_record_size_kept(
     chunks: &[u8],
     size: &mut u64,
 ) -> u64
-    requires { changeRuled (changeOf (list_from list.now) items.now chunks.now) ≡ true }
-    ensures { SizeLeft (sizedKept (changeOf (list_from list.now) items.now chunks.now)) result size.new }
+    requires { change_ruled (change_of (list_from list.now) items.now chunks.now) ≡ true }
+    ensures { SizeLeft (sized_kept (change_of (list_from list.now) items.now chunks.now)) result size.new }
 {
     let done = list_of(list).record_size_kept(items, chunks);
     keep_size(done, size)
@@ -322,8 +322,8 @@ pub extern "C" fn hongsathep_flush_to_file(
     out: &mut [u8],
     size: &mut u64,
 ) -> u64
-    ensures out { out.new ≡ (flushToFile (directoryFrom tables.now) (changeOf (list_from list.now) items.now chunks.now) out.old).output }
-    ensures size { SizeLeft (flushToFile (directoryFrom tables.now) (changeOf (list_from list.now) items.now chunks.now) out.old).sized result size.new }
+    ensures out { out.new ≡ (flush_to_file (directory_from tables.now) (change_of (list_from list.now) items.now chunks.now) out.old).output }
+    ensures size { SizeLeft (flush_to_file (directory_from tables.now) (change_of (list_from list.now) items.now chunks.now) out.old).sized result size.new }
 {
     let done = writer::flush_to_file(list_of(list), directory_of(tables), items, chunks, out);
     keep_size(done, size)
@@ -337,9 +337,9 @@ pub extern "C" fn hongsathep_flush_to_file_kept(
     out: &mut [u8],
     size: &mut u64,
 ) -> u64
-    requires { changeRuled (changeOf (list_from list.now) items.now chunks.now) ≡ true }
-    ensures out { out.new ≡ (flushToFileKept (changeOf (list_from list.now) items.now chunks.now) out.old).output }
-    ensures size { SizeLeft (flushToFileKept (changeOf (list_from list.now) items.now chunks.now) out.old).sized result size.new }
+    requires { change_ruled (change_of (list_from list.now) items.now chunks.now) ≡ true }
+    ensures out { out.new ≡ (flush_to_file_kept (change_of (list_from list.now) items.now chunks.now) out.old).output }
+    ensures size { SizeLeft (flush_to_file_kept (change_of (list_from list.now) items.now chunks.now) out.old).sized result size.new }
 {
     let done = writer::flush_to_file_kept(list_of(list), items, chunks, out);
     keep_size(done, size)

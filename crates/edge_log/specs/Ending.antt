@@ -11,23 +11,23 @@ use Rattle.memory.specs.declared.overlays.LogOverlays.{LogOverlays}
 use Rattle.memory.specs.declared.span.Holder.TheVariants as holder
 use Rattle.ending.specs.EndRecord.{EndState}
 use Rattle.ending.specs.declared.record_end.Ended.{Ended}
-use Rattle.log.specs.Begin.{notBegun, beginRecord}
+use Rattle.log.specs.Begin.{not_begun, begin_record}
 use Rattle.log.specs.declared.begin.Begun.{Begun}
 use Rattle.log.specs.declared.clear_replay.LogsCleared.{LogsCleared}
 use Rattle.host_words.specs.Head.{HeadLeft}
-use Rattle.host_words.specs.Change.{countsIn}
-use Rattle.host_words.specs.Overlays.{overlaysSize, overlaysWords, overlaysLeft}
-use Rattle.host_queues.specs.Queues.{queuesSize, queuesWords}
+use Rattle.host_words.specs.Change.{counts_in}
+use Rattle.host_words.specs.Overlays.{overlays_size, overlays_words, overlays_left}
+use Rattle.host_queues.specs.Queues.{queues_size, queues_words}
 
 -- where a record's file comes from: 0 the file that records are appended to, 1 the pool, 2 a new one
-abbrev pub sourceNumber : FileSource → ℕ
-sourceNumber Appending = 0
-sourceNumber Pool = 1
-sourceNumber New = 2
+abbrev pub source_number : FileSource → ℕ
+source_number Appending = 0
+source_number Pool = 1
+source_number New = 2
 
 -- `begin_record`, with a number of words for the list: 13 where they are too many or too few
-unfoldable pub beginIn : ℕ → ℕ → Begun
-beginIn next words = if eqb words 38 then beginRecord next else notBegun BadState next
+unfoldable pub begin_in : ℕ → ℕ → Begun
+begin_in next words = if eqb words 38 then begin_record next else not_begun BadState next
 
 -- the words of both heads
 pub record Heads : Type 0 where
@@ -35,14 +35,14 @@ pub record Heads : Type 0 where
   pub queues : List ℕ
 
 -- one by one
-abbrev pub headsOf : List ℕ → List ℕ → Heads
-headsOf overlays queues = record { overlays = overlays; queues = queues }
+abbrev pub heads_of : List ℕ → List ℕ → Heads
+heads_of overlays queues = record { overlays = overlays; queues = queues }
 
 -- what a call leaves of both: its answer's number, and the words from as they were to as they then are
 abbrev pub HeadsLeft : Answer → LogOverlays → Queues → Heads → ℕ → Heads → Type 0
 HeadsLeft answer o q was number are =
-    HeadLeft overlaysSize answer (overlaysWords o) was.overlays number are.overlays
-    × HeadLeft queuesSize answer (queuesWords q) was.queues number are.queues
+    HeadLeft overlays_size answer (overlays_words o) was.overlays number are.overlays
+    × HeadLeft queues_size answer (queues_words q) was.queues number are.queues
 
 -- what `clear_replay_logs` leaves
 pub record ClearLeft (d : LogsCleared) (was : Heads) (answer : ℕ) (are : Heads) : Type 0 where
@@ -52,14 +52,14 @@ pub record ClearLeft (d : LogsCleared) (was : Heads) (answer : ℕ) (are : Heads
 pub record EndedLeft (d : Ended) (was : Heads) (answer : ℕ) (are : Heads) (size source file : ℕ) : Type 0 where
   pub heads : HeadsLeft d.answer d.overlays d.queues was answer are
   pub long : size ≡ d.length
-  pub from : source ≡ sourceNumber d.source
+  pub from : source ≡ source_number d.source
   pub number : file ≡ d.number
 
 -- what `end_record` leaves: and the shared memories and the output as they then are
 pub record EndLeft (s : EndState) (was : Heads) (answer : ℕ) (are : Heads) (words bytes out : List ℕ) (size source file : ℕ) : Type 0 where
-  pub heads : HeadsLeft s.answer (overlaysLeft s.overlays) s.queues was answer are
-  pub memories : parts_of holder.Shared (countsIn s.overlays.parts) words bytes ≡ s.overlays.parts
+  pub heads : HeadsLeft s.answer (overlays_left s.overlays) s.queues was answer are
+  pub memories : parts_of holder.Shared (counts_in s.overlays.parts) words bytes ≡ s.overlays.parts
   pub output : out ≡ s.output
   pub long : size ≡ s.length
-  pub from : source ≡ sourceNumber s.source
+  pub from : source ≡ source_number s.source
   pub number : file ≡ s.number

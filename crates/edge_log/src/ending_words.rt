@@ -1,20 +1,20 @@
 // The calls that touch several states: the beginning and the end of a record, clearing.
 ghost use Rattle.std.specs.Prelude.{◌≡◌, true, length};
 ghost use Rattle.answer.specs.Answer.{number_of};
-ghost use Rattle.directory.specs.Directory.{directoryKept};
-ghost use Rattle.memory.specs.Parts.{parts_of, partsKept};
-ghost use Rattle.memory.specs.Overlays.{overlaysOf, noOverlays, lastIdOf};
+ghost use Rattle.directory.specs.Directory.{directory_kept};
+ghost use Rattle.memory.specs.Parts.{parts_of, parts_kept};
+ghost use Rattle.memory.specs.Overlays.{overlays_of, no_overlays, last_id_of};
 ghost use Rattle.memory.specs.declared.span.Holder.TheVariants.{Shared};
-ghost use Rattle.files.specs.Queues.{queuesKept};
-ghost use Rattle.clearing.specs.EndRead.{recordAgain, clearable, endReadBy, endRead};
-ghost use Rattle.ending.specs.EndRecord.{handedOf, handedKept, endRecord};
-ghost use Rattle.log.specs.ClearReplay.{logsClearedKept, logsCleared};
-ghost use Rattle.host_words.specs.Tables.{directoryFrom};
-ghost use Rattle.host_words.specs.Head.{headRoom, headAfter};
-ghost use Rattle.host_words.specs.Change.{listSize, list_from, listWords, countsIn};
-ghost use Rattle.host_words.specs.Overlays.{overlaysSize, overlaysFrom, overlaysWords, overlaysLeft};
-ghost use Rattle.host_queues.specs.Queues.{queuesFrom};
-ghost use Rattle.edge_log.specs.Ending.{sourceNumber, beginIn, headsOf, ClearLeft, EndedLeft, EndLeft};
+ghost use Rattle.files.specs.Queues.{queues_kept};
+ghost use Rattle.clearing.specs.EndRead.{record_again, clearable, end_read_by, end_read_of};
+ghost use Rattle.ending.specs.EndRecord.{handed_of, handed_kept, end_record};
+ghost use Rattle.log.specs.ClearReplay.{logs_cleared_kept, logs_cleared};
+ghost use Rattle.host_words.specs.Tables.{directory_from};
+ghost use Rattle.host_words.specs.Head.{head_room, head_after};
+ghost use Rattle.host_words.specs.Change.{list_size, list_from, list_words_of, counts_in};
+ghost use Rattle.host_words.specs.Overlays.{overlays_size, overlays_from, overlays_words, overlays_left};
+ghost use Rattle.host_queues.specs.Queues.{queues_from};
+ghost use Rattle.edge_log.specs.Ending.{source_number, begin_in, heads_of, ClearLeft, EndedLeft, EndLeft};
 
 use answer::Answer;
 use change::LogChange;
@@ -27,8 +27,8 @@ use memory::LogOverlays;
 
 #[unsafe(no_mangle)]
 pub extern "C" fn hongsathep_overlays_new(overlays: &mut [u64]) -> u64
-    ensures answer { result ≡ number_of (headRoom overlaysSize overlays.old) }
-    ensures overlays { overlays.new ≡ headAfter overlaysSize (number_of (headRoom overlaysSize overlays.old)) overlays.old (overlaysWords noOverlays) }
+    ensures answer { result ≡ number_of (head_room overlays_size overlays.old) }
+    ensures overlays { overlays.new ≡ head_after overlays_size (number_of (head_room overlays_size overlays.old)) overlays.old (overlays_words no_overlays) }
 {
     let answer = head_room(overlays, 11);
     keep_overlays(overlays, answer, LogOverlays::new())
@@ -36,14 +36,14 @@ pub extern "C" fn hongsathep_overlays_new(overlays: &mut [u64]) -> u64
 
 #[unsafe(no_mangle)]
 pub extern "C" fn hongsathep_last_record_id(overlays: &[u64], col: u64) -> u64
-    ensures { result ≡ lastIdOf (overlaysFrom overlays.now) col }
+    ensures { result ≡ last_id_of (overlays_from overlays.now) col }
 {
     overlays_of(overlays).last_record_id(col)
 }
 
 // Where a record's file comes from, as a number.
 fn source_number(source: FileSource) -> u64
-    ensures { result ≡ sourceNumber source }
+    ensures { result ≡ source_number source }
 {
     match source {
         FileSource::Appending => 0,
@@ -53,7 +53,7 @@ fn source_number(source: FileSource) -> u64
 }
 
 fn begin(next: u64, words: usize) -> Begun
-    ensures { result ≡ beginIn next words }
+    ensures { result ≡ begin_in next words }
 {
     if words != 38 {
         return Begun {
@@ -74,7 +74,7 @@ fn keep_ended(
     source: &mut u64,
     file: &mut u64,
 ) -> u64
-    ensures { EndedLeft done (headsOf overlays.old queues.old) result (headsOf overlays.new queues.new) size.new source.new file.new }
+    ensures { EndedLeft done (heads_of overlays.old queues.old) result (heads_of overlays.new queues.new) size.new source.new file.new }
 {
     *size = done.length as u64;
     let from = done.source;
@@ -88,7 +88,7 @@ fn keep_ended(
 }
 
 fn keep_cleared(overlays: &mut [u64], queues: &mut [u64], done: LogsCleared) -> u64
-    ensures { ClearLeft done (headsOf overlays.old queues.old) result (headsOf overlays.new queues.new) }
+    ensures { ClearLeft done (heads_of overlays.old queues.old) result (heads_of overlays.new queues.new) }
 {
     let answer = done.answer;
     let o = done.overlays;
@@ -99,9 +99,9 @@ fn keep_cleared(overlays: &mut [u64], queues: &mut [u64], done: LogsCleared) -> 
 
 #[unsafe(no_mangle)]
 pub extern "C" fn hongsathep_begin_record(next: &mut u64, list: &mut [u64]) -> u64
-    ensures answer { result ≡ number_of (beginIn next.old (length list.old)).answer }
-    ensures next { next.new ≡ (beginIn next.old (length list.old)).next_record_id }
-    ensures list { list.new ≡ headAfter listSize (number_of (beginIn next.old (length list.old)).answer) list.old (listWords (beginIn next.old (length list.old)).list) }
+    ensures answer { result ≡ number_of (begin_in next.old (length list.old)).answer }
+    ensures next { next.new ≡ (begin_in next.old (length list.old)).next_record_id }
+    ensures list { list.new ≡ head_after list_size (number_of (begin_in next.old (length list.old)).answer) list.old (list_words_of (begin_in next.old (length list.old)).list) }
 {
     let n = list.len();
     let begun = begin(*next, n);
@@ -127,7 +127,7 @@ pub extern "C" fn hongsathep_end_record<'a>(
     source: &mut u64,
     file: &mut u64,
 ) -> u64
-    ensures { EndLeft (endRecord (directoryFrom tables.now) (handedOf (list_from list.now) items.now chunks.now (overlaysFrom overlays.old) words.old bytes.old (queuesFrom queues.old) next out.old)) (headsOf overlays.old queues.old) result (headsOf overlays.new queues.new) words.new bytes.new out.new size.new source.new file.new }
+    ensures { EndLeft (end_record (directory_from tables.now) (handed_of (list_from list.now) items.now chunks.now (overlays_from overlays.old) words.old bytes.old (queues_from queues.old) next out.old)) (heads_of overlays.old queues.old) result (heads_of overlays.new queues.new) words.new bytes.new out.new size.new source.new file.new }
 {
     let d = directory_of(tables);
     let l = list_of(list);
@@ -153,8 +153,8 @@ pub extern "C" fn hongsathep_end_record_kept<'a>(
     source: &mut u64,
     file: &mut u64,
 ) -> u64
-    requires { handedKept (directoryFrom tables.now) (handedOf (list_from list.now) items.now chunks.now (overlaysFrom overlays.old) words.old bytes.old (queuesFrom queues.old) next out.old) ≡ true }
-    ensures { EndLeft (endRecord (directoryFrom tables.now) (handedOf (list_from list.now) items.now chunks.now (overlaysFrom overlays.old) words.old bytes.old (queuesFrom queues.old) next out.old)) (headsOf overlays.old queues.old) result (headsOf overlays.new queues.new) words.new bytes.new out.new size.new source.new file.new }
+    requires { handed_kept (directory_from tables.now) (handed_of (list_from list.now) items.now chunks.now (overlays_from overlays.old) words.old bytes.old (queues_from queues.old) next out.old) ≡ true }
+    ensures { EndLeft (end_record (directory_from tables.now) (handed_of (list_from list.now) items.now chunks.now (overlays_from overlays.old) words.old bytes.old (queues_from queues.old) next out.old)) (heads_of overlays.old queues.old) result (heads_of overlays.new queues.new) words.new bytes.new out.new size.new source.new file.new }
 {
     let d = directory_of(tables);
     let l = list_of(list);
@@ -177,13 +177,13 @@ pub extern "C" fn hongsathep_end_read(
     id: &mut u64,
     fault: &mut u64,
 ) -> u64
-    ensures answer { result ≡ number_of (endRead (directoryFrom tables.now) log.now position (overlaysOf (overlaysFrom overlays.old) words.old bytes.old) next.old).answer }
-    ensures overlays { overlays.new ≡ headAfter overlaysSize (number_of (endRead (directoryFrom tables.now) log.now position (overlaysOf (overlaysFrom overlays.old) words.old bytes.old) next.old).answer) overlays.old (overlaysWords (overlaysLeft (endRead (directoryFrom tables.now) log.now position (overlaysOf (overlaysFrom overlays.old) words.old bytes.old) next.old).overlays)) }
-    ensures memory { parts_of Shared (countsIn (endRead (directoryFrom tables.now) log.now position (overlaysOf (overlaysFrom overlays.old) words.old bytes.old) next.old).overlays.parts) words.new bytes.new ≡ (endRead (directoryFrom tables.now) log.now position (overlaysOf (overlaysFrom overlays.old) words.old bytes.old) next.old).overlays.parts }
-    ensures next { next.new ≡ (endRead (directoryFrom tables.now) log.now position (overlaysOf (overlaysFrom overlays.old) words.old bytes.old) next.old).nextRecordId }
-    ensures end { end.new ≡ (endRead (directoryFrom tables.now) log.now position (overlaysOf (overlaysFrom overlays.old) words.old bytes.old) next.old).position }
-    ensures id { id.new ≡ (endRead (directoryFrom tables.now) log.now position (overlaysOf (overlaysFrom overlays.old) words.old bytes.old) next.old).recordId }
-    ensures fault { fault.new ≡ (endRead (directoryFrom tables.now) log.now position (overlaysOf (overlaysFrom overlays.old) words.old bytes.old) next.old).faultAt }
+    ensures answer { result ≡ number_of (end_read_of (directory_from tables.now) log.now position (overlays_of (overlays_from overlays.old) words.old bytes.old) next.old).answer }
+    ensures overlays { overlays.new ≡ head_after overlays_size (number_of (end_read_of (directory_from tables.now) log.now position (overlays_of (overlays_from overlays.old) words.old bytes.old) next.old).answer) overlays.old (overlays_words (overlays_left (end_read_of (directory_from tables.now) log.now position (overlays_of (overlays_from overlays.old) words.old bytes.old) next.old).overlays)) }
+    ensures memory { parts_of Shared (counts_in (end_read_of (directory_from tables.now) log.now position (overlays_of (overlays_from overlays.old) words.old bytes.old) next.old).overlays.parts) words.new bytes.new ≡ (end_read_of (directory_from tables.now) log.now position (overlays_of (overlays_from overlays.old) words.old bytes.old) next.old).overlays.parts }
+    ensures next { next.new ≡ (end_read_of (directory_from tables.now) log.now position (overlays_of (overlays_from overlays.old) words.old bytes.old) next.old).next_record_id }
+    ensures end { end.new ≡ (end_read_of (directory_from tables.now) log.now position (overlays_of (overlays_from overlays.old) words.old bytes.old) next.old).position }
+    ensures id { id.new ≡ (end_read_of (directory_from tables.now) log.now position (overlays_of (overlays_from overlays.old) words.old bytes.old) next.old).record_id }
+    ensures fault { fault.new ≡ (end_read_of (directory_from tables.now) log.now position (overlays_of (overlays_from overlays.old) words.old bytes.old) next.old).fault_at }
 {
     let done = clearing::end_read(
         directory_of(tables),
@@ -216,14 +216,14 @@ pub extern "C" fn hongsathep_end_read_kept(
     id: &mut u64,
     fault: &mut u64,
 ) -> u64
-    requires { (directoryKept (directoryFrom tables.now) ≡ true) × (partsKept Shared (parts_of Shared (overlaysFrom overlays.old).counts words.old bytes.old) ≡ true) × (next.old ≡ 0 → ⊥) }
-    ensures answer { result ≡ number_of (endReadBy position (overlaysOf (overlaysFrom overlays.old) words.old bytes.old) next.old (clearable (recordAgain (directoryFrom tables.now) log.now position))).answer }
-    ensures overlays { overlays.new ≡ headAfter overlaysSize (number_of (endReadBy position (overlaysOf (overlaysFrom overlays.old) words.old bytes.old) next.old (clearable (recordAgain (directoryFrom tables.now) log.now position))).answer) overlays.old (overlaysWords (overlaysLeft (endReadBy position (overlaysOf (overlaysFrom overlays.old) words.old bytes.old) next.old (clearable (recordAgain (directoryFrom tables.now) log.now position))).overlays)) }
-    ensures memory { parts_of Shared (countsIn (endReadBy position (overlaysOf (overlaysFrom overlays.old) words.old bytes.old) next.old (clearable (recordAgain (directoryFrom tables.now) log.now position))).overlays.parts) words.new bytes.new ≡ (endReadBy position (overlaysOf (overlaysFrom overlays.old) words.old bytes.old) next.old (clearable (recordAgain (directoryFrom tables.now) log.now position))).overlays.parts }
-    ensures next { next.new ≡ (endReadBy position (overlaysOf (overlaysFrom overlays.old) words.old bytes.old) next.old (clearable (recordAgain (directoryFrom tables.now) log.now position))).nextRecordId }
-    ensures end { end.new ≡ (endReadBy position (overlaysOf (overlaysFrom overlays.old) words.old bytes.old) next.old (clearable (recordAgain (directoryFrom tables.now) log.now position))).position }
-    ensures id { id.new ≡ (endReadBy position (overlaysOf (overlaysFrom overlays.old) words.old bytes.old) next.old (clearable (recordAgain (directoryFrom tables.now) log.now position))).recordId }
-    ensures fault { fault.new ≡ (endReadBy position (overlaysOf (overlaysFrom overlays.old) words.old bytes.old) next.old (clearable (recordAgain (directoryFrom tables.now) log.now position))).faultAt }
+    requires { (directory_kept (directory_from tables.now) ≡ true) × (parts_kept Shared (parts_of Shared (overlays_from overlays.old).counts words.old bytes.old) ≡ true) × (next.old ≡ 0 → ⊥) }
+    ensures answer { result ≡ number_of (end_read_by position (overlays_of (overlays_from overlays.old) words.old bytes.old) next.old (clearable (record_again (directory_from tables.now) log.now position))).answer }
+    ensures overlays { overlays.new ≡ head_after overlays_size (number_of (end_read_by position (overlays_of (overlays_from overlays.old) words.old bytes.old) next.old (clearable (record_again (directory_from tables.now) log.now position))).answer) overlays.old (overlays_words (overlays_left (end_read_by position (overlays_of (overlays_from overlays.old) words.old bytes.old) next.old (clearable (record_again (directory_from tables.now) log.now position))).overlays)) }
+    ensures memory { parts_of Shared (counts_in (end_read_by position (overlays_of (overlays_from overlays.old) words.old bytes.old) next.old (clearable (record_again (directory_from tables.now) log.now position))).overlays.parts) words.new bytes.new ≡ (end_read_by position (overlays_of (overlays_from overlays.old) words.old bytes.old) next.old (clearable (record_again (directory_from tables.now) log.now position))).overlays.parts }
+    ensures next { next.new ≡ (end_read_by position (overlays_of (overlays_from overlays.old) words.old bytes.old) next.old (clearable (record_again (directory_from tables.now) log.now position))).next_record_id }
+    ensures end { end.new ≡ (end_read_by position (overlays_of (overlays_from overlays.old) words.old bytes.old) next.old (clearable (record_again (directory_from tables.now) log.now position))).position }
+    ensures id { id.new ≡ (end_read_by position (overlays_of (overlays_from overlays.old) words.old bytes.old) next.old (clearable (record_again (directory_from tables.now) log.now position))).record_id }
+    ensures fault { fault.new ≡ (end_read_by position (overlays_of (overlays_from overlays.old) words.old bytes.old) next.old (clearable (record_again (directory_from tables.now) log.now position))).fault_at }
 {
     let done = clearing::end_read_kept(
         directory_of(tables),
@@ -250,7 +250,7 @@ pub extern "C" fn hongsathep_clear_replay_logs(
     bytes: &[u8],
     queues: &mut [u64],
 ) -> u64
-    ensures { ClearLeft (logsCleared (overlaysFrom overlays.old) words.now bytes.now (queuesFrom queues.old)) (headsOf overlays.old queues.old) result (headsOf overlays.new queues.new) }
+    ensures { ClearLeft (logs_cleared (overlays_from overlays.old) words.now bytes.now (queues_from queues.old)) (heads_of overlays.old queues.old) result (heads_of overlays.new queues.new) }
 {
     let done = log::clear_replay_logs(overlays_of(overlays), words, bytes, queues_of(queues));
     keep_cleared(overlays, queues, done)
@@ -258,8 +258,8 @@ pub extern "C" fn hongsathep_clear_replay_logs(
 
 #[unsafe(no_mangle)]
 pub extern "C" fn hongsathep_clear_replay_logs_kept(overlays: &mut [u64], queues: &mut [u64]) -> u64
-    requires { queuesKept (queuesFrom queues.old) ≡ true }
-    ensures { ClearLeft (logsClearedKept (queuesFrom queues.old)) (headsOf overlays.old queues.old) result (headsOf overlays.new queues.new) }
+    requires { queues_kept (queues_from queues.old) ≡ true }
+    ensures { ClearLeft (logs_cleared_kept (queues_from queues.old)) (heads_of overlays.old queues.old) result (heads_of overlays.new queues.new) }
 {
     let done = log::clear_replay_logs_kept(queues_of(queues));
     keep_cleared(overlays, queues, done)

@@ -8,17 +8,17 @@ use Rattle.answer.specs.declared.answer.Answer.{Answer}
 use Rattle.answer.specs.declared.answer.Answer.TheVariants.{Done, BadState}
 use Rattle.directory.specs.declared.table.TableKind.{TableKind}
 use Rattle.directory.specs.declared.table.TableKind.TheVariants.{Value}
-use Rattle.numbers.specs.Numbers.{oneIf}
-use Rattle.overlay.specs.Rules.{overlayKept}
+use Rattle.numbers.specs.Numbers.{one_if}
+use Rattle.overlay.specs.Rules.{overlay_kept}
 use Rattle.memory.specs.Parts.{span_of, part_of}
 use Rattle.memory.specs.declared.counts.Counts.{Counts}
 use Rattle.memory.specs.declared.overlays.LogOverlays.{LogOverlays}
 use Rattle.memory.specs.declared.span.Holder.{Holder}
 use Rattle.memory.specs.declared.span.Holder.TheVariants as holder
-use Rattle.change.specs.Change.{changeOf, changeRuled}
+use Rattle.change.specs.Change.{change_of, change_ruled}
 use Rattle.change.specs.declared.change.LogChange.{LogChange}
-use Rattle.query.specs.Query.{Looked, lookedIf, sharedLook, listedLook, bytes_of, isThere, copiedOver}
-use Rattle.query.specs.Places.{storedPlace}
+use Rattle.query.specs.Query.{Looked, looked_if, shared_look, listed_look, bytes_of, is_there, copied_over}
+use Rattle.query.specs.Places.{stored_place}
 use Rattle.query.specs.declared.find.Place.{Place}
 use Rattle.edge_lookups.specs.declared.lookups.Spotted.{Spotted}
 
@@ -27,50 +27,50 @@ abbrev pub nowhere : Answer → Spotted
 nowhere answer = record { answer = answer; memory = 0; place = 0; length = 0 }
 
 -- a memory's number: 1 the list's, 2 the shared one
-abbrev pub memoryNumber : Holder → ℕ
-memoryNumber holder.Shared = 2
-memoryNumber holder.List = 1
+abbrev pub memory_number : Holder → ℕ
+memory_number holder.Shared = 2
+memory_number holder.List = 1
 
 -- a place in one kind's part, as a place in its memory; where there is none, what is said otherwise
-abbrev pub spotBy : Holder → TableKind → Place → Spotted → Spotted
-spotBy h kind p otherwise =
+abbrev pub spot_by : Holder → TableKind → Place → Spotted → Spotted
+spot_by h kind p otherwise =
     if p.found
-    then record { answer = Done; memory = memoryNumber h; place = (span_of h kind).bytes_at + p.at; length = p.length }
+    then record { answer = Done; memory = memory_number h; place = (span_of h kind).bytes_at + p.at; length = p.length }
     else otherwise
 
 -- where a key's bytes lie, among one holder's entries of a kind
-unfoldable pub spottedIn : Holder → TableKind → Counts → List ℕ → List ℕ → ℕ → Spotted → Spotted
-spottedIn h kind c words bytes key otherwise = spotBy h kind (storedPlace kind (part_of h kind c words bytes) key) otherwise
+unfoldable pub spotted_in : Holder → TableKind → Counts → List ℕ → List ℕ → ℕ → Spotted → Spotted
+spotted_in h kind c words bytes key otherwise = spot_by h kind (stored_place kind (part_of h kind c words bytes) key) otherwise
 
 -- the shared memories are as long as they should be, and the kind keeps its rules
-unfoldable pub sharedKept : TableKind → Counts → List ℕ → List ℕ → Bool
-sharedKept kind c words bytes =
-    eqb (length words) 3840 && (eqb (length bytes) 524288 && overlayKept kind 256 (part_of holder.Shared kind c words bytes))
+unfoldable pub shared_kept_of : TableKind → Counts → List ℕ → List ℕ → Bool
+shared_kept_of kind c words bytes =
+    eqb (length words) 3840 && (eqb (length bytes) 524288 && overlay_kept kind 256 (part_of holder.Shared kind c words bytes))
 
 -- in the shared overlays alone
-unfoldable pub sharedSpot : TableKind → Counts → List ℕ → List ℕ → ℕ → Spotted
-sharedSpot kind c words bytes key =
-    if sharedKept kind c words bytes then spottedIn holder.Shared kind c words bytes key (nowhere Done) else nowhere BadState
+unfoldable pub shared_spot : TableKind → Counts → List ℕ → List ℕ → ℕ → Spotted
+shared_spot kind c words bytes key =
+    if shared_kept_of kind c words bytes then spotted_in holder.Shared kind c words bytes key (nowhere Done) else nowhere BadState
 
 -- "Lookup goes to the local list first, then the shared overlays."
-unfoldable pub listedSpot : TableKind → LogChange → List ℕ → List ℕ → Counts → List ℕ → List ℕ → ℕ → Spotted
-listedSpot kind l items chunks c words bytes key =
-    if changeRuled (changeOf l items chunks) && sharedKept kind c words bytes
-    then spottedIn holder.List kind l.counts items chunks key (spottedIn holder.Shared kind c words bytes key (nowhere Done))
+unfoldable pub listed_spot : TableKind → LogChange → List ℕ → List ℕ → Counts → List ℕ → List ℕ → ℕ → Spotted
+listed_spot kind l items chunks c words bytes key =
+    if change_ruled (change_of l items chunks) && shared_kept_of kind c words bytes
+    then spotted_in holder.List kind l.counts items chunks key (spotted_in holder.Shared kind c words bytes key (nowhere Done))
     else nowhere BadState
 
 -- `value`: the value that is copied, or 13 where the memories are not as long as they should be
-unfoldable pub valueLook : LogOverlays → List ℕ → List ℕ → ℕ → Looked
-valueLook o words bytes key =
-    if eqb (length words) 3840 && eqb (length bytes) 524288 then sharedLook Value (part_of holder.Shared Value o.counts words bytes) key else
-    lookedIf false none
+unfoldable pub value_look : LogOverlays → List ℕ → List ℕ → ℕ → Looked
+value_look o words bytes key =
+    if eqb (length words) 3840 && eqb (length bytes) 524288 then shared_look Value (part_of holder.Shared Value o.counts words bytes) key else
+    looked_if false none
 
 -- the value of a key, the list's first
-unfoldable pub valueListedLook : LogChange → List ℕ → List ℕ → LogOverlays → List ℕ → List ℕ → ℕ → Looked
-valueListedLook l items chunks o words bytes key =
+unfoldable pub value_listed_look : LogChange → List ℕ → List ℕ → LogOverlays → List ℕ → List ℕ → ℕ → Looked
+value_listed_look l items chunks o words bytes key =
     if eqb (length words) 3840 && eqb (length bytes) 524288
-    then listedLook Value (changeOf l items chunks) (part_of holder.Shared Value o.counts words bytes) key
-    else lookedIf false none
+    then listed_look Value (change_of l items chunks) (part_of holder.Shared Value o.counts words bytes) key
+    else looked_if false none
 
 -- what a lookup leaves: its answer's number; the memory, the place in it, and how many bytes lie there
 pub record SpotLeft (s : Spotted) (answer memory place long : ℕ) : Type 0 where
@@ -82,5 +82,5 @@ pub record SpotLeft (s : Spotted) (answer memory place long : ℕ) : Type 0 wher
 -- what `value` leaves: its answer's number, the destination from as it was to as it then is, whether there was a value
 pub record CopyLeft (l : Looked) (dest : List ℕ) (answer : ℕ) (after : List ℕ) (found : ℕ) : Type 0 where
   pub number : answer ≡ number_of l.answer
-  pub copy : after ≡ copiedOver (bytes_of l.entry) dest
-  pub some : found ≡ oneIf (isThere l.entry)
+  pub copy : after ≡ copied_over (bytes_of l.entry) dest
+  pub some : found ≡ one_if (is_there l.entry)

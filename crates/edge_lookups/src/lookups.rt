@@ -1,15 +1,15 @@
 // Lookups that say where the stored bytes lie.
 ghost use Rattle.std.specs.Prelude.{◌≡◌, true, length};
 ghost use Rattle.keys.specs.Keys.{rank};
-ghost use Rattle.overlay.specs.Rules.{overlayKept};
-ghost use Rattle.memory.specs.Parts.{span_of, wordsAll, bytesAll, part_of};
+ghost use Rattle.overlay.specs.Rules.{overlay_kept};
+ghost use Rattle.memory.specs.Parts.{span_of, words_all, bytes_all, part_of};
 ghost use Rattle.memory.specs.declared.span.Holder.TheVariants.{Shared, List};
 ghost use Rattle.answer.specs.declared.answer.Answer.TheVariants.{Done};
-ghost use Rattle.change.specs.Change.{changeOf, changeRuled};
-ghost use Rattle.host_words.specs.Tables.{kindFrom};
+ghost use Rattle.change.specs.Change.{change_of, change_ruled};
+ghost use Rattle.host_words.specs.Tables.{kind_from};
 ghost use Rattle.host_words.specs.Change.{list_from};
-ghost use Rattle.host_words.specs.Overlays.{overlaysFrom};
-ghost use Rattle.edge_lookups.specs.Lookups.{nowhere, memoryNumber, spottedIn, sharedKept, sharedSpot, listedSpot, SpotLeft};
+ghost use Rattle.host_words.specs.Overlays.{overlays_from};
+ghost use Rattle.edge_lookups.specs.Lookups.{nowhere, memory_number, spotted_in, shared_kept_of, shared_spot, listed_spot, SpotLeft};
 
 use super::place::place_of;
 use answer::Answer;
@@ -39,7 +39,7 @@ fn no_spot(answer: Answer) -> Spotted
 }
 
 fn memory_number(holder: Holder) -> u64
-    ensures { result ≡ memoryNumber holder }
+    ensures { result ≡ memory_number holder }
 {
     match holder {
         Holder::Shared => 2,
@@ -57,8 +57,8 @@ fn spot_in(
     index: u64,
     otherwise: Spotted,
 ) -> Spotted
-    requires { (length words.now ≡ wordsAll holder) × (length bytes.now ≡ bytesAll holder) × (overlayKept kind (span_of holder kind).room (part_of holder kind counts words.now bytes.now) ≡ true) }
-    ensures { result ≡ spottedIn holder kind counts words.now bytes.now (rank table index) otherwise }
+    requires { (length words.now ≡ words_all holder) × (length bytes.now ≡ bytes_all holder) × (overlay_kept kind (span_of holder kind).room (part_of holder kind counts words.now bytes.now) ≡ true) }
+    ensures { result ≡ spotted_in holder kind counts words.now bytes.now (rank table index) otherwise }
 {
     let p = place_of(holder, kind, counts, words, bytes, table, index);
     if !p.found {
@@ -74,7 +74,7 @@ fn spot_in(
 }
 
 pub(crate) fn shared_kept(kind: TableKind, counts: Counts, words: &[u64], bytes: &[u8]) -> bool
-    ensures { result ≡ sharedKept kind counts words.now bytes.now }
+    ensures { result ≡ shared_kept_of kind counts words.now bytes.now }
 {
     if words.len() != 3840 {
         return false;
@@ -94,8 +94,8 @@ fn shared_spot_kept(
     table: u16,
     index: u64,
 ) -> Spotted
-    requires { sharedKept kind counts words.now bytes.now ≡ true }
-    ensures { result ≡ spottedIn Shared kind counts words.now bytes.now (rank table index) (nowhere Done) }
+    requires { shared_kept_of kind counts words.now bytes.now ≡ true }
+    ensures { result ≡ spotted_in Shared kind counts words.now bytes.now (rank table index) (nowhere Done) }
 {
     let none = no_spot(Answer::Done);
     spot_in(
@@ -121,8 +121,8 @@ fn listed_spot_kept(
     table: u16,
     index: u64,
 ) -> Spotted
-    requires { (changeRuled (changeOf list items.now chunks.now) ≡ true) × (sharedKept kind counts words.now bytes.now ≡ true) }
-    ensures { result ≡ spottedIn List kind list.counts items.now chunks.now (rank table index) (spottedIn Shared kind counts words.now bytes.now (rank table index) (nowhere Done)) }
+    requires { (change_ruled (change_of list items.now chunks.now) ≡ true) × (shared_kept_of kind counts words.now bytes.now ≡ true) }
+    ensures { result ≡ spotted_in List kind list.counts items.now chunks.now (rank table index) (spotted_in Shared kind counts words.now bytes.now (rank table index) (nowhere Done)) }
 {
     let there = shared_spot_kept(kind, counts, words, bytes, table, index);
     let own = list.counts;
@@ -137,7 +137,7 @@ fn shared_spot(
     table: u16,
     index: u64,
 ) -> Spotted
-    ensures { result ≡ sharedSpot kind counts words.now bytes.now (rank table index) }
+    ensures { result ≡ shared_spot kind counts words.now bytes.now (rank table index) }
 {
     if !shared_kept(kind, counts, words, bytes) {
         return no_spot(Answer::BadState);
@@ -156,7 +156,7 @@ fn listed_spot(
     table: u16,
     index: u64,
 ) -> Spotted
-    ensures { result ≡ listedSpot kind list items.now chunks.now counts words.now bytes.now (rank table index) }
+    ensures { result ≡ listed_spot kind list items.now chunks.now counts words.now bytes.now (rank table index) }
 {
     if !list.ruled(items, chunks) {
         return no_spot(Answer::BadState);
@@ -192,7 +192,7 @@ pub extern "C" fn hongsathep_lookup(
     place: &mut u64,
     length: &mut u64,
 ) -> u64
-    ensures { SpotLeft (sharedSpot (kindFrom kind) (overlaysFrom overlays.now).counts words.now bytes.now (rank table index)) result memory.new place.new length.new }
+    ensures { SpotLeft (shared_spot (kind_from kind) (overlays_from overlays.now).counts words.now bytes.now (rank table index)) result memory.new place.new length.new }
 {
     let counts = overlays_of(overlays).counts;
     let k = kind_of(kind);
@@ -215,7 +215,7 @@ pub extern "C" fn hongsathep_lookup_listed(
     place: &mut u64,
     length: &mut u64,
 ) -> u64
-    ensures { SpotLeft (listedSpot (kindFrom kind) (list_from list.now) items.now chunks.now (overlaysFrom overlays.now).counts words.now bytes.now (rank table index)) result memory.new place.new length.new }
+    ensures { SpotLeft (listed_spot (kind_from kind) (list_from list.now) items.now chunks.now (overlays_from overlays.now).counts words.now bytes.now (rank table index)) result memory.new place.new length.new }
 {
     let counts = overlays_of(overlays).counts;
     let k = kind_of(kind);
@@ -236,8 +236,8 @@ pub extern "C" fn hongsathep_lookup_kept(
     place: &mut u64,
     length: &mut u64,
 ) -> u64
-    requires { sharedKept (kindFrom kind) (overlaysFrom overlays.now).counts words.now bytes.now ≡ true }
-    ensures { SpotLeft (spottedIn Shared (kindFrom kind) (overlaysFrom overlays.now).counts words.now bytes.now (rank table index) (nowhere Done)) result memory.new place.new length.new }
+    requires { shared_kept_of (kind_from kind) (overlays_from overlays.now).counts words.now bytes.now ≡ true }
+    ensures { SpotLeft (spotted_in Shared (kind_from kind) (overlays_from overlays.now).counts words.now bytes.now (rank table index) (nowhere Done)) result memory.new place.new length.new }
 {
     let counts = overlays_of(overlays).counts;
     let k = kind_of(kind);
@@ -260,8 +260,8 @@ pub extern "C" fn hongsathep_lookup_listed_kept(
     place: &mut u64,
     length: &mut u64,
 ) -> u64
-    requires { (changeRuled (changeOf (list_from list.now) items.now chunks.now) ≡ true) × (sharedKept (kindFrom kind) (overlaysFrom overlays.now).counts words.now bytes.now ≡ true) }
-    ensures { SpotLeft (spottedIn List (kindFrom kind) (list_from list.now).counts items.now chunks.now (rank table index) (spottedIn Shared (kindFrom kind) (overlaysFrom overlays.now).counts words.now bytes.now (rank table index) (nowhere Done))) result memory.new place.new length.new }
+    requires { (change_ruled (change_of (list_from list.now) items.now chunks.now) ≡ true) × (shared_kept_of (kind_from kind) (overlays_from overlays.now).counts words.now bytes.now ≡ true) }
+    ensures { SpotLeft (spotted_in List (kind_from kind) (list_from list.now).counts items.now chunks.now (rank table index) (spotted_in Shared (kind_from kind) (overlays_from overlays.now).counts words.now bytes.now (rank table index) (nowhere Done))) result memory.new place.new length.new }
 {
     let counts = overlays_of(overlays).counts;
     let k = kind_of(kind);

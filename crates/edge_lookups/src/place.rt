@@ -1,9 +1,9 @@
 // Where a key's bytes lie in one kind's part of a memory.
 ghost use Rattle.std.specs.Prelude.{◌≡◌, true, ◌≤◌, length};
 ghost use Rattle.keys.specs.Keys.{rank};
-ghost use Rattle.overlay.specs.Rules.{overlayKept};
-ghost use Rattle.memory.specs.Parts.{span_of, wordsAll, bytesAll, part_of};
-ghost use Rattle.query.specs.Places.{storedPlace};
+ghost use Rattle.overlay.specs.Rules.{overlay_kept};
+ghost use Rattle.memory.specs.Parts.{span_of, words_all, bytes_all, part_of};
+ghost use Rattle.query.specs.Places.{stored_place};
 
 use directory::TableKind;
 use memory::{Counts, Holder};
@@ -18,8 +18,8 @@ pub(crate) fn place_of(
     table: u16,
     index: u64,
 ) -> Place
-    requires { (length words.now ≡ wordsAll holder) × (length bytes.now ≡ bytesAll holder) × (overlayKept kind (span_of holder kind).room (part_of holder kind counts words.now bytes.now) ≡ true) }
-    ensures { (result ≡ storedPlace kind (part_of holder kind counts words.now bytes.now) (rank table index)) × (result.at ≤ length bytes.now) }
+    requires { (length words.now ≡ words_all holder) × (length bytes.now ≡ bytes_all holder) × (overlay_kept kind (span_of holder kind).room (part_of holder kind counts words.now bytes.now) ≡ true) }
+    ensures { (result ≡ stored_place kind (part_of holder kind counts words.now bytes.now) (rank table index)) × (result.at ≤ length bytes.now) }
 {
     let s = memory::span_of(holder, kind);
     let a = s.words_at;

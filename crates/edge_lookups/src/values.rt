@@ -3,13 +3,13 @@ ghost use Rattle.std.specs.Prelude.{◌≡◌, true, false};
 ghost use Rattle.std.proofs.Math.Option.{none};
 ghost use Rattle.answer.specs.Answer.{number_of};
 ghost use Rattle.directory.specs.declared.table.TableKind.TheVariants.{Value};
-ghost use Rattle.numbers.specs.Numbers.{oneIf};
+ghost use Rattle.numbers.specs.Numbers.{one_if};
 ghost use Rattle.keys.specs.Keys.{rank};
-ghost use Rattle.change.specs.Change.{changeOf, changeRuled};
-ghost use Rattle.query.specs.Query.{lookedIf, copiedBy, CopiesOut};
+ghost use Rattle.change.specs.Change.{change_of, change_ruled};
+ghost use Rattle.query.specs.Query.{looked_if, copied_by, CopiesOut};
 ghost use Rattle.host_words.specs.Change.{list_from};
-ghost use Rattle.host_words.specs.Overlays.{overlaysFrom};
-ghost use Rattle.edge_lookups.specs.Lookups.{sharedKept, valueLook, valueListedLook, CopyLeft};
+ghost use Rattle.host_words.specs.Overlays.{overlays_from};
+ghost use Rattle.edge_lookups.specs.Lookups.{shared_kept_of, value_look, value_listed_look, CopyLeft};
 
 use super::lookups::shared_kept;
 use answer::Answer;
@@ -20,7 +20,7 @@ use memory::{Holder, LogOverlays};
 use query::Copied;
 
 fn not_copied() -> Copied
-    ensures { result ≡ copiedBy (lookedIf false none) }
+    ensures { result ≡ copied_by (looked_if false none) }
 {
     Copied {
         answer: Answer::BadState,
@@ -37,8 +37,8 @@ fn copied_kept<'a>(
     index: u64,
     dest: &mut [u8],
 ) -> Copied
-    requires { sharedKept Value overlays.counts words.now bytes.now ≡ true }
-    ensures { CopiesOut (valueLook overlays words.now bytes.now (rank table index)) result dest.old dest.new }
+    requires { shared_kept_of Value overlays.counts words.now bytes.now ≡ true }
+    ensures { CopiesOut (value_look overlays words.now bytes.now (rank table index)) result dest.old dest.new }
 {
     let s = memory::span_of(Holder::Shared, TableKind::Value);
     let a = s.words_at;
@@ -63,7 +63,7 @@ fn copied<'a>(
     index: u64,
     dest: &mut [u8],
 ) -> Copied
-    ensures { CopiesOut (valueLook overlays words.now bytes.now (rank table index)) result dest.old dest.new }
+    ensures { CopiesOut (value_look overlays words.now bytes.now (rank table index)) result dest.old dest.new }
 {
     let counts = overlays.counts;
     if !shared_kept(TableKind::Value, counts, words, bytes) {
@@ -83,8 +83,8 @@ fn copied_listed_kept<'a>(
     index: u64,
     dest: &mut [u8],
 ) -> Copied
-    requires { (changeRuled (changeOf list items.now chunks.now) ≡ true) × (sharedKept Value overlays.counts words.now bytes.now ≡ true) }
-    ensures { CopiesOut (valueListedLook list items.now chunks.now overlays words.now bytes.now (rank table index)) result dest.old dest.new }
+    requires { (change_ruled (change_of list items.now chunks.now) ≡ true) × (shared_kept_of Value overlays.counts words.now bytes.now ≡ true) }
+    ensures { CopiesOut (value_listed_look list items.now chunks.now overlays words.now bytes.now (rank table index)) result dest.old dest.new }
 {
     let s = memory::span_of(Holder::Shared, TableKind::Value);
     let a = s.words_at;
@@ -115,7 +115,7 @@ fn copied_listed<'a>(
     index: u64,
     dest: &mut [u8],
 ) -> Copied
-    ensures { CopiesOut (valueListedLook list items.now chunks.now overlays words.now bytes.now (rank table index)) result dest.old dest.new }
+    ensures { CopiesOut (value_listed_look list items.now chunks.now overlays words.now bytes.now (rank table index)) result dest.old dest.new }
 {
     if !list.ruled(items, chunks) {
         return not_copied();
@@ -131,7 +131,7 @@ fn copied_listed<'a>(
 
 // What a copy came to, stored where the host lent room for it: one for all of them.
 fn keep_copied(done: Copied, found: &mut u64) -> u64
-    ensures { (result ≡ number_of done.answer) × (found.new ≡ oneIf done.found) }
+    ensures { (result ≡ number_of done.answer) × (found.new ≡ one_if done.found) }
 {
     *found = flag(done.found);
     let answer = done.answer;
@@ -148,7 +148,7 @@ pub extern "C" fn hongsathep_value<'a>(
     dest: &mut [u8],
     found: &mut u64,
 ) -> u64
-    ensures { CopyLeft (valueLook (overlaysFrom overlays.now) words.now bytes.now (rank table index)) dest.old result dest.new found.new }
+    ensures { CopyLeft (value_look (overlays_from overlays.now) words.now bytes.now (rank table index)) dest.old result dest.new found.new }
 {
     let done = copied(overlays_of(overlays), words, bytes, table, index, dest);
     keep_copied(done, found)
@@ -164,8 +164,8 @@ pub extern "C" fn hongsathep_value_kept<'a>(
     dest: &mut [u8],
     found: &mut u64,
 ) -> u64
-    requires { sharedKept Value (overlaysFrom overlays.now).counts words.now bytes.now ≡ true }
-    ensures { CopyLeft (valueLook (overlaysFrom overlays.now) words.now bytes.now (rank table index)) dest.old result dest.new found.new }
+    requires { shared_kept_of Value (overlays_from overlays.now).counts words.now bytes.now ≡ true }
+    ensures { CopyLeft (value_look (overlays_from overlays.now) words.now bytes.now (rank table index)) dest.old result dest.new found.new }
 {
     let done = copied_kept(overlays_of(overlays), words, bytes, table, index, dest);
     keep_copied(done, found)
@@ -184,7 +184,7 @@ pub extern "C" fn hongsathep_value_listed<'a>(
     dest: &mut [u8],
     found: &mut u64,
 ) -> u64
-    ensures { CopyLeft (valueListedLook (list_from list.now) items.now chunks.now (overlaysFrom overlays.now) words.now bytes.now (rank table index)) dest.old result dest.new found.new }
+    ensures { CopyLeft (value_listed_look (list_from list.now) items.now chunks.now (overlays_from overlays.now) words.now bytes.now (rank table index)) dest.old result dest.new found.new }
 {
     let l = list_of(list);
     let o = overlays_of(overlays);
@@ -205,8 +205,8 @@ pub extern "C" fn hongsathep_value_listed_kept<'a>(
     dest: &mut [u8],
     found: &mut u64,
 ) -> u64
-    requires { (changeRuled (changeOf (list_from list.now) items.now chunks.now) ≡ true) × (sharedKept Value (overlaysFrom overlays.now).counts words.now bytes.now ≡ true) }
-    ensures { CopyLeft (valueListedLook (list_from list.now) items.now chunks.now (overlaysFrom overlays.now) words.now bytes.now (rank table index)) dest.old result dest.new found.new }
+    requires { (change_ruled (change_of (list_from list.now) items.now chunks.now) ≡ true) × (shared_kept_of Value (overlays_from overlays.now).counts words.now bytes.now ≡ true) }
+    ensures { CopyLeft (value_listed_look (list_from list.now) items.now chunks.now (overlays_from overlays.now) words.now bytes.now (rank table index)) dest.old result dest.new found.new }
 {
     let l = list_of(list);
     let o = overlays_of(overlays);

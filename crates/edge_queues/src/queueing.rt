@@ -2,14 +2,14 @@
 ghost use Rattle.std.specs.Prelude.{◌≡◌, true, ltb, length};
 ghost use Rattle.answer.specs.Answer.{number_of};
 ghost use Rattle.numbers.specs.Numbers.{over};
-ghost use Rattle.found.specs.Names.{saidBy};
+ghost use Rattle.found.specs.Names.{said_by};
 ghost use Rattle.found.specs.Logs.{removed};
-ghost use Rattle.files.specs.Queues.{queuesKept};
-ghost use Rattle.files.specs.Moves.{noFiles};
-ghost use Rattle.files.specs.Calls.{flushOneKept, flushOne, replayRecordId, replayNextKept, replayNext, cleanLogsKept, cleanLogs, killLogsKept, killLogs};
-ghost use Rattle.host_words.specs.Head.{headRoom, headAfter};
-ghost use Rattle.host_queues.specs.Queues.{queuesSize, queuesFrom, queuesWords};
-ghost use Rattle.edge_queues.specs.Queueing.{open_in, readNextIn, readNextKeptIn, FlushLeft, ReplayLeft, KillLeft, CleanLeft, ReadLeft};
+ghost use Rattle.files.specs.Queues.{queues_kept};
+ghost use Rattle.files.specs.Moves.{no_files};
+ghost use Rattle.files.specs.Calls.{flush_one_kept, flush_one, replay_record_id, replay_next_kept, replay_next, clean_logs_kept, clean_logs, kill_logs_kept, kill_logs};
+ghost use Rattle.host_words.specs.Head.{head_room, head_after};
+ghost use Rattle.host_queues.specs.Queues.{queues_size, queues_from, queues_words};
+ghost use Rattle.edge_queues.specs.Queueing.{open_in, read_next_in, read_next_kept_in, FlushLeft, ReplayLeft, KillLeft, CleanLeft, ReadLeft};
 
 use answer::Answer;
 use files::{Cleaned, Flushed, Killed, Opened, Queues, ReadNext, ReplayNext};
@@ -19,8 +19,8 @@ use record::LogReader;
 
 #[unsafe(no_mangle)]
 pub extern "C" fn hongsathep_queues_new(queues: &mut [u64]) -> u64
-    ensures answer { result ≡ number_of (headRoom queuesSize queues.old) }
-    ensures queues { queues.new ≡ headAfter queuesSize (number_of (headRoom queuesSize queues.old)) queues.old (queuesWords noFiles) }
+    ensures answer { result ≡ number_of (head_room queues_size queues.old) }
+    ensures queues { queues.new ≡ head_after queues_size (number_of (head_room queues_size queues.old)) queues.old (queues_words no_files) }
 {
     let answer = head_room(queues, 331);
     keep_queues(queues, answer, Queues::new())
@@ -34,7 +34,7 @@ fn opened<'a>(
     remove: &mut [u64],
     words: usize,
 ) -> Opened
-    ensures { (result ≡ open_in names.now name_lengths.now lengths.now heads.now (length remove.old) words) × (remove.new ≡ over remove.old (removed (saidBy names.now name_lengths.now) lengths.now) result.remove_count) }
+    ensures { (result ≡ open_in names.now name_lengths.now lengths.now heads.now (length remove.old) words) × (remove.new ≡ over remove.old (removed (said_by names.now name_lengths.now) lengths.now) result.remove_count) }
 {
     if words != 331 {
         return Opened {
@@ -57,9 +57,9 @@ pub extern "C" fn hongsathep_open<'a>(
     queues: &mut [u64],
 ) -> u64
     ensures answer { result ≡ number_of (open_in names.now name_lengths.now lengths.now heads.now (length remove.old) (length queues.old)).answer }
-    ensures remove { remove.new ≡ over remove.old (Rattle.found.specs.Logs.removed (saidBy names.now name_lengths.now) lengths.now) (open_in names.now name_lengths.now lengths.now heads.now (length remove.old) (length queues.old)).remove_count }
+    ensures remove { remove.new ≡ over remove.old (Rattle.found.specs.Logs.removed (said_by names.now name_lengths.now) lengths.now) (open_in names.now name_lengths.now lengths.now heads.now (length remove.old) (length queues.old)).remove_count }
     ensures removed { removed.new ≡ (open_in names.now name_lengths.now lengths.now heads.now (length remove.old) (length queues.old)).remove_count }
-    ensures queues { queues.new ≡ headAfter queuesSize (number_of (open_in names.now name_lengths.now lengths.now heads.now (length remove.old) (length queues.old)).answer) queues.old (queuesWords (open_in names.now name_lengths.now lengths.now heads.now (length remove.old) (length queues.old)).queues) }
+    ensures queues { queues.new ≡ head_after queues_size (number_of (open_in names.now name_lengths.now lengths.now heads.now (length remove.old) (length queues.old)).answer) queues.old (queues_words (open_in names.now name_lengths.now lengths.now heads.now (length remove.old) (length queues.old)).queues) }
 {
     let n = queues.len();
     let o = opened(names, name_lengths, lengths, heads, remove, n);
@@ -125,7 +125,7 @@ fn keep_cleaned(
 }
 
 fn read_next(queues: &[u64], log: &[u8], position: usize, validate: bool, words: usize) -> ReadNext
-    ensures { result ≡ readNextIn queues.now log.now position validate words }
+    ensures { result ≡ read_next_in queues.now log.now position validate words }
 {
     let q = queues_of(queues);
     if words != 5 {
@@ -146,8 +146,8 @@ fn read_next_kept(
     validate: bool,
     words: usize,
 ) -> ReadNext
-    requires { queuesKept (queuesFrom queues.now) ≡ true }
-    ensures { result ≡ readNextKeptIn queues.now log.now position validate words }
+    requires { queues_kept (queues_from queues.now) ≡ true }
+    ensures { result ≡ read_next_kept_in queues.now log.now position validate words }
 {
     let q = queues_of(queues);
     if words != 5 {
@@ -179,7 +179,7 @@ pub extern "C" fn hongsathep_flush_one(
     moved: &mut u64,
     number: &mut u64,
 ) -> u64
-    ensures { FlushLeft (flushOne (queuesFrom queues.old) min) queues.old result queues.new moved.new number.new }
+    ensures { FlushLeft (flush_one (queues_from queues.old) min) queues.old result queues.new moved.new number.new }
 {
     let done = queues_of(queues).flush_one(min);
     keep_flush(queues, done, moved, number)
@@ -192,8 +192,8 @@ pub extern "C" fn hongsathep_flush_one_kept(
     moved: &mut u64,
     number: &mut u64,
 ) -> u64
-    requires { queuesKept (queuesFrom queues.old) ≡ true }
-    ensures { FlushLeft (flushOneKept (queuesFrom queues.old) min) queues.old result queues.new moved.new number.new }
+    requires { queues_kept (queues_from queues.old) ≡ true }
+    ensures { FlushLeft (flush_one_kept (queues_from queues.old) min) queues.old result queues.new moved.new number.new }
 {
     let done = queues_of(queues).flush_one_kept(min);
     keep_flush(queues, done, moved, number)
@@ -205,7 +205,7 @@ pub extern "C" fn hongsathep_replay_next(
     found: &mut u64,
     number: &mut u64,
 ) -> u64
-    ensures { ReplayLeft (replayNext (queuesFrom queues.old)) queues.old result queues.new found.new number.new }
+    ensures { ReplayLeft (replay_next (queues_from queues.old)) queues.old result queues.new found.new number.new }
 {
     let done = queues_of(queues).replay_next();
     keep_replay(queues, done, found, number)
@@ -217,8 +217,8 @@ pub extern "C" fn hongsathep_replay_next_kept(
     found: &mut u64,
     number: &mut u64,
 ) -> u64
-    requires { queuesKept (queuesFrom queues.old) ≡ true }
-    ensures { ReplayLeft (replayNextKept (queuesFrom queues.old)) queues.old result queues.new found.new number.new }
+    requires { queues_kept (queues_from queues.old) ≡ true }
+    ensures { ReplayLeft (replay_next_kept (queues_from queues.old)) queues.old result queues.new found.new number.new }
 {
     let done = queues_of(queues).replay_next_kept();
     keep_replay(queues, done, found, number)
@@ -234,7 +234,7 @@ pub extern "C" fn hongsathep_clean_logs(
     remove: &mut [u64; 64],
     removed: &mut u64,
 ) -> u64
-    ensures { CleanLeft (cleanLogs (queuesFrom queues.old) max) queues.old result queues.new more.new empty.new emptied.new remove.new removed.new }
+    ensures { CleanLeft (clean_logs (queues_from queues.old) max) queues.old result queues.new more.new empty.new emptied.new remove.new removed.new }
 {
     let done = queues_of(queues).clean_logs(max);
     keep_cleaned(queues, done, more, empty, emptied, remove, removed)
@@ -250,8 +250,8 @@ pub extern "C" fn hongsathep_clean_logs_kept(
     remove: &mut [u64; 64],
     removed: &mut u64,
 ) -> u64
-    requires { queuesKept (queuesFrom queues.old) ≡ true }
-    ensures { CleanLeft (cleanLogsKept (queuesFrom queues.old) max) queues.old result queues.new more.new empty.new emptied.new remove.new removed.new }
+    requires { queues_kept (queues_from queues.old) ≡ true }
+    ensures { CleanLeft (clean_logs_kept (queues_from queues.old) max) queues.old result queues.new more.new empty.new emptied.new remove.new removed.new }
 {
     let done = queues_of(queues).clean_logs_kept(max);
     keep_cleaned(queues, done, more, empty, emptied, remove, removed)
@@ -263,7 +263,7 @@ pub extern "C" fn hongsathep_kill_logs(
     remove: &mut [u64; 64],
     removed: &mut u64,
 ) -> u64
-    ensures { KillLeft (killLogs (queuesFrom queues.old)) queues.old result queues.new remove.new removed.new }
+    ensures { KillLeft (kill_logs (queues_from queues.old)) queues.old result queues.new remove.new removed.new }
 {
     let done = queues_of(queues).kill_logs();
     keep_killed(queues, done, remove, removed)
@@ -275,8 +275,8 @@ pub extern "C" fn hongsathep_kill_logs_kept(
     remove: &mut [u64; 64],
     removed: &mut u64,
 ) -> u64
-    requires { queuesKept (queuesFrom queues.old) ≡ true }
-    ensures { KillLeft (killLogsKept (queuesFrom queues.old)) queues.old result queues.new remove.new removed.new }
+    requires { queues_kept (queues_from queues.old) ≡ true }
+    ensures { KillLeft (kill_logs_kept (queues_from queues.old)) queues.old result queues.new remove.new removed.new }
 {
     let done = queues_of(queues).kill_logs_kept();
     keep_killed(queues, done, remove, removed)
@@ -291,7 +291,7 @@ pub extern "C" fn hongsathep_read_next(
     number: &mut u64,
     reader: &mut [u64],
 ) -> u64
-    ensures { ReadLeft (readNextIn queues.old log.now position validate (length reader.old)) queues.old result queues.new number.new reader.old reader.new }
+    ensures { ReadLeft (read_next_in queues.old log.now position validate (length reader.old)) queues.old result queues.new number.new reader.old reader.new }
 {
     let n = reader.len();
     let done = read_next(queues, log, position, validate, n);
@@ -307,8 +307,8 @@ pub extern "C" fn hongsathep_read_next_kept(
     number: &mut u64,
     reader: &mut [u64],
 ) -> u64
-    requires { queuesKept (queuesFrom queues.old) ≡ true }
-    ensures { ReadLeft (readNextKeptIn queues.old log.now position validate (length reader.old)) queues.old result queues.new number.new reader.old reader.new }
+    requires { queues_kept (queues_from queues.old) ≡ true }
+    ensures { ReadLeft (read_next_kept_in queues.old log.now position validate (length reader.old)) queues.old result queues.new number.new reader.old reader.new }
 {
     let n = reader.len();
     let done = read_next_kept(queues, log, position, validate, n);
@@ -318,8 +318,8 @@ pub extern "C" fn hongsathep_read_next_kept(
 // Whether there is a file to replay; its first id.
 #[unsafe(no_mangle)]
 pub extern "C" fn hongsathep_replay_record_id(queues: &[u64], id: &mut u64) -> bool
-    ensures found { result ≡ (replayRecordId (queuesFrom queues.now)).found }
-    ensures id { id.new ≡ (replayRecordId (queuesFrom queues.now)).id }
+    ensures found { result ≡ (replay_record_id (queues_from queues.now)).found }
+    ensures id { id.new ≡ (replay_record_id (queues_from queues.now)).id }
 {
     let first = queues_of(queues).replay_record_id();
     *id = first.id;
@@ -328,14 +328,14 @@ pub extern "C" fn hongsathep_replay_record_id(queues: &[u64], id: &mut u64) -> b
 
 #[unsafe(no_mangle)]
 pub extern "C" fn hongsathep_num_dirty_logs(queues: &[u64]) -> usize
-    ensures { result ≡ (queuesFrom queues.now).cleanup_queue.count }
+    ensures { result ≡ (queues_from queues.now).cleanup_queue.count }
 {
     queues_of(queues).num_dirty_logs()
 }
 
 #[unsafe(no_mangle)]
 pub extern "C" fn hongsathep_has_log_files_to_read(queues: &[u64]) -> bool
-    ensures { result ≡ ltb 0 (queuesFrom queues.now).read_queue.count }
+    ensures { result ≡ ltb 0 (queues_from queues.now).read_queue.count }
 {
     queues_of(queues).has_log_files_to_read()
 }

@@ -7,8 +7,8 @@ use Rattle.salvaging.specs.Salvage.{Left, left_of}
 use Rattle.salvaging.specs.declared.salvaged.Salvaged.{Salvaged}
 
 -- by its number and the two memories
-pub left-fields : (r : Salvaged) (number : ℕ) (out list : List ℕ) (l : Left) → number ≡ number_of r.answer → left_of r out list ≡ l
+pub left_fields : (r : Salvaged) (number : ℕ) (out list : List ℕ) (l : Left) → number ≡ number_of r.answer → left_of r out list ≡ l
     → (number ≡ number_of l.answer) × ((r.lines ≡ l.lines) × ((r.written ≡ l.written) × ((out ≡ l.out) × (list ≡ l.list))))
 unfolding left_of
-left-fields r number out list l n e =
+left_fields r number out list l n e =
     (n ∙ ap (λ (x : Left). number_of x.answer) e, (ap (λ (x : Left). x.lines) e, (ap (λ (x : Left). x.written) e, (ap (λ (x : Left). x.out) e, ap (λ (x : Left). x.list) e))))

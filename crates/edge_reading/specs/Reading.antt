@@ -14,70 +14,70 @@ use Rattle.replay.specs.declared.check.EndAnswer.{EndAnswer}
 use Rattle.replay.specs.declared.check.EndAnswer.TheVariants.{Ended, NotEnded}
 use Rattle.replay.specs.declared.one_record.Replayed.{Replayed}
 use Rattle.replay.specs.declared.many_records.Ran.{Ran}
-use Rattle.host_words.specs.Tables.{directoryFrom}
-use Rattle.host_words.specs.Head.{headAfter}
-use Rattle.host_words.specs.Reader.{readerSize, readerFormed, readerFrom, readerWords}
+use Rattle.host_words.specs.Tables.{directory_from}
+use Rattle.host_words.specs.Head.{head_after}
+use Rattle.host_words.specs.Reader.{reader_size, reader_formed, reader_from, reader_words}
 use Rattle.edge_reading.specs.declared.reading.ActionNumbers.{ActionNumbers}
 
 -- 0, or 13 for a state that breaks a rule
-abbrev pub keptNumber : Bool → ℕ
-keptNumber kept = if kept then 0 else 13
+abbrev pub kept_number : Bool → ℕ
+kept_number kept = if kept then 0 else 13
 
 -- the table that an action names; 0 where it names none
-abbrev pub rowWords : LogAction → ℕ
-rowWords BeginRecord = 0
-rowWords (InsertIndex a) = a.table.0
-rowWords (InsertValue a) = a.table.0
-rowWords (InsertRefCount a) = a.table.0
-rowWords (DropTable t) = t.0
-rowWords (DropRefCountTable t) = t.0
-rowWords EndRecord = 0
+abbrev pub row_words : LogAction → ℕ
+row_words BeginRecord = 0
+row_words (InsertIndex a) = a.table.0
+row_words (InsertValue a) = a.table.0
+row_words (InsertRefCount a) = a.table.0
+row_words (DropTable t) = t.0
+row_words (DropRefCountTable t) = t.0
+row_words EndRecord = 0
 
 -- the index
-abbrev pub indexIn : LogAction → ℕ
-indexIn BeginRecord = 0
-indexIn (InsertIndex a) = a.index
-indexIn (InsertValue a) = a.index
-indexIn (InsertRefCount a) = a.index
-indexIn (DropTable t) = 0
-indexIn (DropRefCountTable t) = 0
-indexIn EndRecord = 0
+abbrev pub index_in : LogAction → ℕ
+index_in BeginRecord = 0
+index_in (InsertIndex a) = a.index
+index_in (InsertValue a) = a.index
+index_in (InsertRefCount a) = a.index
+index_in (DropTable t) = 0
+index_in (DropRefCountTable t) = 0
+index_in EndRecord = 0
 
 -- an action in numbers: its tag, its table and index, where its payload starts and how long it is, all 0 after a refusal; and where the fault
 -- is, the position behind the action if there is none
-abbrev pub actionNumbers : Step → ActionNumbers
-actionNumbers (Took s) =
-    record { tag = tag_of s.action; table = rowWords s.action; index = indexIn s.action; start = s.start; length = s.length; fault = s.reader.position }
-actionNumbers (Refused x) = record { tag = 0; table = 0; index = 0; start = 0; length = 0; fault = x.position }
+abbrev pub action_numbers : Step → ActionNumbers
+action_numbers (Took s) =
+    record { tag = tag_of s.action; table = row_words s.action; index = index_in s.action; start = s.start; length = s.length; fault = s.reader.position }
+action_numbers (Refused x) = record { tag = 0; table = 0; index = 0; start = 0; length = 0; fault = x.position }
 
 -- the reader's words after a step: those of the reader behind the action, or as they were
-abbrev pub readerLeft : List ℕ → Step → List ℕ
-readerLeft w (Took s) = headAfter readerSize 0 w (readerWords s.reader)
-readerLeft w (Refused x) = w
+abbrev pub reader_left : List ℕ → Step → List ℕ
+reader_left w (Took s) = head_after reader_size 0 w (reader_words s.reader)
+reader_left w (Refused x) = w
 
 -- a step over words, at both doors: 13 where the reader's words are no reader, told at 0 since they hold no position
-unfoldable pub nextIn : List ℕ → List ℕ → List ℕ → Step
-nextIn tables log w = if readerFormed w then next_of (directoryFrom tables) log (readerFrom w) else refused BadState 0
+unfoldable pub next_in : List ℕ → List ℕ → List ℕ → Step
+next_in tables log w = if reader_formed w then next_of (directory_from tables) log (reader_from w) else refused BadState 0
 
 -- the same without the directory's test
-unfoldable pub stepIn : List ℕ → List ℕ → List ℕ → Step
-stepIn tables log w = if readerFormed w then step_of (directoryFrom tables) log (readerFrom w) else refused BadState 0
+unfoldable pub step_in : List ℕ → List ℕ → List ℕ → Step
+step_in tables log w = if reader_formed w then step_of (directory_from tables) log (reader_from w) else refused BadState 0
 
 -- what a step leaves: its answer's number, the reader's words from as they were to as they then are, the action in numbers
 pub record StepLeft (s : Step) (w : List ℕ) (answer : ℕ) (after : List ℕ) (numbers : ActionNumbers) : Type 0 where
   pub number : answer ≡ answer_of s
-  pub reader : after ≡ readerLeft w s
-  pub action : numbers ≡ actionNumbers s
+  pub reader : after ≡ reader_left w s
+  pub action : numbers ≡ action_numbers s
 
 -- an action's numbers one by one
-abbrev pub numbersOf : ℕ → ℕ → ℕ → ℕ → ℕ → ℕ → ActionNumbers
-numbersOf tag table index start length fault =
+abbrev pub numbers_of : ℕ → ℕ → ℕ → ℕ → ℕ → ℕ → ActionNumbers
+numbers_of tag table index start length fault =
     record { tag = tag; table = table; index = index; start = start; length = length; fault = fault }
 
 -- what `replay_kept` answers: the position behind the record, or the one handed in; and where the fault is
-abbrev pub replayedBy : ℕ → EndAnswer → Replayed
-replayedBy at (NotEnded x) = record { answer = x.answer; position = at; fault_at = x.position }
-replayedBy at (Ended end) = record { answer = Done; position = end; fault_at = end }
+abbrev pub replayed_by : ℕ → EndAnswer → Replayed
+replayed_by at (NotEnded x) = record { answer = x.answer; position = at; fault_at = x.position }
+replayed_by at (Ended end) = record { answer = Done; position = end; fault_at = end }
 
 -- what `replay` leaves beside the image: its answer's number, the position, where the fault is
 pub record ReplayedLeft (d : Replayed) (answer end fault : ℕ) : Type 0 where

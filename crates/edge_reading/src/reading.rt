@@ -1,13 +1,13 @@
 // The reader's calls.
 ghost use Rattle.std.specs.Prelude.{◌≡◌, true};
-ghost use Rattle.directory.specs.Directory.{directoryKept};
-ghost use Rattle.record.specs.Next.{refused, readerAt, answer_of};
-ghost use Rattle.host_words.specs.Tables.{directoryFrom};
-ghost use Rattle.host_words.specs.Head.{headRoom, headAfter};
-ghost use Rattle.host_words.specs.Reader.{readerSize, readerWords};
+ghost use Rattle.directory.specs.Directory.{directory_kept};
+ghost use Rattle.record.specs.Next.{refused, reader_at, answer_of};
+ghost use Rattle.host_words.specs.Tables.{directory_from};
+ghost use Rattle.host_words.specs.Head.{head_room, head_after};
+ghost use Rattle.host_words.specs.Reader.{reader_size, reader_words};
 ghost use Rattle.answer.specs.Answer.{number_of};
 ghost use Rattle.answer.specs.declared.answer.Answer.TheVariants.{BadState};
-ghost use Rattle.edge_reading.specs.Reading.{rowWords, indexIn, actionNumbers, readerLeft, nextIn, stepIn, StepLeft, numbersOf};
+ghost use Rattle.edge_reading.specs.Reading.{row_words, index_in, action_numbers, reader_left, next_in, step_in, StepLeft, numbers_of};
 
 use answer::{Answer, Refusal};
 use host_words::{directory_of, head_room, keep_reader, number, reader_formed, reader_of};
@@ -25,7 +25,7 @@ pub struct ActionNumbers {
 }
 
 fn table_in(action: LogAction) -> u16
-    ensures { result ≡ rowWords action }
+    ensures { result ≡ row_words action }
 {
     match action {
         LogAction::BeginRecord => 0,
@@ -39,7 +39,7 @@ fn table_in(action: LogAction) -> u16
 }
 
 fn index_in(action: LogAction) -> u64
-    ensures { result ≡ indexIn action }
+    ensures { result ≡ index_in action }
 {
     match action {
         LogAction::BeginRecord => 0,
@@ -53,7 +53,7 @@ fn index_in(action: LogAction) -> u64
 }
 
 fn action_in(step: Step) -> ActionNumbers
-    ensures { result ≡ actionNumbers step }
+    ensures { result ≡ action_numbers step }
 {
     match step {
         Step::Took(s) => {
@@ -93,7 +93,7 @@ fn answer_in(step: Step) -> u64
 
 // The reader behind an action, where there is one.
 fn keep_step(reader: &mut [u64], step: Step)
-    ensures { reader.new ≡ readerLeft reader.old step }
+    ensures { reader.new ≡ reader_left reader.old step }
 {
     let Step::Took(s) = step else {
         return;
@@ -109,7 +109,7 @@ fn no_reader() -> Step
 }
 
 fn next_in(tables: &[u64], log: &[u8], reader: &[u64]) -> Step
-    ensures { result ≡ nextIn tables.now log.now reader.now }
+    ensures { result ≡ next_in tables.now log.now reader.now }
 {
     if reader_formed(reader) {
         return reader_of(reader).next(directory_of(tables), log);
@@ -118,8 +118,8 @@ fn next_in(tables: &[u64], log: &[u8], reader: &[u64]) -> Step
 }
 
 fn step_in(tables: &[u64], log: &[u8], reader: &[u64]) -> Step
-    requires { directoryKept (directoryFrom tables.now) ≡ true }
-    ensures { result ≡ stepIn tables.now log.now reader.now }
+    requires { directory_kept (directory_from tables.now) ≡ true }
+    ensures { result ≡ step_in tables.now log.now reader.now }
 {
     if reader_formed(reader) {
         return reader_of(reader).next_kept(directory_of(tables), log);
@@ -138,7 +138,7 @@ fn keep_next(
     length: &mut u64,
     fault: &mut u64,
 ) -> u64
-    ensures { StepLeft step reader.old result reader.new (numbersOf tag.new table.new index.new start.new length.new fault.new) }
+    ensures { StepLeft step reader.old result reader.new (numbers_of tag.new table.new index.new start.new length.new fault.new) }
 {
     let a = action_in(step);
     *tag = a.tag;
@@ -153,8 +153,8 @@ fn keep_next(
 
 #[unsafe(no_mangle)]
 pub extern "C" fn hongsathep_reader_new(reader: &mut [u64], position: usize, validate: bool) -> u64
-    ensures answer { result ≡ number_of (headRoom readerSize reader.old) }
-    ensures after { reader.new ≡ headAfter readerSize (number_of (headRoom readerSize reader.old)) reader.old (readerWords (readerAt position validate)) }
+    ensures answer { result ≡ number_of (head_room reader_size reader.old) }
+    ensures after { reader.new ≡ head_after reader_size (number_of (head_room reader_size reader.old)) reader.old (reader_words (reader_at position validate)) }
 {
     let answer = head_room(reader, 5);
     keep_reader(reader, answer, LogReader::new(position, validate))
@@ -172,7 +172,7 @@ pub extern "C" fn hongsathep_next(
     length: &mut u64,
     fault: &mut u64,
 ) -> u64
-    ensures { StepLeft (nextIn tables.now log.now reader.old) reader.old result reader.new (numbersOf tag.new table.new index.new start.new length.new fault.new) }
+    ensures { StepLeft (next_in tables.now log.now reader.old) reader.old result reader.new (numbers_of tag.new table.new index.new start.new length.new fault.new) }
 {
     let step = next_in(tables, log, reader);
     keep_next(reader, step, tag, table, index, start, length, fault)
@@ -190,8 +190,8 @@ pub extern "C" fn hongsathep_next_kept(
     length: &mut u64,
     fault: &mut u64,
 ) -> u64
-    requires { directoryKept (directoryFrom tables.now) ≡ true }
-    ensures { StepLeft (stepIn tables.now log.now reader.old) reader.old result reader.new (numbersOf tag.new table.new index.new start.new length.new fault.new) }
+    requires { directory_kept (directory_from tables.now) ≡ true }
+    ensures { StepLeft (step_in tables.now log.now reader.old) reader.old result reader.new (numbers_of tag.new table.new index.new start.new length.new fault.new) }
 {
     let step = step_in(tables, log, reader);
     keep_next(reader, step, tag, table, index, start, length, fault)

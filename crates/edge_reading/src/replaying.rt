@@ -1,16 +1,16 @@
 // Replay: a record, and a run of them.
 ghost use Rattle.std.specs.Prelude.{◌≡◌, true};
-ghost use Rattle.replay.specs.Replay.{recordAt, tablesKept, judged, replayedAs, imageAfter, end_in};
-ghost use Rattle.replay.specs.Run.{runIn, run_of};
-ghost use Rattle.host_words.specs.Tables.{directoryFrom};
-ghost use Rattle.edge_reading.specs.Reading.{replayedBy, ReplayedLeft, RanLeft};
+ghost use Rattle.replay.specs.Replay.{record_at, tables_kept, judged, replayed_as, image_after, end_in};
+ghost use Rattle.replay.specs.Run.{run_in, run_of};
+ghost use Rattle.host_words.specs.Tables.{directory_from};
+ghost use Rattle.edge_reading.specs.Reading.{replayed_by, ReplayedLeft, RanLeft};
 
 use answer::Answer;
 use host_words::{directory_of, number};
 use replay::{EndAnswer, Ran, Replayed};
 
 fn replayed_by(at: usize, e: EndAnswer) -> Replayed
-    ensures { result ≡ replayedBy at e }
+    ensures { result ≡ replayed_by at e }
 {
     match e {
         EndAnswer::NotEnded(x) => {
@@ -59,8 +59,8 @@ pub extern "C" fn hongsathep_replay(
     end: &mut u64,
     fault: &mut u64,
 ) -> u64
-    ensures told { ReplayedLeft (replayedAs position (judged (directoryFrom tables.now) log.now position expected image.old)) result end.new fault.new }
-    ensures image { image.new ≡ imageAfter (directoryFrom tables.now) image.old (judged (directoryFrom tables.now) log.now position expected image.old) }
+    ensures told { ReplayedLeft (replayed_as position (judged (directory_from tables.now) log.now position expected image.old)) result end.new fault.new }
+    ensures image { image.new ≡ image_after (directory_from tables.now) image.old (judged (directory_from tables.now) log.now position expected image.old) }
 {
     let done = replay::replay(directory_of(tables), log, position, expected, image);
     keep_replayed(done, end, fault)
@@ -76,9 +76,9 @@ pub extern "C" fn hongsathep_replay_kept(
     end: &mut u64,
     fault: &mut u64,
 ) -> u64
-    requires { tablesKept (directoryFrom tables.now) image.old ≡ true }
-    ensures told { ReplayedLeft (replayedBy position (end_in (recordAt (directoryFrom tables.now) log.now position expected))) result end.new fault.new }
-    ensures image { image.new ≡ imageAfter (directoryFrom tables.now) image.old (recordAt (directoryFrom tables.now) log.now position expected) }
+    requires { tables_kept (directory_from tables.now) image.old ≡ true }
+    ensures told { ReplayedLeft (replayed_by position (end_in (record_at (directory_from tables.now) log.now position expected))) result end.new fault.new }
+    ensures image { image.new ≡ image_after (directory_from tables.now) image.old (record_at (directory_from tables.now) log.now position expected) }
 {
     let ended = replay::replay_kept(directory_of(tables), log, position, expected, image);
     keep_replayed(replayed_by(position, ended), end, fault)
@@ -95,8 +95,8 @@ pub extern "C" fn hongsathep_run(
     count: &mut u64,
     fault: &mut u64,
 ) -> u64
-    ensures told { RanLeft (run_of (directoryFrom tables.now) log.now position expected image.old).ran result end.new count.new fault.new }
-    ensures image { image.new ≡ (run_of (directoryFrom tables.now) log.now position expected image.old).image }
+    ensures told { RanLeft (run_of (directory_from tables.now) log.now position expected image.old).ran result end.new count.new fault.new }
+    ensures image { image.new ≡ (run_of (directory_from tables.now) log.now position expected image.old).image }
 {
     let ran = replay::run(directory_of(tables), log, position, expected, image);
     keep_ran(ran, end, count, fault)
@@ -113,9 +113,9 @@ pub extern "C" fn hongsathep_run_kept(
     count: &mut u64,
     fault: &mut u64,
 ) -> u64
-    requires { tablesKept (directoryFrom tables.now) image.old ≡ true }
-    ensures told { RanLeft (runIn (directoryFrom tables.now) log.now position expected 0 image.old).ran result end.new count.new fault.new }
-    ensures image { image.new ≡ (runIn (directoryFrom tables.now) log.now position expected 0 image.old).image }
+    requires { tables_kept (directory_from tables.now) image.old ≡ true }
+    ensures told { RanLeft (run_in (directory_from tables.now) log.now position expected 0 image.old).ran result end.new count.new fault.new }
+    ensures image { image.new ≡ (run_in (directory_from tables.now) log.now position expected 0 image.old).image }
 {
     let ran = replay::run_kept(directory_of(tables), log, position, expected, image);
     keep_ran(ran, end, count, fault)

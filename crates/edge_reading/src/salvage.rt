@@ -1,9 +1,9 @@
 // The whole records of a damaged log.
 ghost use Rattle.std.specs.Prelude.{◌≡◌, true, length};
 ghost use Rattle.answer.specs.Answer.{number_of};
-ghost use Rattle.directory.specs.Directory.{directoryKept};
-ghost use Rattle.salvaging.specs.Salvage.{linesOf, salvageBy, salvageOf};
-ghost use Rattle.host_words.specs.Tables.{directoryFrom};
+ghost use Rattle.directory.specs.Directory.{directory_kept};
+ghost use Rattle.salvaging.specs.Salvage.{lines_of, salvage_by, salvage_of};
+ghost use Rattle.host_words.specs.Tables.{directory_from};
 
 use host_words::{directory_of, number};
 
@@ -16,11 +16,11 @@ pub extern "C" fn hongsathep_salvage(
     lines: &mut u64,
     written: &mut u64,
 ) -> u64
-    ensures answer { result ≡ number_of (salvageOf (directoryFrom tables.now) log.now out.old list.old).answer }
-    ensures lines { lines.new ≡ (salvageOf (directoryFrom tables.now) log.now out.old list.old).lines }
-    ensures written { written.new ≡ (salvageOf (directoryFrom tables.now) log.now out.old list.old).written }
-    ensures out { out.new ≡ (salvageOf (directoryFrom tables.now) log.now out.old list.old).out }
-    ensures list { list.new ≡ (salvageOf (directoryFrom tables.now) log.now out.old list.old).list }
+    ensures answer { result ≡ number_of (salvage_of (directory_from tables.now) log.now out.old list.old).answer }
+    ensures lines { lines.new ≡ (salvage_of (directory_from tables.now) log.now out.old list.old).lines }
+    ensures written { written.new ≡ (salvage_of (directory_from tables.now) log.now out.old list.old).written }
+    ensures out { out.new ≡ (salvage_of (directory_from tables.now) log.now out.old list.old).out }
+    ensures list { list.new ≡ (salvage_of (directory_from tables.now) log.now out.old list.old).list }
 {
     let done = salvaging::salvage(directory_of(tables), log, out, list);
     *lines = done.lines as u64;
@@ -38,12 +38,12 @@ pub extern "C" fn hongsathep_salvage_kept(
     lines: &mut u64,
     written: &mut u64,
 ) -> u64
-    requires { (directoryKept (directoryFrom tables.now) ≡ true) × (length list.old ≡ 256) }
-    ensures answer { result ≡ number_of (salvageBy log.now (linesOf (directoryFrom tables.now) log.now) out.old list.old).answer }
-    ensures lines { lines.new ≡ (salvageBy log.now (linesOf (directoryFrom tables.now) log.now) out.old list.old).lines }
-    ensures written { written.new ≡ (salvageBy log.now (linesOf (directoryFrom tables.now) log.now) out.old list.old).written }
-    ensures out { out.new ≡ (salvageBy log.now (linesOf (directoryFrom tables.now) log.now) out.old list.old).out }
-    ensures list { list.new ≡ (salvageBy log.now (linesOf (directoryFrom tables.now) log.now) out.old list.old).list }
+    requires { (directory_kept (directory_from tables.now) ≡ true) × (length list.old ≡ 256) }
+    ensures answer { result ≡ number_of (salvage_by log.now (lines_of (directory_from tables.now) log.now) out.old list.old).answer }
+    ensures lines { lines.new ≡ (salvage_by log.now (lines_of (directory_from tables.now) log.now) out.old list.old).lines }
+    ensures written { written.new ≡ (salvage_by log.now (lines_of (directory_from tables.now) log.now) out.old list.old).written }
+    ensures out { out.new ≡ (salvage_by log.now (lines_of (directory_from tables.now) log.now) out.old list.old).out }
+    ensures list { list.new ≡ (salvage_by log.now (lines_of (directory_from tables.now) log.now) out.old list.old).list }
 {
     let done = salvaging::salvage_kept(directory_of(tables), log, out, list);
     *lines = done.lines as u64;

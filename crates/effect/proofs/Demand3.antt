@@ -14,18 +14,18 @@ use lib.ListN.{length, get_or}
 use Rattle.words.specs.Choice.{if◌then◌else◌}
 use Rattle.directory.specs.declared.directory.Directory.{Directory}
 use Rattle.effect.specs.Effect.{Written, apply}
-use Rattle.effect.specs.Order.{writesTo, dropsTable, Each, Pairs, Other, Spared}
-use Rattle.effect.proofs.Bytes.{recordAt, apply_at, apply-same}
-use Rattle.effect.proofs.Settle.{wrote, dropped, wrote-perm, dropped-perm, settle}
+use Rattle.effect.specs.Order.{writes_to, drops_table, Each, Pairs, Other, Spared}
+use Rattle.effect.proofs.Bytes.{record_at, apply_at, apply-same}
+use Rattle.effect.proofs.Settle.{wrote, dropped, wrote_perm, dropped_perm, settle}
 
 shuffled : (d : Directory) (s t : List Written) (image : List ℕ) → Permᴰ s t → Pairs Other s → Pairs Spared s → Pairs Spared t
     → apply d s image ≡ apply d t image
 shuffled d s t image q other spared spared' = apply-same d s t image each
   where
-    each : (p : ℕ) → recordAt d s p ≡ recordAt d t p
+    each : (p : ℕ) → record_at d s p ≡ record_at d t p
     each p =
         settle d p s spared
-        ∙ ap₂ (λ (x : Bool) (y : Option ℕ). if x then some 0 else y) (dropped-perm d p q) (wrote-perm d p q other)
+        ∙ ap₂ (λ (x : Bool) (y : Option ℕ). if x then some 0 else y) (dropped_perm d p q) (wrote_perm d p q other)
         ∙ sym (settle d p t spared')
 
 pub demand-3 : (d : Directory) (s t : List Written) (image : List ℕ)
@@ -45,17 +45,17 @@ pub settled : (d : Directory) (s : List Written) (image : List ℕ) (p : ℕ)
 settled d s image p spared h = apply_at d s image p h ∙ ap (λ (o : Option ℕ). Option.get_or o (get_or image p 0)) (settle d p s spared)
 
 -- The writer's order, writes and then drops, meets the premise on drops.
-pub writer-order : (ws ds : List Written)
-    → Each (λ w. dropsTable w ≡ none) ws  -- first actions that drop nothing
-    → Each (λ w. writesTo w ≡ none) ds  -- then actions that write nothing
+pub writer_order : (ws ds : List Written)
+    → Each (λ w. drops_table w ≡ none) ws  -- first actions that drop nothing
+    → Each (λ w. writes_to w ≡ none) ds  -- then actions that write nothing
     → Pairs Spared (ws ++ ds)
-writer-order [] [] h k = tt
-writer-order [] (v ∷ ds) h k = (free ds k.1, writer-order [] ds h k.1)
+writer_order [] [] h k = tt
+writer_order [] (v ∷ ds) h k = (free ds k.1, writer_order [] ds h k.1)
   where
-    free : (l : List Written) → Each (λ w. writesTo w ≡ none) l → Each (Spared v) l
+    free : (l : List Written) → Each (λ w. writes_to w ≡ none) l → Each (Spared v) l
     free [] q = tt
     free (w ∷ l) q = ((λ t a b. let z : ◌≡◌ {A = ℕ} 0 1 = cc q.0 in omega arith), free l q.1)
-writer-order (v ∷ ws) ds h k = (free (ws ++ ds), writer-order ws ds h.1 k)
+writer_order (v ∷ ws) ds h k = (free (ws ++ ds), writer_order ws ds h.1 k)
   where
     free : (l : List Written) → Each (Spared v) l
     free [] = tt

@@ -6,7 +6,7 @@ use native.Mathlib.Nat.{mul-le-mul_right}
 use native.Mathlib.Omega.{arith}
 use lib.Count.{ones_in, ones, ones_step}
 use lib.ListN.{length}
-use Rattle.words.specs.Words.{littleAt}
+use Rattle.words.specs.Words.{little_at}
 use Rattle.effect.specs.Meaning.{Entries}
 
 -- the k lowest bits have no more set ones than all
@@ -15,7 +15,7 @@ unfolding ones_in
 low_ones zero m = omega arith
 low_ones (suc k) m = omega (arith, ones_step m, low_ones k (m / 2))
 
-module _ (width mask : ℕ) (payload : List ℕ) (m : mask ≡ littleAt 8 payload 0) (e : Entries width payload) where
+module _ (width mask : ℕ) (payload : List ℕ) (m : mask ≡ little_at 8 payload 0) (e : Entries width payload) where
   -- the payload holds an entry for each set bit, and so for each of the lowest 64
   pub entries-held : 8 + ones mask * width ≤ length payload
   entries-held = rw m (omega arith)

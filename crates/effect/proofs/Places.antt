@@ -10,18 +10,18 @@ use lib.Dec.{eqb, ltb}
 use lib.ListN.{take}
 use borrow.Author.Tests.{eqb-true, lt-ltb, le-ltb}
 use Rattle.words.specs.Choice.{if◌then◌else◌}
-use Rattle.directory.specs.Table.{sameKind, isTable, slotLength, size_of}
-use Rattle.directory.specs.Directory.{tables_of, findFrom, findTable, sizesOf, start_of, imageLength}
+use Rattle.directory.specs.Table.{same_kind_of, is_table, slot_length, size_of}
+use Rattle.directory.specs.Directory.{tables_of, find_from, find_table, sizes_of, start_of, image_length}
 use Rattle.directory.specs.declared.table.TableKind.{TableKind}
 use Rattle.directory.specs.declared.table.TableKind.TheVariants.{Index, Value, RefCount}
 use Rattle.directory.specs.declared.table.TableDescription.{TableDescription}
 use Rattle.directory.specs.declared.directory.Directory.{Directory}
 use Rattle.directory.specs.declared.directory.Found.{Found}
 use Rattle.directory.specs.declared.directory.Found.TheVariants.{At, Nothing}
-use Rattle.record.specs.Record.{valueLength}
+use Rattle.record.specs.Record.{value_length}
 use Rattle.effect.specs.Effect.{Place, place_of}
 
-same_kind : (k j : TableKind) → sameKind k j ≡ true → k ≡ j
+same_kind : (k j : TableKind) → same_kind_of k j ≡ true → k ≡ j
 same_kind Index Index e = refl
 same_kind Value Value e = refl
 same_kind RefCount RefCount e = refl
@@ -41,22 +41,22 @@ home base (t ∷ ts) p = if ltb p (base + size_of t) then some (record { at = ba
 record Nth (kind : TableKind) (number base : ℕ) (ts : List TableDescription) (n : ℕ) (t : TableDescription) : Type 0 where
   of : t.kind ≡ kind
   called : t.number ≡ number
-  room : sizesOf (take n ts) + size_of t ≤ sizesOf ts
-  homes : (p : ℕ) → base + sizesOf (take n ts) ≤ p → p < base + sizesOf (take n ts) + size_of t
-      → home base ts p ≡ some (record { at = base + sizesOf (take n ts); table = t })
+  room : sizes_of (take n ts) + size_of t ≤ sizes_of ts
+  homes : (p : ℕ) → base + sizes_of (take n ts) ≤ p → p < base + sizes_of (take n ts) + size_of t
+      → home base ts p ≡ some (record { at = base + sizes_of (take n ts); table = t })
 
-nth : (kind : TableKind) (number from base : ℕ) (ts : List TableDescription) (row : ℕ) (u : TableDescription) → findFrom from ts kind number ≡ At row u
+nth : (kind : TableKind) (number from base : ℕ) (ts : List TableDescription) (row : ℕ) (u : TableDescription) → find_from from ts kind number ≡ At row u
     → (n : ℕ) × (row ≡ from + n) × Nth kind number base ts n u
-unfolding findFrom home sizesOf isTable
+unfolding find_from home sizes_of is_table
 nth kind number from base [] row u e = let z : ◌≡◌ {A = ℕ} 0 1 = cc in absurd (omega arith)
-nth kind number from base (t ∷ ts) row u e = go (nth kind number (from + 1) (base + size_of t) ts row u) (isTable t kind number) refl
+nth kind number from base (t ∷ ts) row u e = go (nth kind number (from + 1) (base + size_of t) ts row u) (is_table t kind number) refl
   where
-    go : (findFrom (from + 1) ts kind number ≡ At row u → (n : ℕ) × (row ≡ from + 1 + n) × Nth kind number (base + size_of t) ts n u)
-        → (b : Bool) → isTable t kind number ≡ b → (n : ℕ) × (row ≡ from + n) × Nth kind number base (t ∷ ts) n u
+    go : (find_from (from + 1) ts kind number ≡ At row u → (n : ℕ) × (row ≡ from + 1 + n) × Nth kind number (base + size_of t) ts n u)
+        → (b : Bool) → is_table t kind number ≡ b → (n : ℕ) × (row ≡ from + n) × Nth kind number base (t ∷ ts) n u
     go ih true q =
         let s : t ≡ u = cc (rw q at e) in
         let f : from ≡ row = cc (rw q at e) in
-        let r = (and-eq-true_iff (sameKind t.kind kind) (eqb t.number number)).0 q in (
+        let r = (and-eq-true_iff (same_kind_of t.kind kind) (eqb t.number number)).0 q in (
           0,
           omega arith,
           subst (λ (x : TableDescription). Nth kind number base (t ∷ ts) 0 x) s
@@ -84,14 +84,14 @@ nth kind number from base (t ∷ ts) row u e = go (nth kind number (from + 1) (b
 pub record Stands (d : Directory) (kind : TableKind) (number : ℕ) (P : Place) : Type 0 where
   pub of : P.table.kind ≡ kind
   pub called : P.table.number ≡ number
-  pub room : P.at + size_of P.table ≤ imageLength d
+  pub room : P.at + size_of P.table ≤ image_length d
   pub homes : (p : ℕ) → P.at ≤ p → p < P.at + size_of P.table → home 0 (tables_of d) p ≡ some P
 
 pub stands : (d : Directory) (kind : TableKind) (number : ℕ) (P : Place) → place_of d kind number ≡ some P → Stands d kind number P
-unfolding place_of findTable start_of imageLength
-stands d kind number P e = go (findTable d kind number) refl
+unfolding place_of find_table start_of image_length
+stands d kind number P e = go (find_table d kind number) refl
   where
-    go : (f : Found) → findTable d kind number ≡ f → Stands d kind number P
+    go : (f : Found) → find_table d kind number ≡ f → Stands d kind number P
     go Nothing q = let z : ◌≡◌ {A = ℕ} 0 1 = cc (rw q at e) in absurd (omega arith)
     go (At row t) q =
         let s : record { at = start_of d row; table = t } ≡ P = cc (rw q at e) in
@@ -101,5 +101,5 @@ stands d kind number P e = go (findTable d kind number) refl
         subst (λ (P : Place). Stands d kind number P) s (record { of = x.of; called = x.called; room = x.room; homes = simp zero-add at x.homes })
 
 -- a value in a record is as long as its slot in the image
-pub value-slot : (d : Directory) (number : ℕ) (P : Place) → place_of d Value number ≡ some P → valueLength P.table ≡ slotLength P.table
+pub value-slot : (d : Directory) (number : ℕ) (P : Place) → place_of d Value number ≡ some P → value_length P.table ≡ slot_length P.table
 value-slot d number P e = rw (stands d Value number P e).of

@@ -12,15 +12,15 @@ use lib.Dec.{eqb, ltb}
 use lib.ListN.{length, take, drop, replicate, length-take, length-replicate}
 use borrow.Author.Tests.{eqb-true, ltb-true}
 use Rattle.words.specs.Choice.{if◌then◌else◌}
-use Rattle.directory.specs.Table.{unit_of, slotLength, size_of}
+use Rattle.directory.specs.Table.{unit_of, slot_length, size_of}
 use Rattle.directory.specs.Directory.{tables_of}
 use Rattle.directory.specs.declared.table.TableKind.{TableKind}
 use Rattle.directory.specs.declared.table.TableKind.TheVariants.{Index, Value, RefCount}
 use Rattle.directory.specs.declared.directory.Directory.{Directory}
 use Rattle.record.specs.declared.action.LogAction.{LogAction}
 use Rattle.record.specs.declared.action.LogAction.TheVariants.{BeginRecord, InsertIndex, InsertValue, InsertRefCount, EndRecord, DropTable, DropRefCountTable}
-use Rattle.effect.specs.Effect.{maskIn, entriesIn, Place, place_of, Stroke, stroke, slotStrokes, underIndex, zeroed, strokes}
-use Rattle.effect.specs.Order.{NamedTable, Target, target, ifMasked, written_by, droppedBy}
+use Rattle.effect.specs.Effect.{mask_in, entries_in, Place, place_of, Stroke, stroke, slot_strokes, under_index, zeroed, strokes}
+use Rattle.effect.specs.Order.{NamedTable, Target, target, if_masked, written_by, dropped_by}
 use Rattle.effect.proofs.Bytes.{byte_at, last_at}
 use Rattle.effect.proofs.Places.{home, stands}
 
@@ -34,53 +34,53 @@ no_table : {t : NamedTable} → ◌≡◌ {A = Option NamedTable} none (some t) 
 no_table e = let z : ◌≡◌ {A = ℕ} 0 1 = cc in omega arith
 
 -- what a mask says of where is written
-masked-to : (payload : List ℕ) (s t : Target) → ifMasked payload s ≡ some t → s ≡ t
-masked-to payload s t e = go (eqb (maskIn payload) 0) e
+masked_to : (payload : List ℕ) (s t : Target) → if_masked payload s ≡ some t → s ≡ t
+masked_to payload s t e = go (eqb (mask_in payload) 0) e
   where
     go : (b : Bool) → (if b then none else some s) ≡ some t → s ≡ t
     go true q = absurd (no_target q)
     go false q = cc
 
-no-mask : (payload : List ℕ) (s : Target) → ifMasked payload s ≡ none → eqb (maskIn payload) 0 ≡ true
-no-mask payload s e = go (eqb (maskIn payload) 0) e
+no-mask : (payload : List ℕ) (s : Target) → if_masked payload s ≡ none → eqb (mask_in payload) 0 ≡ true
+no-mask payload s e = go (eqb (mask_in payload) 0) e
   where
     go : (b : Bool) → (if b then none else some s) ≡ none → b ≡ true
     go true q = refl
     go false q = absurd (no_target (sym q))
 
-orElse-some : (a b : Option ℕ) (x : ℕ) → or_else a b ≡ some x → (a ≡ some x) ⊎ (b ≡ some x)
+or_else-some : (a b : Option ℕ) (x : ℕ) → or_else a b ≡ some x → (a ≡ some x) ⊎ (b ≡ some x)
 unfolding or_else
-orElse-some none b x e = inr e
-orElse-some (some a) b x e = inl e
+or_else-some none b x e = inr e
+or_else-some (some a) b x e = inl e
 
-pub byteAt-in : (bs : List ℕ) (at p b : ℕ) → byte_at at bs p ≡ some b → (at ≤ p) × (p < at + length bs)
+pub byte_at_in : (bs : List ℕ) (at p b : ℕ) → byte_at at bs p ≡ some b → (at ≤ p) × (p < at + length bs)
 unfolding byte_at
-byteAt-in [] at p b e = absurd (never e)
-byteAt-in (c ∷ bs) at p b e = go (byteAt-in bs (suc at) p b) (eqb p at) refl
+byte_at_in [] at p b e = absurd (never e)
+byte_at_in (c ∷ bs) at p b e = go (byte_at_in bs (suc at) p b) (eqb p at) refl
   where
     go : (byte_at (suc at) bs p ≡ some b → (suc at ≤ p) × (p < suc at + length bs)) → (t : Bool) → eqb p at ≡ t → (at ≤ p) × (p < at + suc (length bs))
     go ih true q = let r : p ≡ at = eqb-true p at q in omega arith
     go ih false q = let r = ih (rw q at e) in omega arith
 
-pub slots-in : (n w at m : ℕ) (bs : List ℕ) (p b : ℕ) → last_at (slotStrokes n w at m bs) p ≡ some b → (at ≤ p) × (p < at + n * w)
-unfolding slotStrokes last_at
-slots-in zero w at m bs p b e = absurd (never e)
-slots-in (suc n) w at m bs p b e = go (slots-in n w (at + w) (m / 2)) (eqb (m % 2) 1) refl
+pub slots_in : (n w at m : ℕ) (bs : List ℕ) (p b : ℕ) → last_at (slot_strokes n w at m bs) p ≡ some b → (at ≤ p) × (p < at + n * w)
+unfolding slot_strokes last_at
+slots_in zero w at m bs p b e = absurd (never e)
+slots_in (suc n) w at m bs p b e = go (slots_in n w (at + w) (m / 2)) (eqb (m % 2) 1) refl
   where
     Next : Type 0
-    Next = (cs : List ℕ) (p b : ℕ) → last_at (slotStrokes n w (at + w) (m / 2) cs) p ≡ some b → (at + w ≤ p) × (p < at + w + n * w)
+    Next = (cs : List ℕ) (p b : ℕ) → last_at (slot_strokes n w (at + w) (m / 2) cs) p ≡ some b → (at + w ≤ p) × (p < at + w + n * w)
 
     go : Next → (t : Bool) → eqb (m % 2) 1 ≡ t → (at ≤ p) × (p < at + suc n * w)
     go ih true q =
-        ⊎_elim (λ f. let r = ih (drop w bs) p b f in omega arith) (λ f. let r = byteAt-in (take w bs) at p b f in omega (arith, length-take w bs))
-        (orElse-some (last_at (slotStrokes n w (at + w) (m / 2) (drop w bs)) p) (byte_at at (take w bs) p) b (rw q at e))
+        ⊎_elim (λ f. let r = ih (drop w bs) p b f in omega arith) (λ f. let r = byte_at_in (take w bs) at p b f in omega (arith, length-take w bs))
+        (or_else-some (last_at (slot_strokes n w (at + w) (m / 2) (drop w bs)) p) (byte_at at (take w bs) p) b (rw q at e))
     go ih false q = let r = ih bs p b (rw q at e) in omega arith
 
 -- zeros are all that a drop stores
-zeros-byte : (n at p b : ℕ) → byte_at at (replicate n 0) p ≡ some b → b ≡ 0
+zeros_byte : (n at p b : ℕ) → byte_at at (replicate n 0) p ≡ some b → b ≡ 0
 unfolding byte_at
-zeros-byte zero at p b e = absurd (never e)
-zeros-byte (suc n) at p b e = go (zeros-byte n (suc at) p b) (eqb p at) refl
+zeros_byte zero at p b e = absurd (never e)
+zeros_byte (suc n) at p b e = go (zeros_byte n (suc at) p b) (eqb p at) refl
   where
     go : (byte_at (suc at) (replicate n 0) p ≡ some b → b ≡ 0) → (t : Bool) → eqb p at ≡ t → b ≡ 0
     go ih true q = cc (rw q at e)
@@ -89,7 +89,7 @@ zeros-byte (suc n) at p b e = go (zeros-byte n (suc at) p b) (eqb p at) refl
 zeroed-all : (o : Option Place) (p b : ℕ) → last_at (zeroed o) p ≡ some b → b ≡ 0
 unfolding zeroed last_at or_else
 zeroed-all none p b e = absurd (never e)
-zeroed-all (some P) p b e = zeros-byte (size_of P.table) P.at p b e
+zeroed-all (some P) p b e = zeros_byte (size_of P.table) P.at p b e
 
 module _ (d : Directory) where
   -- p lies in the table of that kind and number
@@ -112,17 +112,17 @@ module _ (d : Directory) where
   -- and under an index of it
   pub record Under (kind : TableKind) (number i p : ℕ) : Type 0 where
     pub inside : In kind number p
-    pub under : (p - inside.place.at) / slotLength inside.place.table ≡ i
+    pub under : (p - inside.place.at) / slot_length inside.place.table ≡ i
 
-  under-in : (kind : TableKind) (number i : ℕ) (f : ℕ → ℕ → List Stroke) (p b : ℕ)
+  under_in : (kind : TableKind) (number i : ℕ) (f : ℕ → ℕ → List Stroke) (p b : ℕ)
       → ((at u len : ℕ) → u ≡ unit_of kind len → last_at (f at u) p ≡ some b → (at ≤ p) × (p < at + u))
-      → last_at (underIndex (place_of d kind number) i f) p ≡ some b → Under kind number i p
-  unfolding underIndex last_at size_of
-  under-in kind number i f p b h e = go (place_of d kind number) refl
+      → last_at (under_index (place_of d kind number) i f) p ≡ some b → Under kind number i p
+  unfolding under_index last_at size_of
+  under_in kind number i f p b h e = go (place_of d kind number) refl
     where
       low : (P : Place) → place_of d kind number ≡ some P → (t : Bool) → ltb i P.table.count ≡ t → Under kind number i p
       low P q true c =
-          let u : ℕ = slotLength P.table in
+          let u : ℕ = slot_length P.table in
           let k : u ≡ unit_of kind P.table.length = ap (λ (x : TableKind). unit_of x P.table.length) (stands d kind number P q).of in
           let r : (P.at + i * u ≤ p) × (p < P.at + i * u + u) = h (P.at + i * u) u P.table.length k (rw (q, c) at e) in
           let l : suc i * u ≤ P.table.count * u = mul-le-mul_right u (ltb-true i P.table.count c) in
@@ -136,82 +136,82 @@ module _ (d : Directory) where
       go none q = absurd (never (rw q at e))
       go (some P) q = low P q (ltb i P.table.count) refl
 
-  zeroed-in : (kind : TableKind) (number p b : ℕ) → last_at (zeroed (place_of d kind number)) p ≡ some b → In kind number p
+  zeroed_in : (kind : TableKind) (number p b : ℕ) → last_at (zeroed (place_of d kind number)) p ≡ some b → In kind number p
   unfolding zeroed last_at or_else
-  zeroed-in kind number p b e = go (place_of d kind number) refl
+  zeroed_in kind number p b e = go (place_of d kind number) refl
     where
       go : (o : Option Place) → place_of d kind number ≡ o → In kind number p
       go none q = absurd (never (rw q at e))
       go (some P) q =
-          let r = byteAt-in (replicate (size_of P.table) 0) P.at p b (rw q at e) in
+          let r = byte_at_in (replicate (size_of P.table) 0) P.at p b (rw q at e) in
           record { place = P; is = q; from = omega arith; to = omega (arith, length-replicate {A = ℕ} (size_of P.table) 0) }
 
   -- a write reaches only what lies under its index
-  pub write-in : (a : LogAction) (payload : List ℕ) (p b : ℕ) (t : Target) → written_by a payload ≡ some t → last_at (strokes d a payload) p ≡ some b
+  pub write_in : (a : LogAction) (payload : List ℕ) (p b : ℕ) (t : Target) → written_by a payload ≡ some t → last_at (strokes d a payload) p ≡ some b
       → Under t.table.kind t.table.number t.index p
   unfolding strokes last_at or_else
-  write-in (InsertIndex a) payload p b t w e =
-      rw (← masked-to payload (target Index a.table.0 a.index) t w)
-      (under-in Index a.table.0 a.index (λ at u. slotStrokes 64 8 at (maskIn payload) (entriesIn payload)) p b
-      (λ at u len q g. let r = slots-in 64 8 at (maskIn payload) (entriesIn payload) p b g in omega arith) e)
-  write-in (InsertValue a) payload p b t w e =
+  write_in (InsertIndex a) payload p b t w e =
+      rw (← masked_to payload (target Index a.table.0 a.index) t w)
+      (under_in Index a.table.0 a.index (λ at u. slot_strokes 64 8 at (mask_in payload) (entries_in payload)) p b
+      (λ at u len q g. let r = slots_in 64 8 at (mask_in payload) (entries_in payload) p b g in omega arith) e)
+  write_in (InsertValue a) payload p b t w e =
       let s : target Value a.table.0 a.index ≡ t = cc in
       rw (← s)
-      (under-in Value a.table.0 a.index (λ at u. stroke at (take u payload) ∷ []) p b
-      (λ at u len q g. let r = byteAt-in (take u payload) at p b g in omega (arith, length-take u payload)) e)
-  write-in (InsertRefCount a) payload p b t w e =
-      rw (← masked-to payload (target RefCount a.table.0 a.index) t w)
-      (under-in RefCount a.table.0 a.index (λ at u. slotStrokes 64 16 at (maskIn payload) (entriesIn payload)) p b
-      (λ at u len q g. let r = slots-in 64 16 at (maskIn payload) (entriesIn payload) p b g in omega arith) e)
-  write-in (DropTable n) payload p b t w e = absurd (no_target w)
-  write-in (DropRefCountTable n) payload p b t w e = absurd (no_target w)
-  write-in BeginRecord payload p b t w e = absurd (no_target w)
-  write-in EndRecord payload p b t w e = absurd (no_target w)
+      (under_in Value a.table.0 a.index (λ at u. stroke at (take u payload) ∷ []) p b
+      (λ at u len q g. let r = byte_at_in (take u payload) at p b g in omega (arith, length-take u payload)) e)
+  write_in (InsertRefCount a) payload p b t w e =
+      rw (← masked_to payload (target RefCount a.table.0 a.index) t w)
+      (under_in RefCount a.table.0 a.index (λ at u. slot_strokes 64 16 at (mask_in payload) (entries_in payload)) p b
+      (λ at u len q g. let r = slots_in 64 16 at (mask_in payload) (entries_in payload) p b g in omega arith) e)
+  write_in (DropTable n) payload p b t w e = absurd (no_target w)
+  write_in (DropRefCountTable n) payload p b t w e = absurd (no_target w)
+  write_in BeginRecord payload p b t w e = absurd (no_target w)
+  write_in EndRecord payload p b t w e = absurd (no_target w)
 
   -- a drop reaches only its table, and puts zeros there
-  pub drop-in : (a : LogAction) (payload : List ℕ) (p b : ℕ) (n : NamedTable) → droppedBy a ≡ some n → last_at (strokes d a payload) p ≡ some b
+  pub drop_in : (a : LogAction) (payload : List ℕ) (p b : ℕ) (n : NamedTable) → dropped_by a ≡ some n → last_at (strokes d a payload) p ≡ some b
       → In n.kind n.number p × (b ≡ 0)
   unfolding strokes
-  drop-in (InsertIndex a) payload p b n w e = absurd (no_table w)
-  drop-in (InsertValue a) payload p b n w e = absurd (no_table w)
-  drop-in (InsertRefCount a) payload p b n w e = absurd (no_table w)
-  drop-in (DropTable t) payload p b n w e =
+  drop_in (InsertIndex a) payload p b n w e = absurd (no_table w)
+  drop_in (InsertValue a) payload p b n w e = absurd (no_table w)
+  drop_in (InsertRefCount a) payload p b n w e = absurd (no_table w)
+  drop_in (DropTable t) payload p b n w e =
       let s : record { kind = Index; number = t.0 } ≡ n = cc in
-      rw (← s) (zeroed-in Index t.0 p b e, zeroed-all (place_of d Index t.0) p b e)
-  drop-in (DropRefCountTable t) payload p b n w e =
+      rw (← s) (zeroed_in Index t.0 p b e, zeroed-all (place_of d Index t.0) p b e)
+  drop_in (DropRefCountTable t) payload p b n w e =
       let s : record { kind = RefCount; number = t.0 } ≡ n = cc in
-      rw (← s) (zeroed-in RefCount t.0 p b e, zeroed-all (place_of d RefCount t.0) p b e)
-  drop-in BeginRecord payload p b n w e = absurd (no_table w)
-  drop-in EndRecord payload p b n w e = absurd (no_table w)
+      rw (← s) (zeroed_in RefCount t.0 p b e, zeroed-all (place_of d RefCount t.0) p b e)
+  drop_in BeginRecord payload p b n w e = absurd (no_table w)
+  drop_in EndRecord payload p b n w e = absurd (no_table w)
 
 -- ---- an action that neither writes nor drops stores nothing
 
-slots-none : (n w at : ℕ) (bs : List ℕ) → slotStrokes n w at 0 bs ≡ []
-unfolding slotStrokes
+slots-none : (n w at : ℕ) (bs : List ℕ) → slot_strokes n w at 0 bs ≡ []
+unfolding slot_strokes
 slots-none zero w at bs = refl
 slots-none (suc n) w at bs = slots-none n w (at + w) bs
 
-under_none : (o : Option Place) (i : ℕ) (f : ℕ → ℕ → List Stroke) → ((at u : ℕ) → f at u ≡ []) → underIndex o i f ≡ []
-unfolding underIndex
+under_none : (o : Option Place) (i : ℕ) (f : ℕ → ℕ → List Stroke) → ((at u : ℕ) → f at u ≡ []) → under_index o i f ≡ []
+unfolding under_index
 under_none none i f h = refl
 under_none (some P) i f h = go (ltb i P.table.count) refl
   where
-    go : (t : Bool) → ltb i P.table.count ≡ t → underIndex (some P) i f ≡ []
-    go true q = rw q (h (P.at + i * slotLength P.table) (slotLength P.table))
+    go : (t : Bool) → ltb i P.table.count ≡ t → under_index (some P) i f ≡ []
+    go true q = rw q (h (P.at + i * slot_length P.table) (slot_length P.table))
     go false q = rw q
 
 -- a mask of 0
-empty-mask : (o : Option Place) (i w : ℕ) (payload : List ℕ) → eqb (maskIn payload) 0 ≡ true
-    → underIndex o i (λ at u. slotStrokes 64 w at (maskIn payload) (entriesIn payload)) ≡ []
-empty-mask o i w payload e =
-    let z : maskIn payload ≡ 0 = eqb-true (maskIn payload) 0 e in
-    under_none o i (λ at u. slotStrokes 64 w at (maskIn payload) (entriesIn payload)) (λ at u. rw z (slots-none 64 w at (entriesIn payload)))
+empty_mask : (o : Option Place) (i w : ℕ) (payload : List ℕ) → eqb (mask_in payload) 0 ≡ true
+    → under_index o i (λ at u. slot_strokes 64 w at (mask_in payload) (entries_in payload)) ≡ []
+empty_mask o i w payload e =
+    let z : mask_in payload ≡ 0 = eqb-true (mask_in payload) 0 e in
+    under_none o i (λ at u. slot_strokes 64 w at (mask_in payload) (entries_in payload)) (λ at u. rw z (slots-none 64 w at (entries_in payload)))
 
-pub idle : (d : Directory) (a : LogAction) (payload : List ℕ) → written_by a payload ≡ none → droppedBy a ≡ none → strokes d a payload ≡ []
+pub idle : (d : Directory) (a : LogAction) (payload : List ℕ) → written_by a payload ≡ none → dropped_by a ≡ none → strokes d a payload ≡ []
 unfolding strokes
-idle d (InsertIndex a) payload w e = empty-mask (place_of d Index a.table.0) a.index 8 payload (no-mask payload _ w)
+idle d (InsertIndex a) payload w e = empty_mask (place_of d Index a.table.0) a.index 8 payload (no-mask payload _ w)
 idle d (InsertValue a) payload w e = absurd (no_target (sym w))
-idle d (InsertRefCount a) payload w e = empty-mask (place_of d RefCount a.table.0) a.index 16 payload (no-mask payload _ w)
+idle d (InsertRefCount a) payload w e = empty_mask (place_of d RefCount a.table.0) a.index 16 payload (no-mask payload _ w)
 idle d (DropTable t) payload w e = absurd (no_table (sym e))
 idle d (DropRefCountTable t) payload w e = absurd (no_table (sym e))
 idle d BeginRecord payload w e = refl

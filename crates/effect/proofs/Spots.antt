@@ -10,70 +10,70 @@ use lib.Dec.{ltb}
 use lib.ListN.{take, drop, replicate}
 use lib.Seq.{sets}
 use borrow.Author.Tests.{ltb-true, lt-ltb, le-ltb}
-use Rattle.words.specs.Words.{littleAt}
-use Rattle.directory.specs.Table.{slotLength, size_of}
-use Rattle.directory.specs.Directory.{findTable, start_of, imageLength}
+use Rattle.words.specs.Words.{little_at}
+use Rattle.directory.specs.Table.{slot_length, size_of}
+use Rattle.directory.specs.Directory.{find_table, start_of, image_length}
 use Rattle.directory.specs.declared.table.TableKind.{TableKind}
 use Rattle.directory.specs.declared.table.TableDescription.{TableDescription}
 use Rattle.directory.specs.declared.directory.Directory.{Directory}
 use Rattle.directory.specs.declared.directory.Found.TheVariants.{At, Nothing}
-use Rattle.effect.specs.Effect.{maskIn, entriesIn, Place, place_of, Stroke, stroke, slotStrokes, underIndex, zeroed, puts}
-use Rattle.effect.specs.Inner.{spotUnder}
+use Rattle.effect.specs.Effect.{mask_in, entries_in, Place, place_of, Stroke, stroke, slot_strokes, under_index, zeroed, puts}
+use Rattle.effect.specs.Inner.{spot_under}
 use Rattle.effect.specs.declared.place.Spot.TheVariants.{From, Nowhere}
 use Rattle.effect.proofs.Places.{stands}
 
 -- what lies under an index lies within its table
-pub under-room : (t : TableDescription) (i : ℕ) → i < t.count → i * slotLength t + slotLength t ≤ size_of t
+pub under-room : (t : TableDescription) (i : ℕ) → i < t.count → i * slot_length t + slot_length t ≤ size_of t
 unfolding size_of
-under-room t i h = omega (arith, mul-le-mul_right (slotLength t) h)
+under-room t i h = omega (arith, mul-le-mul_right (slot_length t) h)
 
 module _ (d : Directory) (kind : TableKind) (number : ℕ) where
-  module _ (row : ℕ) (t : TableDescription) (e : findTable d kind number ≡ At row t) where
+  module _ (row : ℕ) (t : TableDescription) (e : find_table d kind number ≡ At row t) where
     pub place_at : place_of d kind number ≡ some (record { at = start_of d row; table = t })
     unfolding place_of
     place_at = rw e
 
     -- a found table lies within the image
-    pub row_room : start_of d row + size_of t ≤ imageLength d
+    pub row_room : start_of d row + size_of t ≤ image_length d
     row_room = (stands d kind number (record { at = start_of d row; table = t }) place_at).room
 
-    module _ (i : ℕ) (h : i < t.count) (start u : ℕ) (s : start ≡ start_of d row) (l : u ≡ slotLength t) where
-      pub spot-room : start + i * u + u ≤ imageLength d
+    module _ (i : ℕ) (h : i < t.count) (start u : ℕ) (s : start ≡ start_of d row) (l : u ≡ slot_length t) where
+      pub spot-room : start + i * u + u ≤ image_length d
       spot-room = rw (s, l) (omega (arith, row_room, under-room t i h))
 
-      pub spot-at : From (start + i * u) u ≡ spotUnder (place_of d kind number) i
-      unfolding spotUnder
+      pub spot-at : From (start + i * u) u ≡ spot_under (place_of d kind number) i
+      unfolding spot_under
       spot-at = rw (place_at, lt-ltb i t.count h, s, l)
 
-    pub spot_past : (i : ℕ) → t.count ≤ i → Nowhere ≡ spotUnder (place_of d kind number) i
-    unfolding spotUnder
+    pub spot_past : (i : ℕ) → t.count ≤ i → Nowhere ≡ spot_under (place_of d kind number) i
+    unfolding spot_under
     spot_past i h = rw (place_at, le-ltb i t.count h)
 
-  pub place_none : findTable d kind number ≡ Nothing → place_of d kind number ≡ none
+  pub place_none : find_table d kind number ≡ Nothing → place_of d kind number ≡ none
   unfolding place_of
   place_none e = rw e
 
-  pub spot-none : (i : ℕ) → findTable d kind number ≡ Nothing → Nowhere ≡ spotUnder (place_of d kind number) i
-  unfolding spotUnder
+  pub spot-none : (i : ℕ) → find_table d kind number ≡ Nothing → Nowhere ≡ spot_under (place_of d kind number) i
+  unfolding spot_under
   spot-none i e = rw (place_none e)
 
-  -- of a spot: whose it is, that it lies within the image, and that it is what `underIndex` speaks of
+  -- of a spot: whose it is, that it lies within the image, and that it is what `under_index` speaks of
   pub record Spotted (i at u : ℕ) : Type 0 where
     pub place : Place
     pub is : place_of d kind number ≡ some place
-    pub long : u ≡ slotLength place.table
+    pub long : u ≡ slot_length place.table
     pub kinds : place.table.kind ≡ kind
-    pub room : at + u ≤ imageLength d
-    pub strokes : (f : ℕ → ℕ → List Stroke) → underIndex (place_of d kind number) i f ≡ f at u
+    pub room : at + u ≤ image_length d
+    pub strokes : (f : ℕ → ℕ → List Stroke) → under_index (place_of d kind number) i f ≡ f at u
 
-  pub spotted : (i at u : ℕ) → spotUnder (place_of d kind number) i ≡ From at u → Spotted i at u
-  unfolding spotUnder underIndex
+  pub spotted : (i at u : ℕ) → spot_under (place_of d kind number) i ≡ From at u → Spotted i at u
+  unfolding spot_under under_index
   spotted i at u e = go (place_of d kind number) refl
     where
       low : (P : Place) → place_of d kind number ≡ some P → (t : Bool) → ltb i P.table.count ≡ t → Spotted i at u
       low P q true c =
-          let a : P.at + i * slotLength P.table ≡ at = cc (rw (q, c) at e) in
-          let b : slotLength P.table ≡ u = cc (rw (q, c) at e) in
+          let a : P.at + i * slot_length P.table ≡ at = cc (rw (q, c) at e) in
+          let b : slot_length P.table ≡ u = cc (rw (q, c) at e) in
           let s = stands d kind number P q in
           record {
             place = P;
@@ -89,41 +89,41 @@ module _ (d : Directory) (kind : TableKind) (number : ℕ) where
       go none q = let z : ◌≡◌ {A = ℕ} 0 1 = cc (rw q at e) in absurd (omega arith)
       go (some P) q = low P q (ltb i P.table.count) refl
 
-  pub unspotted : (i : ℕ) (f : ℕ → ℕ → List Stroke) → spotUnder (place_of d kind number) i ≡ Nowhere → underIndex (place_of d kind number) i f ≡ []
-  unfolding spotUnder underIndex
+  pub unspotted : (i : ℕ) (f : ℕ → ℕ → List Stroke) → spot_under (place_of d kind number) i ≡ Nowhere → under_index (place_of d kind number) i f ≡ []
+  unfolding spot_under under_index
   unspotted i f e = go (place_of d kind number) refl
     where
-      low : (P : Place) → place_of d kind number ≡ some P → (t : Bool) → ltb i P.table.count ≡ t → underIndex (place_of d kind number) i f ≡ []
+      low : (P : Place) → place_of d kind number ≡ some P → (t : Bool) → ltb i P.table.count ≡ t → under_index (place_of d kind number) i f ≡ []
       low P q true c = let z : ◌≡◌ {A = ℕ} 0 1 = cc (rw (q, c) at e) in absurd (omega arith)
       low P q false c = rw (q, c)
 
-      go : (o : Option Place) → place_of d kind number ≡ o → underIndex (place_of d kind number) i f ≡ []
+      go : (o : Option Place) → place_of d kind number ≡ o → under_index (place_of d kind number) i f ≡ []
       go none q = rw q
       go (some P) q = low P q (ltb i P.table.count) refl
 
 -- ---- what is put where a spot is, and where there is none
 
 module _ (d : Directory) (kind : TableKind) (number i : ℕ) (image : List ℕ) where
-  pub puts-nowhere : spotUnder (place_of d kind number) i ≡ Nowhere → (f : ℕ → ℕ → List Stroke) → image ≡ puts (underIndex (place_of d kind number) i f) image
+  pub puts-nowhere : spot_under (place_of d kind number) i ≡ Nowhere → (f : ℕ → ℕ → List Stroke) → image ≡ puts (under_index (place_of d kind number) i f) image
   unfolding puts
   puts-nowhere e f = rw (unspotted d kind number i f e)
 
-  module _ (at u : ℕ) (e : spotUnder (place_of d kind number) i ≡ From at u) (payload : List ℕ) where
-    pub puts-chunk : (width mask : ℕ) → mask ≡ littleAt 8 payload 0
-        → puts (slotStrokes 64 width at mask (drop 8 payload)) image
-        ≡ puts (underIndex (place_of d kind number) i (λ at u. slotStrokes 64 width at (maskIn payload) (entriesIn payload))) image
-    puts-chunk width mask m = rw (m, (spotted d kind number i at u e).strokes (λ at u. slotStrokes 64 width at (maskIn payload) (entriesIn payload)))
+  module _ (at u : ℕ) (e : spot_under (place_of d kind number) i ≡ From at u) (payload : List ℕ) where
+    pub puts-chunk : (width mask : ℕ) → mask ≡ little_at 8 payload 0
+        → puts (slot_strokes 64 width at mask (drop 8 payload)) image
+        ≡ puts (under_index (place_of d kind number) i (λ at u. slot_strokes 64 width at (mask_in payload) (entries_in payload))) image
+    puts-chunk width mask m = rw (m, (spotted d kind number i at u e).strokes (λ at u. slot_strokes 64 width at (mask_in payload) (entries_in payload)))
 
-    pub puts-value : sets image at (take u payload) ≡ puts (underIndex (place_of d kind number) i (λ at u. stroke at (take u payload) ∷ [])) image
+    pub puts-value : sets image at (take u payload) ≡ puts (under_index (place_of d kind number) i (λ at u. stroke at (take u payload) ∷ [])) image
     unfolding puts
     puts-value = rw ((spotted d kind number i at u e).strokes (λ at u. stroke at (take u payload) ∷ []))
 
 module _ (d : Directory) (kind : TableKind) (number : ℕ) (image : List ℕ) where
-  pub puts-undropped : findTable d kind number ≡ Nothing → image ≡ puts (zeroed (place_of d kind number)) image
+  pub puts_undropped : find_table d kind number ≡ Nothing → image ≡ puts (zeroed (place_of d kind number)) image
   unfolding puts zeroed
-  puts-undropped e = rw (place_none d kind number e)
+  puts_undropped e = rw (place_none d kind number e)
 
-  pub puts-dropped : (row : ℕ) (t : TableDescription) → findTable d kind number ≡ At row t → (start n : ℕ) → start ≡ start_of d row → n ≡ size_of t
+  pub puts-dropped : (row : ℕ) (t : TableDescription) → find_table d kind number ≡ At row t → (start n : ℕ) → start ≡ start_of d row → n ≡ size_of t
       → sets image start (replicate n 0) ≡ puts (zeroed (place_of d kind number)) image
   unfolding puts zeroed
   puts-dropped row t e start n s l = rw (place_at d kind number row t e, s, l)

@@ -2,7 +2,7 @@
 use Rattle.std.specs.Prelude.{◌≡◌, ℕ, ◌+◌, ◌*◌, ltb}
 use Rattle.std.proofs.Math.Option.{Option, none, some}
 use Rattle.words.specs.Choice.{if◌then◌else◌}
-use Rattle.directory.specs.Table.{slotLength}
+use Rattle.directory.specs.Table.{slot_length}
 use Rattle.directory.specs.declared.table.TableKind.{TableKind}
 use Rattle.directory.specs.declared.table.TableDescription.{TableDescription}
 use Rattle.effect.specs.Effect.{Place}
@@ -10,10 +10,10 @@ use Rattle.effect.specs.declared.place.Spot.{Spot}
 use Rattle.effect.specs.declared.place.Spot.TheVariants.{From, Nowhere}
 
 -- what lies under an index of a table: from where on in the image, and how many bytes
-unfoldable pub spotUnder : Option Place → ℕ → Spot
-spotUnder none i = Nowhere
-spotUnder (some p) i = if ltb i p.table.count then From (p.at + i * slotLength p.table) (slotLength p.table) else Nowhere
+unfoldable pub spot_under : Option Place → ℕ → Spot
+spot_under none i = Nowhere
+spot_under (some p) i = if ltb i p.table.count then From (p.at + i * slot_length p.table) (slot_length p.table) else Nowhere
 
 -- a table of that kind has chunks of 64 entries, each so many bytes wide
 abbrev pub Chunks : TableKind → ℕ → Type 0
-Chunks kind width = (t : TableDescription) → t.kind ≡ kind → slotLength t ≡ 64 * width
+Chunks kind width = (t : TableDescription) → t.kind ≡ kind → slot_length t ≡ 64 * width

@@ -1,9 +1,9 @@
 // The effect of each kind of action, and of any.
 ghost use Rattle.std.specs.Prelude.{◌≡◌, [], ◌∷◌, ◌+◌, ◌≤◌, length, take, drop};
-ghost use Rattle.directory.specs.Directory.{imageLength};
-ghost use Rattle.directory.specs.Inner.{directoryIn, Flat};
+ghost use Rattle.directory.specs.Directory.{image_length};
+ghost use Rattle.directory.specs.Inner.{directory_in, Flat};
 ghost use Rattle.directory.specs.declared.table.TableKind.TheVariants.{Value};
-ghost use Rattle.effect.specs.Effect.{written, maskIn, entriesIn, place_of, stroke, slotStrokes, underIndex, zeroed, puts, done};
+ghost use Rattle.effect.specs.Effect.{written, mask_in, entries_in, place_of, stroke, slot_strokes, under_index, zeroed, puts, done};
 ghost use Rattle.effect.specs.Meaning.{Entries, OneValue, SizedBy};
 ghost use Rattle.effect.specs.Inner.{Chunks};
 
@@ -22,10 +22,10 @@ fn insert_chunk(
     payload: &[u8],
     image: &mut [u8],
 )
-    requires flat { Flat t.now × (length image.old ≡ imageLength (directoryIn t.now)) }
+    requires flat { Flat t.now × (length image.old ≡ image_length (directory_in t.now)) }
     requires chunks { Chunks kind width }
     requires entries { Entries width payload.now }
-    ensures { image.new ≡ puts (underIndex (place_of (directoryIn t.now) kind number) index (λ at u. slotStrokes 64 width at (maskIn payload.now) (entriesIn payload.now))) image.old }
+    ensures { image.new ≡ puts (under_index (place_of (directory_in t.now) kind number) index (λ at u. slot_strokes 64 width at (mask_in payload.now) (entries_in payload.now))) image.old }
 {
     match locate(t, kind, number, index) {
         Spot::Nowhere => {}
@@ -38,9 +38,9 @@ fn insert_chunk(
 
 // A value, under an index of a table of values.
 fn insert_value(t: &[u64; 81], number: u16, index: u64, payload: &[u8], image: &mut [u8])
-    requires flat { Flat t.now × (length image.old ≡ imageLength (directoryIn t.now)) }
-    requires one_value { OneValue (place_of (directoryIn t.now) Value number) payload.now }
-    ensures { image.new ≡ puts (underIndex (place_of (directoryIn t.now) Value number) index (λ at u. stroke at (take u payload.now) ∷ [])) image.old }
+    requires flat { Flat t.now × (length image.old ≡ image_length (directory_in t.now)) }
+    requires one_value { OneValue (place_of (directory_in t.now) Value number) payload.now }
+    ensures { image.new ≡ puts (under_index (place_of (directory_in t.now) Value number) index (λ at u. stroke at (take u payload.now) ∷ [])) image.old }
 {
     match locate(t, TableKind::Value, number, index) {
         Spot::Nowhere => {}
@@ -50,8 +50,8 @@ fn insert_value(t: &[u64; 81], number: u16, index: u64, payload: &[u8], image: &
 
 // Zeros over a whole table.
 fn drop_table(t: &[u64; 81], kind: TableKind, number: u16, image: &mut [u8])
-    requires { Flat t.now × (length image.old ≡ imageLength (directoryIn t.now)) }
-    ensures { image.new ≡ puts (zeroed (place_of (directoryIn t.now) kind number)) image.old }
+    requires { Flat t.now × (length image.old ≡ image_length (directory_in t.now)) }
+    ensures { image.new ≡ puts (zeroed (place_of (directory_in t.now) kind number)) image.old }
 {
     match directory::find_in(t, kind, number) {
         Found::Nothing => {}
@@ -65,9 +65,9 @@ fn drop_table(t: &[u64; 81], kind: TableKind, number: u16, image: &mut [u8])
 
 // An action with its payload's bytes.
 fn apply_written(t: &[u64; 81], action: LogAction, payload: &[u8], image: &mut [u8])
-    requires flat { Flat t.now × (length image.old ≡ imageLength (directoryIn t.now)) }
-    requires sized_by { SizedBy (directoryIn t.now) action payload.now }
-    ensures { image.new ≡ done (directoryIn t.now) (written action payload.now) image.old }
+    requires flat { Flat t.now × (length image.old ≡ image_length (directory_in t.now)) }
+    requires sized_by { SizedBy (directory_in t.now) action payload.now }
+    ensures { image.new ≡ done (directory_in t.now) (written action payload.now) image.old }
 {
     match action {
         LogAction::BeginRecord => {}
@@ -99,9 +99,9 @@ pub fn apply_action(
     image: &mut [u8],
 )
     requires size_in_bounds { start + size ≤ length log.now }
-    requires flat { Flat t.now × (length image.old ≡ imageLength (directoryIn t.now)) }
-    requires sized_by { SizedBy (directoryIn t.now) action (take size (drop start log.now)) }
-    ensures { image.new ≡ done (directoryIn t.now) (written action (take size (drop start log.now))) image.old }
+    requires flat { Flat t.now × (length image.old ≡ image_length (directory_in t.now)) }
+    requires sized_by { SizedBy (directory_in t.now) action (take size (drop start log.now)) }
+    ensures { image.new ≡ done (directory_in t.now) (written action (take size (drop start log.now))) image.old }
 {
     let end = start + size;
     apply_written(t, action, &log[start..end], image);

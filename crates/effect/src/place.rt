@@ -1,9 +1,9 @@
 // Where in the image an action's bytes go.
 ghost use Rattle.std.specs.Prelude.{◌≡◌, ◌≤◌};
-ghost use Rattle.directory.specs.Directory.{imageLength};
-ghost use Rattle.directory.specs.Inner.{directoryIn, Flat};
+ghost use Rattle.directory.specs.Directory.{image_length};
+ghost use Rattle.directory.specs.Inner.{directory_in, Flat};
 ghost use Rattle.effect.specs.Effect.{place_of};
-ghost use Rattle.effect.specs.Inner.{spotUnder};
+ghost use Rattle.effect.specs.Inner.{spot_under};
 
 use directory::{Found, TableKind};
 
@@ -16,8 +16,8 @@ pub enum Spot {
 
 // The image's length is asked for so that no position in it can wrap.
 pub fn locate(t: &[u64; 81], kind: TableKind, number: u16, index: u64) -> Spot
-    requires { Flat t.now × (imageLength (directoryIn t.now) ≤ 18446744073709551615) }
-    ensures { result ≡ spotUnder (place_of (directoryIn t.now) kind number) index }
+    requires { Flat t.now × (image_length (directory_in t.now) ≤ 18446744073709551615) }
+    ensures { result ≡ spot_under (place_of (directory_in t.now) kind number) index }
 {
     match directory::find_in(t, kind, number) {
         Found::Nothing => Spot::Nowhere,

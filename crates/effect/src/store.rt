@@ -2,7 +2,7 @@
 ghost use Rattle.std.specs.Prelude.{◌≡◌, ◌+◌, ◌*◌, ◌≤◌, length, take, drop, replicate};
 ghost use Rattle.std.specs.Int.Count.{ones};
 ghost use Rattle.std.proofs.lemmas.List.Edits.{sets};
-ghost use Rattle.effect.specs.Effect.{slotStrokes, puts};
+ghost use Rattle.effect.specs.Effect.{slot_strokes, puts};
 
 // n zeros from `at` on
 pub fn zero(image: &mut [u8], at: usize, n: usize)
@@ -32,7 +32,7 @@ pub fn copy(image: &mut [u8], at: usize, payload: &[u8], from: usize, n: usize)
 // the set bits of the mask, lowest first: `width` bytes of the payload for each, a run of them at a stroke
 pub fn put_slots(image: &mut [u8], at: usize, width: usize, mask: u64, payload: &[u8], from: usize)
     requires { (at + 64 * width ≤ length image.old) × (from + ones mask * width ≤ length payload.now) }
-    ensures { image.new ≡ puts (slotStrokes 64 width at mask (drop from payload.now)) image.old }
+    ensures { image.new ≡ puts (slot_strokes 64 width at mask (drop from payload.now)) image.old }
 {
     let mut m = mask;
     let mut slot: usize = 0;

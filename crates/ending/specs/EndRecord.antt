@@ -6,18 +6,18 @@ use Rattle.directory.specs.declared.directory.Directory.{Directory}
 use Rattle.answer.specs.Answer.{number_of}
 use Rattle.answer.specs.declared.answer.Answer.{Answer}
 use Rattle.answer.specs.declared.answer.Answer.TheVariants.{Done, NoRoom, ShortOutput, NotNext, UsedUp, BadState}
-use Rattle.memory.specs.Parts.{partsKept}
-use Rattle.memory.specs.Overlays.{Overlays, overlaysOf}
+use Rattle.memory.specs.Parts.{parts_kept}
+use Rattle.memory.specs.Overlays.{Overlays, overlays_of}
 use Rattle.memory.specs.declared.overlays.LogOverlays.{LogOverlays}
 use Rattle.memory.specs.declared.span.Holder.TheVariants as holder
-use Rattle.putting.specs.Listed.{crowded, overlaysPut}
-use Rattle.change.specs.Change.{Change, changeOf, changeKept}
-use Rattle.change.specs.Size.{recordSize}
+use Rattle.putting.specs.Listed.{crowded, overlays_put}
+use Rattle.change.specs.Change.{Change, change_of, change_kept}
+use Rattle.change.specs.Size.{record_size}
 use Rattle.change.specs.declared.change.LogChange.{LogChange}
 use Rattle.output.specs.Put.{put}
-use Rattle.writer.specs.Bytes.{recordOf}
-use Rattle.files.specs.Queues.{queuesKept}
-use Rattle.files.specs.Calls.{fileSetFull, filesUsedUp, takeFileKept}
+use Rattle.writer.specs.Bytes.{record_of}
+use Rattle.files.specs.Queues.{queues_kept}
+use Rattle.files.specs.Calls.{file_set_full, files_used_up, take_file_kept}
 use Rattle.files.specs.declared.queues.Queues.{Queues}
 use Rattle.files.specs.declared.writing.FileSource.{FileSource}
 use Rattle.files.specs.declared.writing.FileSource.TheVariants.{Appending}
@@ -33,9 +33,9 @@ pub record Handed : Type 0 where
   pub output : List ℕ
 
 -- a list and the overlays by value, each with its two memories; the queues; the next id; the output
-unfoldable pub handedOf : LogChange → List ℕ → List ℕ → LogOverlays → List ℕ → List ℕ → Queues → ℕ → List ℕ → Handed
-handedOf l listWords listBytes o words bytes q next out =
-    record { list = changeOf l listWords listBytes; overlays = overlaysOf o words bytes; queues = q; next = next; output = out }
+unfoldable pub handed_of : LogChange → List ℕ → List ℕ → LogOverlays → List ℕ → List ℕ → Queues → ℕ → List ℕ → Handed
+handed_of l list_words_of listBytes o words bytes q next out =
+    record { list = change_of l list_words_of listBytes; overlays = overlays_of o words bytes; queues = q; next = next; output = out }
 
 -- all that it leaves
 pub record EndState : Type 0 where
@@ -48,40 +48,40 @@ pub record EndState : Type 0 where
   pub output : List ℕ
 
 -- what it answers, the overlays' two memories and the output
-unfoldable pub endStateOf : Ended → List ℕ → List ℕ → List ℕ → EndState
-endStateOf r words bytes out = record {
+unfoldable pub end_state_of : Ended → List ℕ → List ℕ → List ℕ → EndState
+end_state_of r words bytes out = record {
   answer = r.answer;
   length = r.length;
   source = r.source;
   number = r.number;
-  overlays = overlaysOf r.overlays words bytes;
+  overlays = overlays_of r.overlays words bytes;
   queues = r.queues;
   output = out;
 }
 
 -- no rule of what is handed in is broken; a next id of 0 breaks "The first id is 1"
-unfoldable pub handedKept : Directory → Handed → Bool
-handedKept d h =
-    changeKept d h.list && (partsKept holder.Shared h.overlays.parts && (queuesKept h.queues && not (eqb h.next 0)))
+unfoldable pub handed_kept : Directory → Handed → Bool
+handed_kept d h =
+    change_kept d h.list && (parts_kept holder.Shared h.overlays.parts && (queues_kept h.queues && not (eqb h.next 0)))
 
 -- its answer
-unfoldable pub endAnswer : Directory → Handed → Answer
-endAnswer d h =
-    if not (handedKept d h) then BadState else  -- 13
+unfoldable pub end_answer : Directory → Handed → Answer
+end_answer d h =
+    if not (handed_kept d h) then BadState else  -- 13
     if not (eqb (h.list.id + 1) h.next) then NotNext else  -- 11: "list's id plus 1 isn't the next id"
     if crowded h.list.parts h.overlays.parts then NoRoom else  -- 9 for overlays
-    if fileSetFull h.queues then NoRoom else  -- 9 for files
-    if filesUsedUp h.queues (recordSize h.list) then UsedUp else  -- 12
-    if ltb (length h.output) (recordSize h.list) then ShortOutput else  -- 10
+    if file_set_full h.queues then NoRoom else  -- 9 for files
+    if files_used_up h.queues (record_size h.list) then UsedUp else  -- 12
+    if ltb (length h.output) (record_size h.list) then ShortOutput else  -- 10
     Done
 
 -- the answer 0
-abbrev pub isDone : Answer → Bool
-isDone a = eqb (number_of a) 0
+abbrev pub is_done : Answer → Bool
+is_done a = eqb (number_of a) 0
 
 -- a refusal leaves everything as it was
-abbrev pub notEnded : Answer → Handed → EndState
-notEnded answer h = record {
+abbrev pub not_ended : Answer → Handed → EndState
+not_ended answer h = record {
   answer = answer;
   length = 0;
   source = Appending;
@@ -96,15 +96,15 @@ notEnded answer h = record {
 abbrev pub ended : Directory → Handed → Taken → EndState
 ended d h t = record {
   answer = Done;
-  length = recordSize h.list;
+  length = record_size h.list;
   source = t.source;
   number = t.number;
-  overlays = overlaysPut d h.list.id h.list.parts h.overlays;
+  overlays = overlays_put d h.list.id h.list.parts h.overlays;
   queues = t.queues;
-  output = put h.output 0 (recordOf h.list);
+  output = put h.output 0 (record_of h.list);
 }
 
 -- `end_record`
-unfoldable pub endRecord : Directory → Handed → EndState
-endRecord d h =
-    if isDone (endAnswer d h) then ended d h (takeFileKept h.queues (recordSize h.list)) else notEnded (endAnswer d h) h
+unfoldable pub end_record : Directory → Handed → EndState
+end_record d h =
+    if is_done (end_answer d h) then ended d h (take_file_kept h.queues (record_size h.list)) else not_ended (end_answer d h) h

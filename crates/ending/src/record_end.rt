@@ -1,7 +1,7 @@
 // The end of a record: log.rs lines 844 to 899.
 ghost use Rattle.std.specs.Prelude.{◌≡◌, true};
-ghost use Rattle.ending.specs.EndRecord.{handedOf, handedKept, endStateOf, endRecord};
-ghost use Rattle.ending.specs.Inner.{refusedBy};
+ghost use Rattle.ending.specs.EndRecord.{handed_of, handed_kept, end_state_of, end_record};
+ghost use Rattle.ending.specs.Inner.{refused_by};
 
 use super::refusal::{file_for, handed_kept};
 use answer::Answer;
@@ -21,7 +21,7 @@ pub struct Ended {
 }
 
 fn refused(answer: Answer, overlays: LogOverlays, queues: Queues) -> Ended
-    ensures { result ≡ refusedBy answer overlays queues }
+    ensures { result ≡ refused_by answer overlays queues }
 {
     Ended {
         answer,
@@ -46,9 +46,9 @@ pub fn end_record_kept<'a>(
     next: u64,
     out: &mut [u8],
 ) -> Ended
-    requires { handedKept directory (handedOf list list_words.now list_bytes.now overlays words.old bytes.old queues next out.old) ≡ true }
-    ensures { endStateOf result words.new bytes.new out.new
-        ≡ endRecord directory (handedOf list list_words.now list_bytes.now overlays words.old bytes.old queues next out.old) }
+    requires { handed_kept directory (handed_of list list_words.now list_bytes.now overlays words.old bytes.old queues next out.old) ≡ true }
+    ensures { end_state_of result words.new bytes.new out.new
+        ≡ end_record directory (handed_of list list_words.now list_bytes.now overlays words.old bytes.old queues next out.old) }
 {
     let t = file_for(
         directory, list, list_words, list_bytes, overlays, words, bytes, queues, next, out,
@@ -94,8 +94,8 @@ pub fn end_record<'a>(
     next: u64,
     out: &mut [u8],
 ) -> Ended
-    ensures { endStateOf result words.new bytes.new out.new
-        ≡ endRecord directory (handedOf list list_words.now list_bytes.now overlays words.old bytes.old queues next out.old) }
+    ensures { end_state_of result words.new bytes.new out.new
+        ≡ end_record directory (handed_of list list_words.now list_bytes.now overlays words.old bytes.old queues next out.old) }
 {
     if !handed_kept(
         directory, list, list_words, list_bytes, overlays, words, bytes, queues, next,

@@ -1,8 +1,8 @@
 // What the end of a record is refused for: 13, 11, 9 for overlays, 9 for files, 12, 10.
 ghost use Rattle.std.specs.Prelude.{◌≡◌, true, []};
-ghost use Rattle.files.specs.Calls.{notTaken};
-ghost use Rattle.ending.specs.EndRecord.{handedOf, handedKept};
-ghost use Rattle.ending.specs.Inner.{fileFor};
+ghost use Rattle.files.specs.Calls.{not_taken};
+ghost use Rattle.ending.specs.EndRecord.{handed_of, handed_kept};
+ghost use Rattle.ending.specs.Inner.{file_for};
 
 use answer::Answer;
 use change::LogChange;
@@ -22,7 +22,7 @@ pub(crate) fn handed_kept<'a>(
     queues: Queues,
     next: u64,
 ) -> bool
-    ensures { result ≡ handedKept directory (handedOf list list_words.now list_bytes.now overlays words.now bytes.now queues next []) }
+    ensures { result ≡ handed_kept directory (handed_of list list_words.now list_bytes.now overlays words.now bytes.now queues next []) }
 {
     if !list.kept(directory, list_words, list_bytes) {
         return false;
@@ -38,7 +38,7 @@ pub(crate) fn handed_kept<'a>(
 }
 
 fn not_taken(answer: Answer, queues: Queues) -> Taken
-    ensures { result ≡ notTaken answer queues }
+    ensures { result ≡ not_taken answer queues }
 {
     Taken {
         answer,
@@ -61,8 +61,8 @@ pub(crate) fn file_for<'a>(
     next: u64,
     out: &'a [u8],
 ) -> Taken
-    requires { handedKept directory (handedOf list list_words.now list_bytes.now overlays words.now bytes.now queues next out.now) ≡ true }
-    ensures { result ≡ fileFor directory (handedOf list list_words.now list_bytes.now overlays words.now bytes.now queues next out.now) }
+    requires { handed_kept directory (handed_of list list_words.now list_bytes.now overlays words.now bytes.now queues next out.now) ≡ true }
+    ensures { result ≡ file_for directory (handed_of list list_words.now list_bytes.now overlays words.now bytes.now queues next out.now) }
 {
     if list.record_id != next - 1 {
         return not_taken(Answer::NotNext, queues);

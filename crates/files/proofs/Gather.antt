@@ -5,17 +5,17 @@ use mathlib.Core.List.{List, [], ◌++◌}
 use mathlib.Core.Path.{◌≡◌, ap, ◌∙◌}
 use native.Mathlib.Omega.{arith}
 use lib.ListN.{length}
-use Rattle.numbers.specs.Numbers.{someOf, oneIf}
-use Rattle.numbers.specs.Queue.{list_of, noNumbers, pushedIf, appended}
+use Rattle.numbers.specs.Numbers.{some_of, one_if}
+use Rattle.numbers.specs.Queue.{list_of, no_numbers, pushed_if, appended}
 use Rattle.numbers.specs.declared.queue.NumberQueue.{NumberQueue}
-use Rattle.numbers.proofs.QueueLists.{push-if-list, push-if-count, push-if-length, append-list, append-length}
+use Rattle.numbers.proofs.QueueLists.{push_if_list, push_if_count, push_if_length, append-list, append-length}
 
 pub record Holds (r : NumberQueue) (n : ℕ) (l : List ℕ) : Type 0 where
   pub count : r.count ≡ n
   pub long : length r.numbers ≡ 64
   pub list : list_of r ≡ l
 
-pub holds-new : (r : NumberQueue) → r ≡ noNumbers → Holds r 0 []
+pub holds-new : (r : NumberQueue) → r ≡ no_numbers → Holds r 0 []
 holds-new r e = record {
   count = ap (λ (x : NumberQueue). x.count) e;
   long = ap (λ (x : NumberQueue). length x.numbers) e;
@@ -23,11 +23,11 @@ holds-new r e = record {
 }
 
 module _ (r r' : NumberQueue) (n : ℕ) (l : List ℕ) (h : Holds r n l) where
-  pub holds-push : (b : Bool) (v : ℕ) → r' ≡ pushedIf r b v → n + oneIf b ≤ 64 → Holds r' (n + oneIf b) (l ++ someOf b v)
-  holds-push b v e k = record {
-    count = ap (λ (x : NumberQueue). x.count) e ∙ push-if-count r b v ∙ ap (λ (m : ℕ). m + oneIf b) h.count;
-    long = ap (λ (x : NumberQueue). length x.numbers) e ∙ push-if-length r b v ∙ h.long;
-    list = ap list_of e ∙ push-if-list r b v (omega (arith, h.count, h.long)) ∙ ap (λ (m : List ℕ). m ++ someOf b v) h.list;
+  pub holds_push : (b : Bool) (v : ℕ) → r' ≡ pushed_if r b v → n + one_if b ≤ 64 → Holds r' (n + one_if b) (l ++ some_of b v)
+  holds_push b v e k = record {
+    count = ap (λ (x : NumberQueue). x.count) e ∙ push_if_count r b v ∙ ap (λ (m : ℕ). m + one_if b) h.count;
+    long = ap (λ (x : NumberQueue). length x.numbers) e ∙ push_if_length r b v ∙ h.long;
+    list = ap list_of e ∙ push_if_list r b v (omega (arith, h.count, h.long)) ∙ ap (λ (m : List ℕ). m ++ some_of b v) h.list;
   }
 
   pub holds-append : (s : NumberQueue) → r' ≡ appended r s → length s.numbers ≡ 64 → n + s.count ≤ 64 → Holds r' (n + s.count) (l ++ list_of s)

@@ -3,13 +3,13 @@ use Prim.Native.Nat.{ℕ, ◌+◌}
 use mathlib.Core.Bool.{true, false}
 use mathlib.Core.Path.{◌≡◌}
 use lib.ListN.{replicate}
-use Rattle.numbers.specs.Queue.{noNumbers, pushed, pushedIf, appended, frontOf, withoutFirst, emptied}
+use Rattle.numbers.specs.Queue.{no_numbers, pushed, pushed_if, appended, front_of_of, without_first, emptied}
 use Rattle.numbers.specs.declared.queue.NumberQueue.{NumberQueue}
 use Rattle.answer.specs.declared.answer.Answer.{Answer}
 use Rattle.answer.specs.declared.answer.Answer.TheVariants.{Done}
-use Rattle.files.specs.Queues.{appendingSize}
-use Rattle.files.specs.Moves.{queuesOf, noAppending, noReading, readingFile, noFiles, withAppending, withReadQueue, withReading, withCleanup, withPool, withReplay, appendingQueued, readingCleaned, frontRead, firstIds, frontReplayed, replayCleaned}
-use Rattle.files.specs.Calls.{notCleaned, killLogsKept, grown, fromPool, tookFrom}
+use Rattle.files.specs.Queues.{appending_size}
+use Rattle.files.specs.Moves.{queues_of, no_appending, no_reading, reading_file, no_files, with_appending, with_read_queue, with_reading, with_cleanup, with_pool, with_replay, appending_queued, reading_cleaned, front_read, first_ids, front_replayed, replay_cleaned}
+use Rattle.files.specs.Calls.{not_cleaned, kill_logs_kept, grown, from_pool, took_from}
 use Rattle.files.specs.declared.queues.Appending.{Appending}
 use Rattle.files.specs.declared.queues.Reading.{Reading}
 use Rattle.files.specs.declared.queues.Queues.{Queues}
@@ -18,48 +18,48 @@ use Rattle.files.specs.declared.writing.FileSource.TheVariants.{Pool}
 use Rattle.files.specs.declared.cleaning.Cleaned.{Cleaned}
 use Rattle.files.specs.declared.cleaning.Killed.{Killed}
 
-pub new-as : (a : Appending) (r : Reading) (w x y z : NumberQueue) → a ≡ noAppending → w ≡ noNumbers → r ≡ noReading → x ≡ noNumbers → y ≡ noNumbers → z ≡ noNumbers
-    → queuesOf a w r x y z (replicate 64 0) 0 true ≡ noFiles
-new-as a r w x y z ea ew er ex ey ez = rw (ea, ew, er, ex, ey, ez)
+pub new_as : (a : Appending) (r : Reading) (w x y z : NumberQueue) → a ≡ no_appending → w ≡ no_numbers → r ≡ no_reading → x ≡ no_numbers → y ≡ no_numbers → z ≡ no_numbers
+    → queues_of a w r x y z (replicate 64 0) 0 true ≡ no_files
+new_as a r w x y z ea ew er ex ey ez = rw (ea, ew, er, ex, ey, ez)
 
 module _ (q : Queues) where
-  pub queued-as : (l : NumberQueue) (a : Appending) → l ≡ pushed q.read_queue q.appending.id → a ≡ noAppending
-      → withAppending (withReadQueue q l) a ≡ appendingQueued q
-  unfolding appendingQueued
-  queued-as l a e f = rw (e, f)
+  pub queued_as : (l : NumberQueue) (a : Appending) → l ≡ pushed q.read_queue q.appending.id → a ≡ no_appending
+      → with_appending (with_read_queue q l) a ≡ appending_queued q
+  unfolding appending_queued
+  queued_as l a e f = rw (e, f)
 
-  pub cleaned-as : (l : NumberQueue) (r : Reading) → l ≡ pushedIf q.cleanup_queue q.reading.some q.reading.id → r ≡ noReading
-      → withReading (withCleanup q l) r ≡ readingCleaned q
-  unfolding readingCleaned
-  cleaned-as l r e f = rw (e, f)
+  pub cleaned_as : (l : NumberQueue) (r : Reading) → l ≡ pushed_if q.cleanup_queue q.reading.some q.reading.id → r ≡ no_reading
+      → with_reading (with_cleanup q l) r ≡ reading_cleaned q
+  unfolding reading_cleaned
+  cleaned_as l r e f = rw (e, f)
 
-  pub read_as : (l : NumberQueue) (n : ℕ) (r : Reading) → l ≡ withoutFirst 1 q.read_queue → n ≡ frontOf q.read_queue → r ≡ readingFile n
-      → withReading (withReadQueue q l) r ≡ frontRead q
-  unfolding frontRead
+  pub read_as : (l : NumberQueue) (n : ℕ) (r : Reading) → l ≡ without_first 1 q.read_queue → n ≡ front_of_of q.read_queue → r ≡ reading_file n
+      → with_reading (with_read_queue q l) r ≡ front_read q
+  unfolding front_read
   read_as l n r e f g = rw (g, e, f)
 
-  pub front-as : (l i : NumberQueue) (n : ℕ) (r : Reading) → l ≡ withoutFirst 1 q.replay_queue → i ≡ withoutFirst 1 (firstIds q)
-      → n ≡ frontOf q.replay_queue → r ≡ readingFile n → withReading (withReplay q l i.numbers) r ≡ frontReplayed q
-  unfolding frontReplayed
-  front-as l i n r e f g h = rw (h, e, f, g)
+  pub front_as : (l i : NumberQueue) (n : ℕ) (r : Reading) → l ≡ without_first 1 q.replay_queue → i ≡ without_first 1 (first_ids q)
+      → n ≡ front_of_of q.replay_queue → r ≡ reading_file n → with_reading (with_replay q l i.numbers) r ≡ front_replayed q
+  unfolding front_replayed
+  front_as l i n r e f g h = rw (h, e, f, g)
 
-  pub emptied-as : (c e : NumberQueue) → c ≡ appended q.cleanup_queue q.replay_queue → e ≡ emptied q.replay_queue
-      → withReplay (withCleanup q c) e q.replay_ids ≡ replayCleaned q
-  unfolding replayCleaned
-  emptied-as c e f g = rw (f, g)
+  pub emptied_as : (c e : NumberQueue) → c ≡ appended q.cleanup_queue q.replay_queue → e ≡ emptied q.replay_queue
+      → with_replay (with_cleanup q c) e q.replay_ids ≡ replay_cleaned q
+  unfolding replay_cleaned
+  emptied_as c e f g = rw (f, g)
 
-  pub replayed-as : (q' : Queues) (n : ℕ) → n ≡ frontOf q.replay_queue → q' ≡ frontReplayed (readingCleaned q)
-      → ◌≡◌ {A = ReplayNext} (record { answer = Done; found = true; number = n; queues = q' }) (record { answer = Done; found = true; number = frontOf q.replay_queue; queues = frontReplayed (readingCleaned q) })
-  replayed-as q' n e f = rw (e, f)
+  pub replayed_as_lem : (q' : Queues) (n : ℕ) → n ≡ front_of_of q.replay_queue → q' ≡ front_replayed (reading_cleaned q)
+      → ◌≡◌ {A = ReplayNext} (record { answer = Done; found = true; number = n; queues = q' }) (record { answer = Done; found = true; number = front_of_of q.replay_queue; queues = front_replayed (reading_cleaned q) })
+  replayed_as_lem q' n e f = rw (e, f)
 
-  pub not-cleaned-as : (a : Answer) (e r : NumberQueue) → e ≡ noNumbers → r ≡ noNumbers
-      → ◌≡◌ {A = Cleaned} (record { answer = a; more = false; empty = e; remove = r; queues = q }) (notCleaned a q)
-  not-cleaned-as a e r f g = rw (f, g)
+  pub not_cleaned_as : (a : Answer) (e r : NumberQueue) → e ≡ no_numbers → r ≡ no_numbers
+      → ◌≡◌ {A = Cleaned} (record { answer = a; more = false; empty = e; remove = r; queues = q }) (not_cleaned a q)
+  not_cleaned_as a e r f g = rw (f, g)
 
-  pub killed-as : (m e : NumberQueue) (r : Reading) → m ≡ pushedIf q.log_pool q.reading.some q.reading.id → e ≡ emptied q.log_pool → r ≡ noReading
-      → ◌≡◌ {A = Killed} (record { answer = Done; remove = m; queues = withReading (withPool q e) r }) (killLogsKept q)
-  killed-as m e r f g h = rw (f, g, h)
+  pub killed_as : (m e : NumberQueue) (r : Reading) → m ≡ pushed_if q.log_pool q.reading.some q.reading.id → e ≡ emptied q.log_pool → r ≡ no_reading
+      → ◌≡◌ {A = Killed} (record { answer = Done; remove = m; queues = with_reading (with_pool q e) r }) (kill_logs_kept q)
+  killed_as m e r f g h = rw (f, g, h)
 
-  pub taken_as : (length id size : ℕ) (l : NumberQueue) (q' : Queues) → size ≡ appendingSize q → id ≡ frontOf q.log_pool → l ≡ withoutFirst 1 q.log_pool
-      → q' ≡ grown (withPool q l) id (size + length) → tookFrom Pool id q' ≡ tookFrom Pool (frontOf q.log_pool) (fromPool q (appendingSize q + length))
+  pub taken_as : (length id size : ℕ) (l : NumberQueue) (q' : Queues) → size ≡ appending_size q → id ≡ front_of_of q.log_pool → l ≡ without_first 1 q.log_pool
+      → q' ≡ grown (with_pool q l) id (size + length) → took_from Pool id q' ≡ took_from Pool (front_of_of q.log_pool) (from_pool q (appending_size q + length))
   taken_as length id size l q' e f g h = rw (h, e, f, g)

@@ -7,13 +7,13 @@ use native.Mathlib.Omega.{arith}
 use lib.Dec.{leb}
 use borrow.Author.Tests.{ltb-true, lt-ltb, le-leb, leb-true, leb-false, lt-leb, eq-eqb}
 use Rattle.words.specs.Choice.{if◌then◌else◌}
-use Rattle.numbers.specs.Numbers.{times, all_below, distinct, ascends, oneIf}
+use Rattle.numbers.specs.Numbers.{times, all_below, distinct, ascends, one_if}
 use Rattle.numbers.proofs.Laws.{both, left-of, right_of, one-true}
 use Rattle.numbers.proofs.Sort.{times-append, less-distinct, less-under}
-use Rattle.files.specs.Queues.{poolOf, cleanupOf, readQueueOf, replayOf, appendingOf, reading_of, appendingSize, files_of, fileCount, roomKept, queuesKept}
-use Rattle.numbers.proofs.QueueLists.{push-if-count}
-use Rattle.files.specs.Moves.{readingCleaned}
-use Rattle.files.specs.Calls.{needsNew, lacksNumber, filesUsedUp}
+use Rattle.files.specs.Queues.{pool_of, cleanup_of, read_queue_of, replay_of, appending_of, reading_of, appending_size, files_of, file_count, room_kept, queues_kept}
+use Rattle.numbers.proofs.QueueLists.{push_if_count}
+use Rattle.files.specs.Moves.{reading_cleaned}
+use Rattle.files.specs.Calls.{needs_new, lacks_number, files_used_up}
 use Rattle.files.specs.declared.queues.Queues.{Queues}
 
 pub record Room (q : Queues) : Type 0 where
@@ -21,11 +21,11 @@ pub record Room (q : Queues) : Type 0 where
   pub cleanup : q.cleanup_queue.count ≤ 64
   pub pool : q.log_pool.count ≤ 16
   pub replay : q.replay_queue.count ≤ 64
-  pub all : oneIf q.appending.some + q.read_queue.count + oneIf q.reading.some + q.cleanup_queue.count + q.log_pool.count + q.replay_queue.count ≤ 64
+  pub all : one_if q.appending.some + q.read_queue.count + one_if q.reading.some + q.cleanup_queue.count + q.log_pool.count + q.replay_queue.count ≤ 64
 
-pub room-facts : (q : Queues) → roomKept q ≡ true → Room q
-unfolding roomKept fileCount
-room-facts q e =
+pub room_facts : (q : Queues) → room_kept q ≡ true → Room q
+unfolding room_kept file_count
+room_facts q e =
     let a = right_of (leb q.read_queue.count 64) _ e in
     let b = right_of (leb q.cleanup_queue.count 64) _ a in
     let d = right_of (leb q.log_pool.count 16) _ b in
@@ -37,8 +37,8 @@ room-facts q e =
       all = leb-true _ 64 (right_of (leb q.replay_queue.count 64) _ d);
     }
 
-pub room-makes : (q : Queues) → Room q → roomKept q ≡ true
-unfolding roomKept fileCount
+pub room-makes : (q : Queues) → Room q → room_kept q ≡ true
+unfolding room_kept file_count
 room-makes q r =
     both (le-leb _ _ r.read) (both (le-leb _ _ r.cleanup) (both (le-leb _ _ r.pool) (both (le-leb _ _ r.replay) (le-leb _ _ r.all))))
 
@@ -46,31 +46,31 @@ pub record Kept (q : Queues) : Type 0 where
   pub room : Room q
   pub below : all_below q.next_log_id (files_of q) ≡ true
   pub once : distinct (files_of q) ≡ true
-  pub pool : ascends (poolOf q) ≡ true
-  pub size : appendingSize q < 9223372036854775808
+  pub pool : ascends (pool_of q) ≡ true
+  pub size : appending_size q < 9223372036854775808
 
-pub kept-facts : (q : Queues) → queuesKept q ≡ true → Kept q
-unfolding queuesKept
-kept-facts q e =
-    let a = right_of (roomKept q) _ e in
+pub kept_facts : (q : Queues) → queues_kept q ≡ true → Kept q
+unfolding queues_kept
+kept_facts q e =
+    let a = right_of (room_kept q) _ e in
     let b = right_of (all_below q.next_log_id (files_of q)) _ a in
     let d = right_of (distinct (files_of q)) _ b in
     record {
-      room = room-facts q (left-of (roomKept q) _ e);
+      room = room_facts q (left-of (room_kept q) _ e);
       below = left-of (all_below q.next_log_id (files_of q)) _ a;
       once = left-of (distinct (files_of q)) _ b;
-      pool = left-of (ascends (poolOf q)) _ d;
-      size = ltb-true (appendingSize q) 9223372036854775808 (right_of (ascends (poolOf q)) _ d);
+      pool = left-of (ascends (pool_of q)) _ d;
+      size = ltb-true (appending_size q) 9223372036854775808 (right_of (ascends (pool_of q)) _ d);
     }
 
-pub kept-makes : (q : Queues) → Kept q → queuesKept q ≡ true
-unfolding queuesKept
+pub kept-makes : (q : Queues) → Kept q → queues_kept q ≡ true
+unfolding queues_kept
 kept-makes q k = both (room-makes q k.room) (both k.below (both k.once (both k.pool (lt-ltb _ _ k.size))))
 
 -- a file that has a size is appending
-pub sized-appending : (q : Queues) (min : ℕ) → min < appendingSize q → q.appending.some ≡ true
-unfolding appendingSize
-sized-appending q min h = by q.appending.some refl h
+pub sized_appending : (q : Queues) (min : ℕ) → min < appending_size q → q.appending.some ≡ true
+unfolding appending_size
+sized_appending q min h = by q.appending.some refl h
   where
     by : (b : Bool) → q.appending.some ≡ b → min < (if b then q.appending.size else 0) → b ≡ true
     by true e h = refl
@@ -78,20 +78,20 @@ sized-appending q min h = by q.appending.some refl h
 
 -- how often a number stands in the places
 pub whole : (v : ℕ) (q : Queues)
-    → times v (files_of q) ≡ times v (appendingOf q) + times v (readQueueOf q) + times v (reading_of q) + times v (cleanupOf q) + times v (poolOf q) + times v (replayOf q)
+    → times v (files_of q) ≡ times v (appending_of q) + times v (read_queue_of q) + times v (reading_of q) + times v (cleanup_of q) + times v (pool_of q) + times v (replay_of q)
 unfolding files_of
 whole v q =
-    let a = appendingOf q in
-    let b = readQueueOf q in
+    let a = appending_of q in
+    let b = read_queue_of q in
     let c = reading_of q in
-    let d = cleanupOf q in
-    let e = poolOf q in
-    let f = replayOf q in
+    let d = cleanup_of q in
+    let e = pool_of q in
+    let f = replay_of q in
     omega (arith, times-append v (a ++ b ++ c ++ d ++ e) f, times-append v (a ++ b ++ c ++ d) e, times-append v (a ++ b ++ c) d, times-append v (a ++ b) c, times-append v a b)
 
 -- where no number stands more often than it did, each file is in one place and below the next number still
 pub still_kept : (q q' : Queues) → Kept q → Room q' → q'.next_log_id ≡ q.next_log_id → ((v : ℕ) → times v (files_of q') ≤ times v (files_of q))
-    → ascends (poolOf q') ≡ true → appendingSize q' < 9223372036854775808 → Kept q'
+    → ascends (pool_of q') ≡ true → appending_size q' < 9223372036854775808 → Kept q'
 still_kept q q' k r e f p s = record {
   room = r;
   below = ap (λ (n : ℕ). all_below n (files_of q')) e ∙ less-under q.next_log_id (files_of q) (files_of q') f k.below;
@@ -101,8 +101,8 @@ still_kept q q' k r e f p s = record {
 }
 
 -- what `flush_one` moves finds room in the read queue
-pub flush-room : (q : Queues) (min : ℕ) → queuesKept q ≡ true → min < appendingSize q → q.read_queue.count < 64
-flush-room q min ok h = omega (arith, (kept-facts q ok).room.all, one-true q.appending.some (sized-appending q min h))
+pub flush_room : (q : Queues) (min : ℕ) → queues_kept q ≡ true → min < appending_size q → q.read_queue.count < 64
+flush_room q min ok h = omega (arith, (kept_facts q ok).room.all, one-true q.appending.some (sized_appending q min h))
 
 -- what the test of all numbers found of a copy of them
 pub below_as : (n n' : ℕ) (l l' : List ℕ) (b : Bool) → n' ≡ n → l' ≡ l → b ≡ all_below n' l' → all_below n l ≡ b
@@ -113,38 +113,38 @@ left_false : (a b : Bool) → (a || b) ≡ false → a ≡ false
 left_false false b e = refl
 left_false true b e = e
 
-right-false : (a b : Bool) → (a || b) ≡ false → b ≡ false
-right-false false b e = e
-right-false true b e = let w : ◌≡◌ {A = ℕ} 0 1 = cc in absurd (omega arith)
+right_false : (a b : Bool) → (a || b) ≡ false → b ≡ false
+right_false false b e = e
+right_false true b e = let w : ◌≡◌ {A = ℕ} 0 1 = cc in absurd (omega arith)
 
-module _ (q : Queues) (length : ℕ) (f : filesUsedUp q length ≡ false) where
+module _ (q : Queues) (length : ℕ) (f : files_used_up q length ≡ false) where
   pub number-left : q.appending.some ≡ false → q.log_pool.count ≡ 0 → q.next_log_id ≡ 4294967295 → ⊥
-  unfolding needsNew lacksNumber filesUsedUp
+  unfolding needs_new lacks_number files_used_up
   number-left a p e =
-      let g = left_false (lacksNumber q) _ f in
+      let g = left_false (lacks_number q) _ f in
       let z : true ≡ false = rw (a, p, eq-eqb q.next_log_id 4294967295 e) at g in
       let w : ◌≡◌ {A = ℕ} 0 1 = cc in omega arith
 
-  pub size_low : appendingSize q + length < 9223372036854775808
-  unfolding filesUsedUp
-  size_low = leb-false _ _ (right-false (lacksNumber q) _ f)
+  pub size_low : appending_size q + length < 9223372036854775808
+  unfolding files_used_up
+  size_low = leb-false _ _ (right_false (lacks_number q) _ f)
 
 -- the code's test of the size, without a sum that could wrap
-pub leb-moved : (s s' l : ℕ) → s' ≡ s → s < 9223372036854775808 → leb (9223372036854775808 - s') l ≡ leb 9223372036854775808 (s + l)
-leb-moved s s' l e h = by (leb 9223372036854775808 (s + l)) refl
+pub leb_moved : (s s' l : ℕ) → s' ≡ s → s < 9223372036854775808 → leb (9223372036854775808 - s') l ≡ leb 9223372036854775808 (s + l)
+leb_moved s s' l e h = by (leb 9223372036854775808 (s + l)) refl
   where
     by : (b : Bool) → leb 9223372036854775808 (s + l) ≡ b → leb (9223372036854775808 - s') l ≡ b
     by true f = le-leb (9223372036854775808 - s') l (omega (arith, leb-true 9223372036854775808 (s + l) f))
     by false f = lt-leb (9223372036854775808 - s') l (omega (arith, leb-false 9223372036854775808 (s + l) f))
 
 -- what the file being read leaves as it was when it goes to cleanup
-pub cleaned-replay : (q : Queues) → (readingCleaned q).replay_queue.count ≡ q.replay_queue.count
-unfolding readingCleaned
-cleaned-replay q = refl
+pub cleaned_replay : (q : Queues) → (reading_cleaned q).replay_queue.count ≡ q.replay_queue.count
+unfolding reading_cleaned
+cleaned_replay q = refl
 
-pub cleaned-cleanup : (q : Queues) → (readingCleaned q).cleanup_queue.count ≡ q.cleanup_queue.count + oneIf q.reading.some
-unfolding readingCleaned
-cleaned-cleanup q = push-if-count q.cleanup_queue q.reading.some q.reading.id
+pub cleaned_cleanup : (q : Queues) → (reading_cleaned q).cleanup_queue.count ≡ q.cleanup_queue.count + one_if q.reading.some
+unfolding reading_cleaned
+cleaned_cleanup q = push_if_count q.cleanup_queue q.reading.some q.reading.id
 
 -- ---- the two doors of a call: what holds of the answer behind the test, and of the refusal, holds of the call
 module _ {A : Type 0} (P : A → Type 0) {x : A} where

@@ -3,5 +3,5 @@ use Rattle.std.specs.Prelude.{Bool, not, ◌||◌, eqb}
 use Rattle.files.specs.declared.queues.Queues.{Queues}
 
 -- there is a file to read: the one being read, or the read queue's front
-unfoldable pub hasFile : Queues → Bool
-hasFile q = q.reading.some || not (eqb q.read_queue.count 0)
+unfoldable pub has_file : Queues → Bool
+has_file q = q.reading.some || not (eqb q.read_queue.count 0)

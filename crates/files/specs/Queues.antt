@@ -2,60 +2,60 @@
 -- What lies behind a queue's count means nothing; nor does what stands beside a `some` that is false.
 use Rattle.std.specs.Prelude.{ℕ, ◌+◌, Bool, ◌&&◌, List, ◌++◌, ◌≡◌, ltb, leb, length}
 use Rattle.words.specs.Choice.{if◌then◌else◌}
-use Rattle.numbers.specs.Numbers.{all_below, distinct, ascends, someOf, oneIf}
+use Rattle.numbers.specs.Numbers.{all_below, distinct, ascends, some_of, one_if}
 use Rattle.numbers.specs.Queue.{list_of}
 use Rattle.files.specs.declared.queues.Queues.{Queues}
 
 -- the file that is appended to, if there is one
-abbrev pub appendingOf : Queues → List ℕ
-appendingOf q = someOf q.appending.some q.appending.id
+abbrev pub appending_of : Queues → List ℕ
+appending_of q = some_of q.appending.some q.appending.id
 
 -- the files of the read queue, the front first
-abbrev pub readQueueOf : Queues → List ℕ
-readQueueOf q = list_of q.read_queue
+abbrev pub read_queue_of : Queues → List ℕ
+read_queue_of q = list_of q.read_queue
 
 -- the file being read, if there is one
 abbrev pub reading_of : Queues → List ℕ
-reading_of q = someOf q.reading.some q.reading.id
+reading_of q = some_of q.reading.some q.reading.id
 
 -- the files to clean, the front first
-abbrev pub cleanupOf : Queues → List ℕ
-cleanupOf q = list_of q.cleanup_queue
+abbrev pub cleanup_of : Queues → List ℕ
+cleanup_of q = list_of q.cleanup_queue
 
 -- the files of the pool
-abbrev pub poolOf : Queues → List ℕ
-poolOf q = list_of q.log_pool
+abbrev pub pool_of : Queues → List ℕ
+pool_of q = list_of q.log_pool
 
 -- beside it, in the same places, the id of each file's first record
-abbrev pub replayOf : Queues → List ℕ
-replayOf q = list_of q.replay_queue
+abbrev pub replay_of : Queues → List ℕ
+replay_of q = list_of q.replay_queue
 
 -- the appending file's size; "none counts as 0"
-unfoldable pub appendingSize : Queues → ℕ
-appendingSize q = if q.appending.some then q.appending.size else 0
+unfoldable pub appending_size : Queues → ℕ
+appending_size q = if q.appending.some then q.appending.size else 0
 
 -- every file, place by place: "appending, read queue, reading, cleanup, pool or replay queue"
 unfoldable pub files_of : Queues → List ℕ
-files_of q = appendingOf q ++ readQueueOf q ++ reading_of q ++ cleanupOf q ++ poolOf q ++ replayOf q
+files_of q = appending_of q ++ read_queue_of q ++ reading_of q ++ cleanup_of q ++ pool_of q ++ replay_of q
 
 -- how many there are
-unfoldable pub fileCount : Queues → ℕ
-fileCount q =
-    oneIf q.appending.some + q.read_queue.count + oneIf q.reading.some + q.cleanup_queue.count + q.log_pool.count
+unfoldable pub file_count : Queues → ℕ
+file_count q =
+    one_if q.appending.some + q.read_queue.count + one_if q.reading.some + q.cleanup_queue.count + q.log_pool.count
     + q.replay_queue.count
 
 -- "room kept": each queue within its array, "pool .. at most 16", and "At most 64 files"
-unfoldable pub roomKept : Queues → Bool
-roomKept q =
+unfoldable pub room_kept : Queues → Bool
+room_kept q =
     leb q.read_queue.count 64 && (leb q.cleanup_queue.count 64 && (leb q.log_pool.count 16 &&
-    (leb q.replay_queue.count 64 && leb (fileCount q) 64)))
+    (leb q.replay_queue.count 64 && leb (file_count q) 64)))
 
 -- "Rules of a state: room kept, .. each file in one place and below the next number, pool ascending and at most 16";
 -- "A file's size stays below 2^63." A call that is handed any other state answers 13
-unfoldable pub queuesKept : Queues → Bool
-queuesKept q =
-    roomKept q && (all_below q.next_log_id (files_of q) && (distinct (files_of q) && (ascends (poolOf q) &&
-    ltb (appendingSize q) 9223372036854775808)))
+unfoldable pub queues_kept : Queues → Bool
+queues_kept q =
+    room_kept q && (all_below q.next_log_id (files_of q) && (distinct (files_of q) && (ascends (pool_of q) &&
+    ltb (appending_size q) 9223372036854775808)))
 
 -- What the types say of queues that code is handed, a premise of the theorems and no rule that is tested: each array has 64 numbers
 pub record QueuesTyped (q : Queues) : Type 0 where

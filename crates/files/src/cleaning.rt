@@ -1,7 +1,7 @@
 // Files that are done with: emptied into the pool, or removed.
 ghost use Rattle.std.specs.Prelude.{true, ◌≡◌};
-ghost use Rattle.files.specs.Queues.{queuesKept};
-ghost use Rattle.files.specs.Calls.{cleanLogsKept, notCleaned, cleanLogs, killLogsKept, killLogs};
+ghost use Rattle.files.specs.Queues.{queues_kept};
+ghost use Rattle.files.specs.Calls.{clean_logs_kept, not_cleaned, clean_logs, kill_logs_kept, kill_logs};
 
 use super::queues::{Queues, Reading};
 use answer::Answer;
@@ -26,7 +26,7 @@ pub struct Killed {
 
 impl Queues {
     fn not_cleaned(self, answer: Answer) -> Cleaned
-        ensures { result ≡ notCleaned answer self }
+        ensures { result ≡ not_cleaned answer self }
     {
         Cleaned {
             answer: answer,
@@ -38,8 +38,8 @@ impl Queues {
     }
 
     pub fn clean_logs_kept(self, max: usize) -> Cleaned
-        requires { queuesKept self ≡ true }
-        ensures { result ≡ cleanLogsKept self max }
+        requires { queues_kept self ≡ true }
+        ensures { result ≡ clean_logs_kept self max }
     {
         let cleanup = self.cleanup_queue;
         let empty = cleanup.first(max);
@@ -57,7 +57,7 @@ impl Queues {
     }
 
     pub fn clean_logs(self, max: usize) -> Cleaned
-        ensures { result ≡ cleanLogs self max }
+        ensures { result ≡ clean_logs self max }
     {
         if !self.kept() {
             return self.not_cleaned(Answer::BadState);
@@ -66,8 +66,8 @@ impl Queues {
     }
 
     pub fn kill_logs_kept(self) -> Killed
-        requires { queuesKept self ≡ true }
-        ensures { result ≡ killLogsKept self }
+        requires { queues_kept self ≡ true }
+        ensures { result ≡ kill_logs_kept self }
     {
         let remove = self.log_pool.push_if(self.reading.some, self.reading.id);
         let mut q = self;
@@ -81,7 +81,7 @@ impl Queues {
     }
 
     pub fn kill_logs(self) -> Killed
-        ensures { result ≡ killLogs self }
+        ensures { result ≡ kill_logs self }
     {
         if !self.kept() {
             return Killed {

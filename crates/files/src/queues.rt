@@ -1,8 +1,8 @@
 // The queues by value, of numbers alone, and the test of their rules.
 ghost use Rattle.std.specs.Prelude.{◌≡◌, true, ◌+◌, ◌≤◌};
 ghost use Rattle.numbers.specs.Queue.{list_of};
-ghost use Rattle.files.specs.Queues.{appendingSize, files_of, fileCount, roomKept, queuesKept};
-ghost use Rattle.files.specs.Moves.{noAppending, appendingFile, noReading, readingFile, noFiles};
+ghost use Rattle.files.specs.Queues.{appending_size, files_of, file_count, room_kept, queues_kept};
+ghost use Rattle.files.specs.Moves.{no_appending, appending_file, no_reading, reading_file, no_files};
 
 use numbers::NumberQueue;
 
@@ -37,7 +37,7 @@ pub struct Queues {
 
 impl Appending {
     pub(crate) fn none() -> Appending
-        ensures { result ≡ noAppending }
+        ensures { result ≡ no_appending }
     {
         Appending {
             some: false,
@@ -47,7 +47,7 @@ impl Appending {
     }
 
     pub(crate) fn file(id: u64, size: u64) -> Appending
-        ensures { result ≡ appendingFile id size }
+        ensures { result ≡ appending_file id size }
     {
         Appending {
             some: true,
@@ -59,13 +59,13 @@ impl Appending {
 
 impl Reading {
     pub(crate) fn none() -> Reading
-        ensures { result ≡ noReading }
+        ensures { result ≡ no_reading }
     {
         Reading { some: false, id: 0 }
     }
 
     pub(crate) fn file(id: u64) -> Reading
-        ensures { result ≡ readingFile id }
+        ensures { result ≡ reading_file id }
     {
         Reading { some: true, id: id }
     }
@@ -82,7 +82,7 @@ impl Queues {
 
     // No file; dirty, as at open.
     pub fn new() -> Queues
-        ensures { result ≡ noFiles }
+        ensures { result ≡ no_files }
     {
         Queues {
             appending: Appending::none(),
@@ -98,7 +98,7 @@ impl Queues {
     }
 
     pub(crate) fn size(self) -> u64
-        ensures { result ≡ appendingSize self }
+        ensures { result ≡ appending_size self }
     {
         if self.appending.some {
             self.appending.size
@@ -109,7 +109,7 @@ impl Queues {
 
     pub(crate) fn file_count(self) -> usize
         requires { (self.read_queue.count ≤ 64) × (self.cleanup_queue.count ≤ 64) × (self.log_pool.count ≤ 16) × (self.replay_queue.count ≤ 64) }
-        ensures { result ≡ fileCount self }
+        ensures { result ≡ file_count self }
     {
         let a = numbers::count(self.appending.some);
         let b = numbers::count(self.reading.some);
@@ -121,7 +121,7 @@ impl Queues {
     }
 
     fn room_kept(self) -> bool
-        ensures { result ≡ roomKept self }
+        ensures { result ≡ room_kept self }
     {
         if 64 < self.read_queue.count {
             return false;
@@ -140,7 +140,7 @@ impl Queues {
 
     // All file numbers, one behind the other, so that one test sees them all.
     fn gather(self) -> NumberQueue
-        requires { roomKept self ≡ true }
+        requires { room_kept self ≡ true }
         ensures { (result.count ≤ 64) × (list_of result ≡ files_of self) }
     {
         NumberQueue::new()
@@ -154,7 +154,7 @@ impl Queues {
 
     // Whether the queues keep every rule; where they don't, a call that is handed them answers 13.
     pub fn kept(self) -> bool
-        ensures { result ≡ queuesKept self }
+        ensures { result ≡ queues_kept self }
     {
         if !self.room_kept() {
             return false;

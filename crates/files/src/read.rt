@@ -1,9 +1,9 @@
 // The next record of the files that are read.
 ghost use Rattle.std.specs.Prelude.{◌≡◌, true, ◌≤◌};
-ghost use Rattle.files.specs.Queues.{queuesKept};
-ghost use Rattle.files.specs.Moves.{frontRead};
-ghost use Rattle.files.specs.Read.{nowReading, notRead, read_by, readNextKept, readNext};
-ghost use Rattle.files.specs.Inner.{hasFile};
+ghost use Rattle.files.specs.Queues.{queues_kept};
+ghost use Rattle.files.specs.Moves.{front_read};
+ghost use Rattle.files.specs.Read.{now_reading, not_read, read_by, read_next_kept, read_next};
+ghost use Rattle.files.specs.Inner.{has_file};
 
 use super::queues::{Queues, Reading};
 use answer::Answer;
@@ -20,7 +20,7 @@ pub struct ReadNext {
 
 impl Queues {
     fn not_read(self, answer: Answer, reader: LogReader) -> ReadNext
-        ensures { result ≡ notRead answer reader self }
+        ensures { result ≡ not_read answer reader self }
     {
         ReadNext {
             answer: answer,
@@ -32,7 +32,7 @@ impl Queues {
 
     fn front_read(self) -> Queues
         requires { self.read_queue.count ≤ 64 }
-        ensures { result ≡ frontRead self }
+        ensures { result ≡ front_read self }
     {
         let mut q = self;
         q.read_queue = self.read_queue.without_first(1);
@@ -42,7 +42,7 @@ impl Queues {
 
     fn now_reading(self) -> Queues
         requires { self.read_queue.count ≤ 64 }
-        ensures { result ≡ nowReading self }
+        ensures { result ≡ now_reading self }
     {
         if self.reading.some {
             return self;
@@ -52,7 +52,7 @@ impl Queues {
 
     // What an opening that was tried comes to.
     fn read(self, step: Step, reader: LogReader) -> ReadNext
-        requires { (queuesKept self ≡ true) × (hasFile self ≡ true) }
+        requires { (queues_kept self ≡ true) × (has_file self ≡ true) }
         ensures { result ≡ read_by self reader step }
     {
         let q = self.now_reading();
@@ -77,8 +77,8 @@ impl Queues {
     }
 
     pub fn read_next_kept(self, log: &[u8], position: usize, validate: bool) -> ReadNext
-        requires { queuesKept self ≡ true }
-        ensures { result ≡ readNextKept self log.now position validate }
+        requires { queues_kept self ≡ true }
+        ensures { result ≡ read_next_kept self log.now position validate }
     {
         let reader = LogReader::new(position, validate);
         if self.reading.some {
@@ -93,7 +93,7 @@ impl Queues {
     }
 
     pub fn read_next(self, log: &[u8], position: usize, validate: bool) -> ReadNext
-        ensures { result ≡ readNext self log.now position validate }
+        ensures { result ≡ read_next self log.now position validate }
     {
         if !self.kept() {
             return self.not_read(Answer::BadState, LogReader::new(position, validate));

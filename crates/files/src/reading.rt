@@ -1,9 +1,9 @@
 // The files that are read: the replay queue, the read queue, and the one being read.
 ghost use Rattle.std.specs.Prelude.{◌≡◌, true, ◌+◌, ◌≤◌, ltb};
-ghost use Rattle.numbers.specs.Numbers.{oneIf};
-ghost use Rattle.files.specs.Queues.{queuesKept};
-ghost use Rattle.files.specs.Moves.{readingCleaned, frontReplayed, replayCleaned};
-ghost use Rattle.files.specs.Calls.{replayRecordId, noReplay, replayNextKept, replayNext, clearReplayLogsKept, clearReplayLogs};
+ghost use Rattle.numbers.specs.Numbers.{one_if};
+ghost use Rattle.files.specs.Queues.{queues_kept};
+ghost use Rattle.files.specs.Moves.{reading_cleaned, front_replayed, replay_cleaned};
+ghost use Rattle.files.specs.Calls.{replay_record_id, no_replay, replay_next_kept, replay_next, clear_replay_logs_kept, clear_replay_logs};
 
 use super::queues::{Queues, Reading};
 use answer::Answer;
@@ -44,7 +44,7 @@ impl Queues {
     }
 
     pub fn replay_record_id(self) -> FirstId
-        ensures { result ≡ replayRecordId self }
+        ensures { result ≡ replay_record_id self }
     {
         if self.replay_queue.count == 0 {
             return FirstId {
@@ -60,8 +60,8 @@ impl Queues {
     }
 
     pub(crate) fn reading_cleaned(self) -> Queues
-        requires { self.cleanup_queue.count + oneIf self.reading.some ≤ 64 }
-        ensures { result ≡ readingCleaned self }
+        requires { self.cleanup_queue.count + one_if self.reading.some ≤ 64 }
+        ensures { result ≡ reading_cleaned self }
     {
         let mut q = self;
         q.cleanup_queue = self
@@ -73,7 +73,7 @@ impl Queues {
 
     fn front_replayed(self) -> Queues
         requires { self.replay_queue.count ≤ 64 }
-        ensures { result ≡ frontReplayed self }
+        ensures { result ≡ front_replayed self }
     {
         let numbers = self.replay_ids;
         let ids = NumberQueue {
@@ -89,7 +89,7 @@ impl Queues {
     }
 
     fn no_replay(self, answer: Answer) -> ReplayNext
-        ensures { result ≡ noReplay answer self }
+        ensures { result ≡ no_replay answer self }
     {
         ReplayNext {
             answer: answer,
@@ -100,8 +100,8 @@ impl Queues {
     }
 
     pub fn replay_next_kept(self) -> ReplayNext
-        requires { queuesKept self ≡ true }
-        ensures { result ≡ replayNextKept self }
+        requires { queues_kept self ≡ true }
+        ensures { result ≡ replay_next_kept self }
     {
         let q = self.reading_cleaned();
         if self.replay_queue.count == 0 {
@@ -116,7 +116,7 @@ impl Queues {
     }
 
     pub fn replay_next(self) -> ReplayNext
-        ensures { result ≡ replayNext self }
+        ensures { result ≡ replay_next self }
     {
         if !self.kept() {
             return self.no_replay(Answer::BadState);
@@ -126,7 +126,7 @@ impl Queues {
 
     fn replay_cleaned(self) -> Queues
         requires { self.cleanup_queue.count + self.replay_queue.count ≤ 64 }
-        ensures { result ≡ replayCleaned self }
+        ensures { result ≡ replay_cleaned self }
     {
         let mut q = self;
         q.cleanup_queue = self.cleanup_queue.append(self.replay_queue);
@@ -136,8 +136,8 @@ impl Queues {
 
     // The queues' part: the overlays are another state.
     pub fn clear_replay_logs_kept(self) -> ReplayCleared
-        requires { queuesKept self ≡ true }
-        ensures { result ≡ clearReplayLogsKept self }
+        requires { queues_kept self ≡ true }
+        ensures { result ≡ clear_replay_logs_kept self }
     {
         let mut q = self.reading_cleaned().replay_cleaned();
         q.dirty = false;
@@ -148,7 +148,7 @@ impl Queues {
     }
 
     pub fn clear_replay_logs(self) -> ReplayCleared
-        ensures { result ≡ clearReplayLogs self }
+        ensures { result ≡ clear_replay_logs self }
     {
         if !self.kept() {
             return ReplayCleared {

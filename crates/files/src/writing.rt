@@ -1,8 +1,8 @@
 // The file that records are appended to: flushed to the read queue, taken from the pool or new.
 ghost use Rattle.std.specs.Prelude.{◌≡◌, true, false, ◌+◌, ◌<◌};
-ghost use Rattle.files.specs.Queues.{appendingSize, queuesKept};
-ghost use Rattle.files.specs.Moves.{appendingQueued};
-ghost use Rattle.files.specs.Calls.{notFlushed, flushOneKept, flushOne, needsNew, fileSetFull, lacksNumber, filesUsedUp, tookFrom, takenBy, notTaken, takeFileKept, takeFile};
+ghost use Rattle.files.specs.Queues.{appending_size, queues_kept};
+ghost use Rattle.files.specs.Moves.{appending_queued};
+ghost use Rattle.files.specs.Calls.{not_flushed, flush_one_kept, flush_one, needs_new, file_set_full, lacks_number, files_used_up, took_from, taken_by, not_taken, take_file_kept, take_file};
 
 use super::queues::{Appending, Queues, wide};
 use answer::Answer;
@@ -34,7 +34,7 @@ pub struct Taken {
 
 impl Queues {
     fn not_flushed(self, answer: Answer) -> Flushed
-        ensures { result ≡ notFlushed answer self }
+        ensures { result ≡ not_flushed answer self }
     {
         Flushed {
             answer: answer,
@@ -46,7 +46,7 @@ impl Queues {
 
     fn appending_queued(self) -> Queues
         requires { self.read_queue.count < 64 }
-        ensures { result ≡ appendingQueued self }
+        ensures { result ≡ appending_queued self }
     {
         let mut q = self;
         q.read_queue = self.read_queue.push_back(self.appending.id);
@@ -55,8 +55,8 @@ impl Queues {
     }
 
     pub fn flush_one_kept(self, min: u64) -> Flushed
-        requires { queuesKept self ≡ true }
-        ensures { result ≡ flushOneKept self min }
+        requires { queues_kept self ≡ true }
+        ensures { result ≡ flush_one_kept self min }
     {
         if self.size() <= min {
             return self.not_flushed(Answer::Done);
@@ -70,7 +70,7 @@ impl Queues {
     }
 
     pub fn flush_one(self, min: u64) -> Flushed
-        ensures { result ≡ flushOne self min }
+        ensures { result ≡ flush_one self min }
     {
         if !self.kept() {
             return self.not_flushed(Answer::BadState);
@@ -79,7 +79,7 @@ impl Queues {
     }
 
     fn needs_new(self) -> bool
-        ensures { result ≡ needsNew self }
+        ensures { result ≡ needs_new self }
     {
         if self.appending.some {
             return false;
@@ -88,8 +88,8 @@ impl Queues {
     }
 
     pub fn file_set_full(self) -> bool
-        requires { queuesKept self ≡ true }
-        ensures { result ≡ fileSetFull self }
+        requires { queues_kept self ≡ true }
+        ensures { result ≡ file_set_full self }
     {
         if self.needs_new() {
             return self.file_count() == 64;
@@ -98,7 +98,7 @@ impl Queues {
     }
 
     fn lacks_number(self) -> bool
-        ensures { result ≡ lacksNumber self }
+        ensures { result ≡ lacks_number self }
     {
         if self.needs_new() {
             return self.next_log_id == 4294967295;
@@ -107,8 +107,8 @@ impl Queues {
     }
 
     pub fn files_used_up(self, length: u64) -> bool
-        requires { queuesKept self ≡ true }
-        ensures { result ≡ filesUsedUp self length }
+        requires { queues_kept self ≡ true }
+        ensures { result ≡ files_used_up self length }
     {
         if self.lacks_number() {
             return true;
@@ -117,7 +117,7 @@ impl Queues {
     }
 
     fn took(self, source: FileSource, number: u64) -> Taken
-        ensures { result ≡ tookFrom source number self }
+        ensures { result ≡ took_from source number self }
     {
         Taken {
             answer: Answer::Done,
@@ -139,8 +139,8 @@ impl Queues {
 
     // The file for a record of that length.
     fn taken(self, length: u64) -> Taken
-        requires { (queuesKept self ≡ true) × (filesUsedUp self length ≡ false) }
-        ensures { result ≡ takenBy self (appendingSize self + length) }
+        requires { (queues_kept self ≡ true) × (files_used_up self length ≡ false) }
+        ensures { result ≡ taken_by self (appending_size self + length) }
     {
         let size = self.size() + length;
         if self.appending.some {
@@ -159,7 +159,7 @@ impl Queues {
     }
 
     fn not_taken(self, answer: Answer) -> Taken
-        ensures { result ≡ notTaken answer self }
+        ensures { result ≡ not_taken answer self }
     {
         Taken {
             answer: answer,
@@ -171,8 +171,8 @@ impl Queues {
 
     // What the end of a record of that length needs of the files.
     pub fn take_file_kept(self, length: u64) -> Taken
-        requires { queuesKept self ≡ true }
-        ensures { result ≡ takeFileKept self length }
+        requires { queues_kept self ≡ true }
+        ensures { result ≡ take_file_kept self length }
     {
         if self.file_set_full() {
             return self.not_taken(Answer::NoRoom);
@@ -184,7 +184,7 @@ impl Queues {
     }
 
     pub fn take_file(self, length: u64) -> Taken
-        ensures { result ≡ takeFile self length }
+        ensures { result ≡ take_file self length }
     {
         if !self.kept() {
             return self.not_taken(Answer::BadState);

@@ -1,30 +1,30 @@
 -- Document 01, "File numbers": names. Assumes nothing.
 use mathlib.Core.List.{[], ◌∷◌}
 use mathlib.Core.Path.{◌≡◌, refl}
-use Rattle.found.specs.Names.{beginsLog, decimalFrom, logName}
+use Rattle.found.specs.Names.{begins_log, decimal_from, log_name}
 use Rattle.found.specs.declared.name.LogName.TheVariants.{Log, Other}
 
 -- names: "log0" stands; a leading zero, a sign, a blank, another letter, nothing, or a number of more than 32 bits doesn't
-pub log0 : logName (108 ∷ 111 ∷ 103 ∷ 48 ∷ []) ≡ Log 0
-unfolding logName beginsLog decimalFrom
+pub log0 : log_name (108 ∷ 111 ∷ 103 ∷ 48 ∷ []) ≡ Log 0
+unfolding log_name begins_log decimal_from
 log0 = refl
 
-pub log07 : logName (108 ∷ 111 ∷ 103 ∷ 48 ∷ 55 ∷ []) ≡ Other
-unfolding logName beginsLog decimalFrom
+pub log07 : log_name (108 ∷ 111 ∷ 103 ∷ 48 ∷ 55 ∷ []) ≡ Other
+unfolding log_name begins_log decimal_from
 log07 = refl
 
-pub log-plus : logName (108 ∷ 111 ∷ 103 ∷ 43 ∷ 55 ∷ []) ≡ Other
-unfolding logName beginsLog decimalFrom
-log-plus = refl
+pub log_plus : log_name (108 ∷ 111 ∷ 103 ∷ 43 ∷ 55 ∷ []) ≡ Other
+unfolding log_name begins_log decimal_from
+log_plus = refl
 
-pub log-alone : logName (108 ∷ 111 ∷ 103 ∷ []) ≡ Other
-unfolding logName beginsLog decimalFrom
+pub log-alone : log_name (108 ∷ 111 ∷ 103 ∷ []) ≡ Other
+unfolding log_name begins_log decimal_from
 log-alone = refl
 
-pub log-greatest : logName (108 ∷ 111 ∷ 103 ∷ 52 ∷ 50 ∷ 57 ∷ 52 ∷ 57 ∷ 54 ∷ 55 ∷ 50 ∷ 57 ∷ 53 ∷ []) ≡ Log 4294967295
-unfolding logName beginsLog decimalFrom
-log-greatest = refl
+pub log_greatest : log_name (108 ∷ 111 ∷ 103 ∷ 52 ∷ 50 ∷ 57 ∷ 52 ∷ 57 ∷ 54 ∷ 55 ∷ 50 ∷ 57 ∷ 53 ∷ []) ≡ Log 4294967295
+unfolding log_name begins_log decimal_from
+log_greatest = refl
 
-pub log-greater : logName (108 ∷ 111 ∷ 103 ∷ 52 ∷ 50 ∷ 57 ∷ 52 ∷ 57 ∷ 54 ∷ 55 ∷ 50 ∷ 57 ∷ 54 ∷ []) ≡ Other
-unfolding logName beginsLog decimalFrom
-log-greater = refl
+pub log_greater : log_name (108 ∷ 111 ∷ 103 ∷ 52 ∷ 50 ∷ 57 ∷ 52 ∷ 57 ∷ 54 ∷ 55 ∷ 50 ∷ 57 ∷ 54 ∷ []) ≡ Other
+unfolding log_name begins_log decimal_from
+log_greater = refl

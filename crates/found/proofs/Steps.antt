@@ -11,11 +11,11 @@ use lib.Seq.{paste, length-paste, take-paste, drop-paste, take_all, take-length,
 use lib.Dec.{ltb, eqb}
 use borrow.Author.Tests.{eq-eqb, ne_eqb, eqb-true, eqb-false}
 use Rattle.words.specs.Choice.{if◌then◌else◌}
-use Rattle.words.specs.Words.{littleAt}
+use Rattle.words.specs.Words.{little_at}
 use Rattle.numbers.specs.Numbers.{has, distinct}
-use Rattle.found.specs.Names.{logName, cut, saidBy}
-use Rattle.found.specs.Logs.{takenNumber, takenNumbers, removedOne, removed, keptOne, keptFiles, total}
-use Rattle.found.specs.Inner.{saidAgain}
+use Rattle.found.specs.Names.{log_name, cut, said_by}
+use Rattle.found.specs.Logs.{taken_number, taken_numbers, removed_one, removed, kept_one, kept_files, total}
+use Rattle.found.specs.Inner.{said_again}
 use Rattle.found.specs.declared.name.LogName.{LogName}
 use Rattle.found.specs.declared.name.LogName.TheVariants.{Log, Other}
 
@@ -35,20 +35,20 @@ cut-length names [] = refl
 cut-length names (n ∷ l) = ap suc (cut-length (drop n names) l)
 
 cut_at : (names nameLengths : List ℕ) (i : ℕ) → i < length nameLengths
-    → drop i (saidBy names nameLengths) ≡ logName (take (get_or nameLengths i 0) (drop (total (take i nameLengths)) names)) ∷ drop (suc i) (saidBy names nameLengths)
-unfolding saidBy
+    → drop i (said_by names nameLengths) ≡ log_name (take (get_or nameLengths i 0) (drop (total (take i nameLengths)) names)) ∷ drop (suc i) (said_by names nameLengths)
+unfolding said_by
 cut_at names [] i h = absurd (not-suc-le-zero h)
 cut_at names (n ∷ l) zero h = refl
 cut_at names (n ∷ l) (suc i) h =
     cut_at (drop n names) l i (le_of_suc-le-suc h)
-    ∙ ap (λ (t : List ℕ). logName (take (get_or l i 0) t) ∷ drop (suc i) (saidBy (drop n names) l)) (drop-drop (total (take i l)) n names)
+    ∙ ap (λ (t : List ℕ). log_name (take (get_or l i 0) t) ∷ drop (suc i) (said_by (drop n names) l)) (drop-drop (total (take i l)) n names)
 
-said-length : (names nameLengths : List ℕ) → length (saidBy names nameLengths) ≡ length nameLengths
-unfolding saidBy
-said-length names l = length-map (cut names l) logName ∙ cut-length names l
+said_length : (names nameLengths : List ℕ) → length (said_by names nameLengths) ≡ length nameLengths
+unfolding said_by
+said_length names l = length-map (cut names l) log_name ∙ cut-length names l
 
-said-end : (names l : List ℕ) (i : ℕ) → length l ≤ i → drop i (saidBy names l) ≡ []
-said-end names l i h = drop_of_length-le (saidBy names l) {i = i} (omega (arith, said-length names l))
+said_end : (names l : List ℕ) (i : ℕ) → length l ≤ i → drop i (said_by names l) ≡ []
+said_end names l i h = drop_of_length-le (said_by names l) {i = i} (omega (arith, said_length names l))
 
 module _ (l : List ℕ) (i at : ℕ) (h : i < length l) (e : at ≡ total (take i l)) where
   pub name-fits : at + get_or l i 0 ≤ total l
@@ -83,7 +83,7 @@ alone n v = by (eqb n v)
     by true = refl
     by false = refl
 
-hit : (v : ℕ) (t : LogName) (l : List ℕ) → has v (takenNumber t) ≡ true → has v (takenNumber t ++ l) ≡ true
+hit : (v : ℕ) (t : LogName) (l : List ℕ) → has v (taken_number t) ≡ true → has v (taken_number t ++ l) ≡ true
 hit v (Log n) l f = by (eqb n v) f
   where
     by : (b : Bool) → (if b then true else false) ≡ true → (if b then true else has v l) ≡ true
@@ -91,7 +91,7 @@ hit v (Log n) l f = by (eqb n v) f
     by false e = let z : ◌≡◌ {A = ℕ} 0 1 = cc in absurd (omega arith)
 hit v Other l e = let z : ◌≡◌ {A = ℕ} 0 1 = cc in absurd (omega arith)
 
-skip : (v : ℕ) (t : LogName) (l : List ℕ) → has v (takenNumber t) ≡ false → has v (takenNumber t ++ l) ≡ has v l
+skip : (v : ℕ) (t : LogName) (l : List ℕ) → has v (taken_number t) ≡ false → has v (taken_number t ++ l) ≡ has v l
 skip v (Log n) l f = by (eqb n v) f
   where
     by : (b : Bool) → (if b then true else false) ≡ false → (if b then true else has v l) ≡ has v l
@@ -99,61 +99,61 @@ skip v (Log n) l f = by (eqb n v) f
     by false e = refl
 skip v Other l e = refl
 
-fails : (t : LogName) (l : List ℕ) → saidAgain t l ≡ true → distinct (takenNumber t ++ l) ≡ false
+fails : (t : LogName) (l : List ℕ) → said_again t l ≡ true → distinct (taken_number t ++ l) ≡ false
 fails (Log n) l e = rw e
 fails Other l e = let z : ◌≡◌ {A = ℕ} 0 1 = cc in absurd (omega arith)
 
-goes : (t : LogName) (l : List ℕ) → saidAgain t l ≡ false → distinct (takenNumber t ++ l) ≡ distinct l
+goes : (t : LogName) (l : List ℕ) → said_again t l ≡ false → distinct (taken_number t ++ l) ≡ distinct l
 goes (Log n) l e = rw e
 goes Other l e = refl
 
-module _ (names l : List ℕ) (i at : ℕ) (h : i < length l) (e : at ≡ total (take i l)) (t : LogName) (et : t ≡ logName (take (get_or l i 0) (drop at names))) where
-  next : drop i (saidBy names l) ≡ t ∷ drop (i + 1) (saidBy names l)
+module _ (names l : List ℕ) (i at : ℕ) (h : i < length l) (e : at ≡ total (take i l)) (t : LogName) (et : t ≡ log_name (take (get_or l i 0) (drop at names))) where
+  next : drop i (said_by names l) ≡ t ∷ drop (i + 1) (said_by names l)
   next = rw (et, e, add-one i) (cut_at names l i h)
 
-  taken_next : takenNumbers (drop i (saidBy names l)) ≡ takenNumber t ++ takenNumbers (drop (i + 1) (saidBy names l))
-  unfolding takenNumbers
+  taken_next : taken_numbers (drop i (said_by names l)) ≡ taken_number t ++ taken_numbers (drop (i + 1) (said_by names l))
+  unfolding taken_numbers
   taken_next = rw next
 
-  pub again-hit : (v : ℕ) → has v (takenNumber t) ≡ true → has v (takenNumbers (drop i (saidBy names l))) ≡ true
-  again-hit v f = ap (has v) taken_next ∙ hit v t (takenNumbers (drop (i + 1) (saidBy names l))) f
+  pub again-hit : (v : ℕ) → has v (taken_number t) ≡ true → has v (taken_numbers (drop i (said_by names l))) ≡ true
+  again-hit v f = ap (has v) taken_next ∙ hit v t (taken_numbers (drop (i + 1) (said_by names l))) f
 
-  pub again-skip : (v : ℕ) → has v (takenNumber t) ≡ false → has v (takenNumbers (drop i (saidBy names l))) ≡ has v (takenNumbers (drop (i + 1) (saidBy names l)))
-  again-skip v f = ap (has v) taken_next ∙ skip v t (takenNumbers (drop (i + 1) (saidBy names l))) f
+  pub again-skip : (v : ℕ) → has v (taken_number t) ≡ false → has v (taken_numbers (drop i (said_by names l))) ≡ has v (taken_numbers (drop (i + 1) (said_by names l)))
+  again-skip v f = ap (has v) taken_next ∙ skip v t (taken_numbers (drop (i + 1) (said_by names l))) f
 
-  pub twice-fails : saidAgain t (takenNumbers (drop (i + 1) (saidBy names l))) ≡ true → distinct (takenNumbers (drop i (saidBy names l))) ≡ false
-  twice-fails f = ap distinct taken_next ∙ fails t (takenNumbers (drop (i + 1) (saidBy names l))) f
+  pub twice-fails : said_again t (taken_numbers (drop (i + 1) (said_by names l))) ≡ true → distinct (taken_numbers (drop i (said_by names l))) ≡ false
+  twice-fails f = ap distinct taken_next ∙ fails t (taken_numbers (drop (i + 1) (said_by names l))) f
 
-  pub twice-goes : saidAgain t (takenNumbers (drop (i + 1) (saidBy names l))) ≡ false
-      → distinct (takenNumbers (drop i (saidBy names l))) ≡ distinct (takenNumbers (drop (i + 1) (saidBy names l)))
-  twice-goes f = ap distinct taken_next ∙ goes t (takenNumbers (drop (i + 1) (saidBy names l))) f
+  pub twice-goes : said_again t (taken_numbers (drop (i + 1) (said_by names l))) ≡ false
+      → distinct (taken_numbers (drop i (said_by names l))) ≡ distinct (taken_numbers (drop (i + 1) (said_by names l)))
+  twice-goes f = ap distinct taken_next ∙ goes t (taken_numbers (drop (i + 1) (said_by names l))) f
 
   module _ (lengths : List ℕ) where
-    pub removed-next : removed (drop i (saidBy names l)) (drop i lengths) ≡ removedOne t (get_or lengths i 0) ++ removed (drop (i + 1) (saidBy names l)) (drop (i + 1) lengths)
+    pub removed-next : removed (drop i (said_by names l)) (drop i lengths) ≡ removed_one t (get_or lengths i 0) ++ removed (drop (i + 1) (said_by names l)) (drop (i + 1) lengths)
     unfolding removed
     removed-next = rw (next, at_front lengths i, drop-drop 1 i lengths)
 
-    pub kept_next : (heads : List ℕ) (id : ℕ) → id ≡ littleAt 8 heads (9 * i + 1)
-        → keptFiles (drop i (saidBy names l)) (drop i lengths) (drop (9 * i) heads)
-        ≡ keptOne t (get_or lengths i 0) id ++ keptFiles (drop (i + 1) (saidBy names l)) (drop (i + 1) lengths) (drop (9 * (i + 1)) heads)
-    unfolding keptFiles
+    pub kept_next : (heads : List ℕ) (id : ℕ) → id ≡ little_at 8 heads (9 * i + 1)
+        → kept_files (drop i (said_by names l)) (drop i lengths) (drop (9 * i) heads)
+        ≡ kept_one t (get_or lengths i 0) id ++ kept_files (drop (i + 1) (said_by names l)) (drop (i + 1) lengths) (drop (9 * (i + 1)) heads)
+    unfolding kept_files
     kept_next heads id f = rw (next, at_front lengths i, drop-drop 1 i lengths, nine, drop-drop 1 (9 * i) heads, f)
       where
         nine : drop 9 (drop (9 * i) heads) ≡ drop (9 * (i + 1)) heads
         nine = let e : 9 * i + 9 ≡ 9 * (i + 1) = omega arith in drop-drop 9 (9 * i) heads ∙ ap (λ (m : ℕ). drop m heads) e
 
 module _ (names l : List ℕ) (i : ℕ) (h : length l ≤ i) where
-  pub taken-end : takenNumbers (drop i (saidBy names l)) ≡ []
-  unfolding takenNumbers
-  taken-end = rw (said-end names l i h)
+  pub taken-end : taken_numbers (drop i (said_by names l)) ≡ []
+  unfolding taken_numbers
+  taken-end = rw (said_end names l i h)
 
-  pub removed-end : (lengths : List ℕ) → removed (drop i (saidBy names l)) lengths ≡ []
+  pub removed-end : (lengths : List ℕ) → removed (drop i (said_by names l)) lengths ≡ []
   unfolding removed
-  removed-end lengths = rw (said-end names l i h)
+  removed-end lengths = rw (said_end names l i h)
 
-  pub kept-end : (lengths heads : List ℕ) → keptFiles (drop i (saidBy names l)) lengths heads ≡ []
-  unfolding keptFiles
-  kept-end lengths heads = rw (said-end names l i h)
+  pub kept-end : (lengths heads : List ℕ) → kept_files (drop i (said_by names l)) lengths heads ≡ []
+  unfolding kept_files
+  kept-end lengths heads = rw (said_end names l i h)
 
 -- ---- telling
 -- one list told behind another
@@ -178,7 +178,7 @@ module _ (r r' one rest all : List ℕ) (c c' : ℕ) (h : c + length one ≤ len
   pub told-length : length r' ≡ length r
   told-length = ap length er ∙ length-paste r c one (length one) h (omega arith)
 
-pub removed-few : (t : LogName) (n : ℕ) → length (removedOne t n) ≤ 1
+pub removed-few : (t : LogName) (n : ℕ) → length (removed_one t n) ≤ 1
 removed-few (Log v) n = by (ltb n 9)
   where
     by : (b : Bool) → length (if b then v ∷ [] else []) ≤ 1

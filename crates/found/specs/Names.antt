@@ -6,34 +6,34 @@ use Rattle.found.specs.declared.name.LogName.{LogName}
 use Rattle.found.specs.declared.name.LogName.TheVariants.{Log, Other}
 
 -- "log", and at least one byte behind it
-unfoldable pub beginsLog : List ℕ → Bool
-beginsLog name = ltb 3 (length name) && (eqb (get_or name 0 0) 108 && (eqb (get_or name 1 0) 111 && eqb (get_or name 2 0) 103))
+unfoldable pub begins_log : List ℕ → Bool
+begins_log name = ltb 3 (length name) && (eqb (get_or name 0 0) 108 && (eqb (get_or name 1 0) 111 && eqb (get_or name 2 0) 103))
 
 -- a decimal digit
-abbrev pub isDigit : ℕ → Bool
-isDigit b = leb 48 b && leb b 57
+abbrev pub is_digit : ℕ → Bool
+is_digit b = leb 48 b && leb b 57
 
 -- digits alone
-abbrev pub allDigits : List ℕ → Bool
-allDigits [] = true
-allDigits (b ∷ l) = isDigit b && allDigits l
+abbrev pub all_digits : List ℕ → Bool
+all_digits [] = true
+all_digits (b ∷ l) = is_digit b && all_digits l
 
 -- the decimal number that the digits make, behind those that made n
-abbrev pub valueFrom : ℕ → List ℕ → ℕ
-valueFrom n [] = n
-valueFrom n (b ∷ l) = valueFrom (10 * n + (b - 48)) l
+abbrev pub value_from : ℕ → List ℕ → ℕ
+value_from n [] = n
+value_from n (b ∷ l) = value_from (10 * n + (b - 48)) l
 
 -- "without .. leading zero ("log0" stands)"
-abbrev pub noLeadingZero : List ℕ → Bool
-noLeadingZero l = eqb (length l) 1 || not (eqb (get_or l 0 0) 48)
+abbrev pub no_leading_zero : List ℕ → Bool
+no_leading_zero l = eqb (length l) 1 || not (eqb (get_or l 0 0) 48)
 
 -- "a decimal number below 2^32": digits alone, so no sign and no blank
-unfoldable pub decimalFrom : ℕ → List ℕ → LogName
-decimalFrom n l = if allDigits l && ltb (valueFrom n l) 4294967296 then Log (valueFrom n l) else Other
+unfoldable pub decimal_from : ℕ → List ℕ → LogName
+decimal_from n l = if all_digits l && ltb (value_from n l) 4294967296 then Log (value_from n l) else Other
 
 -- what a name says: the number of a log file, or that it is none
-unfoldable pub logName : List ℕ → LogName
-logName name = if beginsLog name && noLeadingZero (drop 3 name) then decimalFrom 0 (drop 3 name) else Other
+unfoldable pub log_name : List ℕ → LogName
+log_name name = if begins_log name && no_leading_zero (drop 3 name) then decimal_from 0 (drop 3 name) else Other
 
 -- the names found: the bytes of all of them, cut by their lengths
 abbrev pub cut : List ℕ → List ℕ → List (List ℕ)
@@ -41,9 +41,9 @@ cut bytes [] = []
 cut bytes (n ∷ ns) = take n bytes ∷ cut (drop n bytes) ns
 
 -- what each of them says
-unfoldable pub saidBy : List ℕ → List ℕ → List LogName
-saidBy bytes lengths = map logName (cut bytes lengths)
+unfoldable pub said_by : List ℕ → List ℕ → List LogName
+said_by bytes lengths = map log_name (cut bytes lengths)
 
 -- a digit's value, or 10 for any other byte
-unfoldable pub digitOf : ℕ → ℕ
-digitOf b = if isDigit b then b - 48 else 10
+unfoldable pub digit_of : ℕ → ℕ
+digit_of b = if is_digit b then b - 48 else 10

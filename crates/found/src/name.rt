@@ -1,6 +1,6 @@
 // The names of log files.
 ghost use Rattle.std.specs.Prelude.{◌≡◌, ◌<◌, length, drop};
-ghost use Rattle.found.specs.Names.{beginsLog, digitOf, decimalFrom, logName};
+ghost use Rattle.found.specs.Names.{begins_log, digit_of, decimal_from, log_name};
 
 #[derive(Drop)]
 pub enum LogName {
@@ -9,7 +9,7 @@ pub enum LogName {
 }
 
 fn begins_log(name: &[u8]) -> bool
-    ensures { result ≡ beginsLog name.now }
+    ensures { result ≡ begins_log name.now }
 {
     if name.len() <= 3 {
         return false;
@@ -25,7 +25,7 @@ fn begins_log(name: &[u8]) -> bool
 
 // A digit's value, or 10 for any other byte.
 fn digit(b: u8) -> u64
-    ensures { result ≡ digitOf b }
+    ensures { result ≡ digit_of b }
 {
     if b < b'0' {
         return 10;
@@ -39,7 +39,7 @@ fn digit(b: u8) -> u64
 // The number behind "log". It only grows, so it stops where it leaves 32 bits.
 fn decimal(name: &[u8]) -> LogName
     requires { 3 < length name.now }
-    ensures { result ≡ decimalFrom 0 (drop 3 name.now) }
+    ensures { result ≡ decimal_from 0 (drop 3 name.now) }
 {
     let mut n: u64 = 0;
     let mut i: usize = 3;
@@ -59,7 +59,7 @@ fn decimal(name: &[u8]) -> LogName
 
 // The number of a log file's name.
 pub fn log_name(name: &[u8]) -> LogName
-    ensures { result ≡ logName name.now }
+    ensures { result ≡ log_name name.now }
 {
     if !begins_log(name) {
         return LogName::Other;

@@ -1,9 +1,9 @@
 // The names found: their bytes one behind the other, and the length of each.
 ghost use Rattle.std.specs.Prelude.{◌≡◌, ◌+◌, ◌≤◌, length, take, drop, eqb};
 ghost use Rattle.numbers.specs.Numbers.{has, distinct};
-ghost use Rattle.found.specs.Names.{logName, saidBy};
-ghost use Rattle.found.specs.Logs.{takenNumber, takenNumbers, total, belong};
-ghost use Rattle.found.specs.Inner.{saidAgain};
+ghost use Rattle.found.specs.Names.{log_name, said_by};
+ghost use Rattle.found.specs.Logs.{taken_number, taken_numbers, total, belong};
+ghost use Rattle.found.specs.Inner.{said_again};
 
 use super::name::{LogName, log_name};
 
@@ -48,14 +48,14 @@ pub(crate) fn belong<'a>(
 // What the name of n bytes at a place says.
 pub(crate) fn said_at(names: &[u8], at: usize, n: usize) -> LogName
     requires { at + n ≤ length names.now }
-    ensures { result ≡ logName (take n (drop at names.now)) }
+    ensures { result ≡ log_name (take n (drop at names.now)) }
 {
     let end = at + n;
     log_name(&names[at..end])
 }
 
 fn is_number(name: LogName, number: u64) -> bool
-    ensures { result ≡ has number (takenNumber name) }
+    ensures { result ≡ has number (taken_number name) }
 {
     match name {
         LogName::Log(n) => n == number,
@@ -66,7 +66,7 @@ fn is_number(name: LogName, number: u64) -> bool
 // Whether a name from the i-th on, whose bytes start at `from`, has the number.
 fn again<'a>(names: &'a [u8], name_lengths: &'a [usize], from: usize, i: usize, number: u64) -> bool
     requires { (total name_lengths.now ≡ length names.now) × (i ≤ length name_lengths.now) × (from ≡ total (take i name_lengths.now)) }
-    ensures { result ≡ has number (takenNumbers (drop i (saidBy names.now name_lengths.now))) }
+    ensures { result ≡ has number (taken_numbers (drop i (said_by names.now name_lengths.now))) }
 {
     let mut at = from;
     let mut j = i;
@@ -89,7 +89,7 @@ fn said_again<'a>(
     i: usize,
 ) -> bool
     requires { (total name_lengths.now ≡ length names.now) × (i ≤ length name_lengths.now) × (from ≡ total (take i name_lengths.now)) }
-    ensures { result ≡ saidAgain name (takenNumbers (drop i (saidBy names.now name_lengths.now))) }
+    ensures { result ≡ said_again name (taken_numbers (drop i (said_by names.now name_lengths.now))) }
 {
     match name {
         LogName::Log(n) => again(names, name_lengths, from, i, n),
@@ -100,7 +100,7 @@ fn said_again<'a>(
 // Whether no two taken names have one number.
 pub(crate) fn no_name_twice<'a>(names: &'a [u8], name_lengths: &'a [usize]) -> bool
     requires { total name_lengths.now ≡ length names.now }
-    ensures { result ≡ distinct (takenNumbers (saidBy names.now name_lengths.now)) }
+    ensures { result ≡ distinct (taken_numbers (said_by names.now name_lengths.now)) }
 {
     let mut at: usize = 0;
     let mut i: usize = 0;

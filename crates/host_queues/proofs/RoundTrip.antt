@@ -9,14 +9,14 @@ use borrow.Author.Tests.{lt-ltb, eq-eqb}
 use lib.Dec.{ltb, eqb}
 use lib.ListN.{length, take, drop, get_or, length-append}
 use lib.Seq.{take_at, get_or-drop, drop-drop}
-use Rattle.words.proofs.Choices.{if-true}
-use Rattle.numbers.specs.Numbers.{oneIf}
+use Rattle.words.proofs.Choices.{if_true}
+use Rattle.numbers.specs.Numbers.{one_if}
 use Rattle.numbers.specs.declared.queue.NumberQueue.{NumberQueue}
 use Rattle.numbers.proofs.Laws.{both}
-use Rattle.files.specs.Queues.{roomKept, queuesKept}
+use Rattle.files.specs.Queues.{room_kept, queues_kept}
 use Rattle.files.specs.declared.queues.Queues.{Queues}
-use Rattle.host_words.proofs.RoundTrip.{flag-round, flag-low, past, past-at}
-use Rattle.host_queues.specs.Queues.{queuesFormed, brokenQueues, numbersFrom, queueFrom, queuesIn, queuesFrom, queueWords, behindWords, queuesWords}
+use Rattle.host_words.proofs.RoundTrip.{flag_round, flag_low, past, past-at}
+use Rattle.host_queues.specs.Queues.{queues_formed, broken_queues, numbers_from, queue_from, queues_in, queues_from, queue_words, behind_words, queues_words}
 
 -- what the types say
 pub record Typed (q : Queues) : Type 0 where
@@ -42,43 +42,43 @@ module _ (w : List ℕ) (at : ℕ) (q : NumberQueue) (rest : List ℕ) (n : leng
   numbers-at : drop (at + 1) w ≡ q.numbers ++ rest
   numbers-at = sym (drop-drop 1 at w) ∙ ap (drop 1) e
 
-  queue-is : queueFrom w at ≡ q
-  queue-is = rw (first, ap (take 64) numbers-at ∙ take_at q.numbers rest 64 n)
+  queue_is : queue_from w at ≡ q
+  queue_is = rw (first, ap (take 64) numbers-at ∙ take_at q.numbers rest 64 n)
 
   behind : drop (at + 65) w ≡ rest
   behind = sym (drop-drop 65 at w) ∙ ap (drop 65) e ∙ past q.numbers rest 64 n 0
 
 module _ (q : Queues) (t : Typed q) where
   abbrev end : List ℕ
-  end = q.next_log_id ∷ oneIf q.dirty ∷ []
+  end = q.next_log_id ∷ one_if q.dirty ∷ []
 
   abbrev w : List ℕ
-  w = queuesWords q
+  w = queues_words q
 
   abbrev after-replay : List ℕ
   after-replay = q.replay_ids ++ end
 
   abbrev after-pool : List ℕ
-  after-pool = queueWords q.replay_queue ++ after-replay
+  after-pool = queue_words q.replay_queue ++ after-replay
 
   abbrev after-cleanup : List ℕ
-  after-cleanup = queueWords q.log_pool ++ after-pool
+  after-cleanup = queue_words q.log_pool ++ after-pool
 
   abbrev after_read : List ℕ
-  after_read = oneIf q.reading.some ∷ q.reading.id ∷ (queueWords q.cleanup_queue ++ after-cleanup)
+  after_read = one_if q.reading.some ∷ q.reading.id ∷ (queue_words q.cleanup_queue ++ after-cleanup)
 
   -- the words with each part behind the one before
-  in-turn : drop 3 w ≡ q.read_queue.count ∷ (q.read_queue.numbers ++ after_read)
-  in-turn =
+  in_turn : drop 3 w ≡ q.read_queue.count ∷ (q.read_queue.numbers ++ after_read)
+  in_turn =
       ap (λ (l : List ℕ). q.read_queue.count ∷ l)
-      (five q.read_queue.numbers (oneIf q.reading.some ∷ q.reading.id ∷ []) (behindWords q) q.replay_ids end
-      ∙ ap (λ (l : List ℕ). q.read_queue.numbers ++ (oneIf q.reading.some ∷ q.reading.id ∷ l)) (four (queueWords q.cleanup_queue) (queueWords q.log_pool) (queueWords q.replay_queue) after-replay))
+      (five q.read_queue.numbers (one_if q.reading.some ∷ q.reading.id ∷ []) (behind_words q) q.replay_ids end
+      ∙ ap (λ (l : List ℕ). q.read_queue.numbers ++ (one_if q.reading.some ∷ q.reading.id ∷ l)) (four (queue_words q.cleanup_queue) (queue_words q.log_pool) (queue_words q.replay_queue) after-replay))
 
-  at-reading : drop 68 w ≡ after_read
-  at-reading = behind w 3 q.read_queue after_read t.read in-turn
+  at_reading : drop 68 w ≡ after_read
+  at_reading = behind w 3 q.read_queue after_read t.read in_turn
 
-  at-cleanup : drop 70 w ≡ queueWords q.cleanup_queue ++ after-cleanup
-  at-cleanup = sym (drop-drop 2 68 w) ∙ ap (drop 2) at-reading
+  at-cleanup : drop 70 w ≡ queue_words q.cleanup_queue ++ after-cleanup
+  at-cleanup = sym (drop-drop 2 68 w) ∙ ap (drop 2) at_reading
 
   at-pool : drop 135 w ≡ after-cleanup
   at-pool = behind w 70 q.cleanup_queue after-cleanup t.cleanup at-cleanup
@@ -99,35 +99,35 @@ module _ (q : Queues) (t : Typed q) where
   long =
       simp length-append (omega (arith, t.read, t.cleanup, t.pool, t.replay, t.ids))
 
-  formed : queuesFormed w ≡ true
-  unfolding queuesFormed
+  formed : queues_formed w ≡ true
+  unfolding queues_formed
   formed =
       both (eq-eqb (length w) 331 long)
-      (both (flag-low q.appending.some)
-      (both (ap (λ (x : ℕ). ltb x 2) (word 68 0 after_read at-reading) ∙ flag-low q.reading.some)
+      (both (flag_low q.appending.some)
+      (both (ap (λ (x : ℕ). ltb x 2) (word 68 0 after_read at_reading) ∙ flag_low q.reading.some)
       (both (ap (λ (x : ℕ). ltb x 4294967296) (word 329 0 end at-end) ∙ lt-ltb _ _ t.next)
-      (ap (λ (x : ℕ). ltb x 2) (word 329 1 end at-end) ∙ flag-low q.dirty))))
+      (ap (λ (x : ℕ). ltb x 2) (word 329 1 end at-end) ∙ flag_low q.dirty))))
 
-  pub queues-round : queuesFrom w ≡ q
-  unfolding queuesFrom
-  queues-round =
-      if-true _ _ _ formed
+  pub queues_round : queues_from w ≡ q
+  unfolding queues_from
+  queues_round =
+      if_true _ _ _ formed
       ∙ rw (
-        queue-is w 3 q.read_queue after_read t.read in-turn,
-        queue-is w 70 q.cleanup_queue after-cleanup t.cleanup at-cleanup,
-        queue-is w 135 q.log_pool after-pool t.pool at-pool,
-        queue-is w 200 q.replay_queue after-replay t.replay at-replay,
+        queue_is w 3 q.read_queue after_read t.read in_turn,
+        queue_is w 70 q.cleanup_queue after-cleanup t.cleanup at-cleanup,
+        queue_is w 135 q.log_pool after-pool t.pool at-pool,
+        queue_is w 200 q.replay_queue after-replay t.replay at-replay,
         ap (take 64) at-ids ∙ take_at q.replay_ids end 64 t.ids,
-        word 68 0 after_read at-reading,
-        word 68 1 after_read at-reading,
+        word 68 0 after_read at_reading,
+        word 68 1 after_read at_reading,
         word 329 0 end at-end,
         word 329 1 end at-end,
-        flag-round q.appending.some,
-        flag-round q.reading.some,
-        flag-round q.dirty,
+        flag_round q.appending.some,
+        flag_round q.reading.some,
+        flag_round q.dirty,
       )
 
 -- words that are no queues load as queues that break a rule: every call that is handed them answers 13
-pub broken-queues : queuesKept brokenQueues ≡ false
-unfolding queuesKept roomKept
-broken-queues = refl
+pub broken_queues_lem : queues_kept broken_queues ≡ false
+unfolding queues_kept room_kept
+broken_queues_lem = refl

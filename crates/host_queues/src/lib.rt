@@ -2,14 +2,14 @@
 ghost use Rattle.std.specs.Prelude.{◌≡◌, true, ◌+◌, ◌≤◌, length};
 ghost use Rattle.output.specs.Put.{Wrote};
 ghost use Rattle.host_words.specs.Head.{HeadLeft};
-ghost use Rattle.host_queues.specs.Queues.{queuesSize, queuesFormed, queueFrom, brokenQueues, queuesIn, queuesFrom, queueWords, frontWords, behindWords, queuesWords};
+ghost use Rattle.host_queues.specs.Queues.{queues_size, queues_formed, queue_from, broken_queues, queues_in, queues_from, queue_words, front_words, behind_words, queues_words};
 
 use answer::Answer;
 use files::{Appending, NumberQueue, Queues, Reading};
 use host_words::{flag, number, put_word, put_words, stored};
 
 fn formed(words: &[u64]) -> bool
-    ensures { result ≡ queuesFormed words.now }
+    ensures { result ≡ queues_formed words.now }
 {
     if words.len() != 331 {
         return false;
@@ -28,7 +28,7 @@ fn formed(words: &[u64]) -> bool
 
 fn queue_at(words: &[u64], at: usize) -> NumberQueue
     requires { at + 65 ≤ length words.now }
-    ensures { result ≡ queueFrom words.now at }
+    ensures { result ≡ queue_from words.now at }
 {
     let mut numbers = [0u64; 64];
     numbers::copy(&mut numbers, 0, words, at + 1, 64);
@@ -39,8 +39,8 @@ fn queue_at(words: &[u64], at: usize) -> NumberQueue
 }
 
 fn loaded(words: &[u64]) -> Queues
-    requires { queuesFormed words.now ≡ true }
-    ensures { result ≡ queuesIn words.now }
+    requires { queues_formed words.now ≡ true }
+    ensures { result ≡ queues_in words.now }
 {
     let mut ids = [0u64; 64];
     numbers::copy(&mut ids, 0, words, 265, 64);
@@ -65,7 +65,7 @@ fn loaded(words: &[u64]) -> Queues
 }
 
 fn broken() -> Queues
-    ensures { result ≡ brokenQueues }
+    ensures { result ≡ broken_queues }
 {
     let mut read = NumberQueue::new();
     read.count = 65;
@@ -75,7 +75,7 @@ fn broken() -> Queues
 }
 
 pub fn queues_of(words: &[u64]) -> Queues
-    ensures { result ≡ queuesFrom words.now }
+    ensures { result ≡ queues_from words.now }
 {
     if formed(words) {
         return loaded(words);
@@ -85,7 +85,7 @@ pub fn queues_of(words: &[u64]) -> Queues
 
 fn put_queue(words: &mut [u64], at: usize, q: NumberQueue) -> usize
     requires { at + 65 ≤ length words.old }
-    ensures { (Wrote words.old at (queueWords q) words.new result) × (result ≡ at + 65) }
+    ensures { (Wrote words.old at (queue_words q) words.new result) × (result ≡ at + 65) }
 {
     let numbers = q.numbers;
     let a = put_word(words, at, q.count as u64);
@@ -95,7 +95,7 @@ fn put_queue(words: &mut [u64], at: usize, q: NumberQueue) -> usize
 // The appending file, the read queue and the file being read.
 fn put_front(words: &mut [u64], q: Queues) -> usize
     requires { 70 ≤ length words.old }
-    ensures { (Wrote words.old 0 (frontWords q) words.new result) × (result ≡ 70) }
+    ensures { (Wrote words.old 0 (front_words q) words.new result) × (result ≡ 70) }
 {
     let a = put_word(words, 0, flag(q.appending.some));
     let b = put_word(words, a, q.appending.id);
@@ -108,7 +108,7 @@ fn put_front(words: &mut [u64], q: Queues) -> usize
 // Cleanup, pool and replay queue.
 fn put_behind(words: &mut [u64], at: usize, q: Queues) -> usize
     requires { at + 195 ≤ length words.old }
-    ensures { (Wrote words.old at (behindWords q) words.new result) × (result ≡ at + 195) }
+    ensures { (Wrote words.old at (behind_words q) words.new result) × (result ≡ at + 195) }
 {
     let a = put_queue(words, at, q.cleanup_queue);
     let b = put_queue(words, a, q.log_pool);
@@ -116,8 +116,8 @@ fn put_behind(words: &mut [u64], at: usize, q: Queues) -> usize
 }
 
 fn store(words: &mut [u64], q: Queues)
-    requires { length words.old ≡ queuesSize }
-    ensures { words.new ≡ queuesWords q }
+    requires { length words.old ≡ queues_size }
+    ensures { words.new ≡ queues_words q }
 {
     let ids = q.replay_ids;
     let a = put_front(words, q);
@@ -129,7 +129,7 @@ fn store(words: &mut [u64], q: Queues)
 
 // What a call answered, as a number; the words are then the queues that it left, where it answered 0 or 1.
 pub fn keep_queues(words: &mut [u64], answer: Answer, q: Queues) -> u64
-    ensures { HeadLeft queuesSize answer (queuesWords q) words.old result words.new }
+    ensures { HeadLeft queues_size answer (queues_words q) words.old result words.new }
 {
     let n = number(answer);
     if stored(331, n, words) {

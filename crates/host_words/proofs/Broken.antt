@@ -4,35 +4,35 @@ use mathlib.Core.Path.{◌≡◌, refl}
 use mathlib.Core.Bool.{false}
 use mathlib.Core.List.{List}
 use Prim.Native.Nat.{ℕ}
-use Rattle.directory.specs.Directory.{directoryKept}
+use Rattle.directory.specs.Directory.{directory_kept}
 use Rattle.directory.specs.declared.table.TableKind.{TableKind}
 use Rattle.directory.specs.declared.table.TableKind.TheVariants.{Index, Value, RefCount}
-use Rattle.overlay.specs.Rules.{keysRuled, overlayKept}
-use Rattle.memory.specs.Parts.{part_of, parts_of, partsKept}
+use Rattle.overlay.specs.Rules.{keys_ruled, overlay_kept}
+use Rattle.memory.specs.Parts.{part_of, parts_of, parts_kept}
 use Rattle.memory.specs.declared.span.Holder.TheVariants as holder
-use Rattle.change.specs.Change.{changeOf, changeRuled}
-use Rattle.host_words.specs.Tables.{brokenDirectory}
-use Rattle.host_words.specs.Change.{brokenList}
-use Rattle.host_words.specs.Overlays.{brokenOverlays}
-use Rattle.host_words.proofs.Laws.{and-false}
+use Rattle.change.specs.Change.{change_of, change_ruled}
+use Rattle.host_words.specs.Tables.{broken_directory}
+use Rattle.host_words.specs.Change.{broken_list}
+use Rattle.host_words.specs.Overlays.{broken_overlays}
+use Rattle.host_words.proofs.Laws.{and_false}
 
-pub broken-directory : directoryKept brokenDirectory ≡ false
-unfolding directoryKept
-broken-directory = refl
+pub broken_directory_lem : directory_kept broken_directory ≡ false
+unfolding directory_kept
+broken_directory_lem = refl
 
 module _ (words bytes : List ℕ) where
-  pub broken-list : changeRuled (changeOf brokenList words bytes) ≡ false
-  unfolding changeRuled
-  broken-list = and-false (partsKept holder.List (changeOf brokenList words bytes).parts)
+  pub broken_list_lem : change_ruled (change_of broken_list words bytes) ≡ false
+  unfolding change_ruled
+  broken_list_lem = and_false (parts_kept holder.List (change_of broken_list words bytes).parts)
 
-  pub broken-kind : (kind : TableKind) → overlayKept kind 256 (part_of holder.Shared kind brokenOverlays.counts words bytes) ≡ false
-  unfolding overlayKept keysRuled
-  broken-kind Index = simp and-false
-  broken-kind Value = simp and-false
-  broken-kind RefCount = simp and-false
+  pub broken_kind : (kind : TableKind) → overlay_kept kind 256 (part_of holder.Shared kind broken_overlays.counts words bytes) ≡ false
+  unfolding overlay_kept keys_ruled
+  broken_kind Index = simp and_false
+  broken_kind Value = simp and_false
+  broken_kind RefCount = simp and_false
 
-  pub broken-overlays : partsKept holder.Shared (parts_of holder.Shared brokenOverlays.counts words bytes) ≡ false
-  unfolding partsKept
-  broken-overlays =
-      let e = broken-kind Index in
-      rw (e, and-false, and-false)
+  pub broken_overlays_lem : parts_kept holder.Shared (parts_of holder.Shared broken_overlays.counts words bytes) ≡ false
+  unfolding parts_kept
+  broken_overlays_lem =
+      let e = broken_kind Index in
+      rw (e, and_false, and_false)

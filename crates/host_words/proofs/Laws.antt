@@ -11,16 +11,16 @@ use lib.Dec.{eqb, ltb}
 use lib.ListN.{length, take, drop, get_or, set, length-take, length-drop, drop_of_length-le}
 use lib.Seq.{paste, take_all, take-suc, take-suc-set, get_or-drop, get_or-take, drop-cons}
 use Rattle.words.specs.Choice.{if◌then◌else◌}
-use Rattle.words.proofs.Choices.{if-true, if-false}
+use Rattle.words.proofs.Choices.{if_true, if_false}
 use Rattle.numbers.specs.Numbers.{all_below}
 use Rattle.numbers.proofs.Laws.{left-of, right_of}
 use Rattle.output.specs.Put.{put, Wrote}
 use Rattle.output.proofs.Laws.{rest, stored}
-use Rattle.host_words.specs.Head.{headStored, headAfter}
+use Rattle.host_words.specs.Head.{head_stored, head_after}
 
-pub and-false : (b : Bool) → (b && false) ≡ false
-and-false true = refl
-and-false false = refl
+pub and_false : (b : Bool) → (b && false) ≡ false
+and_false true = refl
+and_false false = refl
 
 -- an array pasted over whole
 pub paste_all : (d s : List ℕ) (n : ℕ) → length d ≡ n → paste d 0 s n ≡ take n s
@@ -42,13 +42,13 @@ wrote-whole {o} {bs} {n} {r} w h =
     w.bytes ∙ ap (λ (x : List ℕ). bs ++ x) g ∙ append-nil bs
 
 -- one word more
-pub write-turn : (l s : List ℕ) (at i x : ℕ) (f : List ℕ) (z : ℕ) → i < length s → at + i < length l → x ≡ get_or s i 0 → Wrote l (at + i) (drop i s) f z → Wrote (set l (at + i) x) (at + (i + 1)) (drop (i + 1) s) f z
-write-turn l s at i x f z h k e w =
+pub write_turn : (l s : List ℕ) (at i x : ℕ) (f : List ℕ) (z : ℕ) → i < length s → at + i < length l → x ≡ get_or s i 0 → Wrote l (at + i) (drop i s) f z → Wrote (set l (at + i) x) (at + (i + 1)) (drop (i + 1) s) f z
+write_turn l s at i x f z h k e w =
     rw (e, ← add_assoc, add-one i) (rest (rw (drop-cons s i 0) at w) (stored l (at + i) (get_or s i 0) k))
 
 -- one more of an array that is filled from words
-pub fill-turn : (l w : List ℕ) (from i : ℕ) → i < length l → from + i < length w → take i l ≡ take i (drop from w) → take (i + 1) (set l i (get_or w (from + i) 0)) ≡ take (i + 1) (drop from w)
-fill-turn l w from i h k e =
+pub fill_turn : (l w : List ℕ) (from i : ℕ) → i < length l → from + i < length w → take i l ≡ take i (drop from w) → take (i + 1) (set l i (get_or w (from + i) 0)) ≡ take (i + 1) (drop from w)
+fill_turn l w from i h k e =
     let q : i < length (drop from w) = rw length-drop (omega arith) in
     rw (add-one i, take-suc-set l i _ h, e, take-suc (drop from w) i 0 q, get_or-drop from w i 0)
 
@@ -65,13 +65,13 @@ below_in m n from w i e h k =
     rw (get_or-take n (drop from w) i 0 h, get_or-drop from w i 0) at t
 
 -- a head that is stored, and one that is left
-module _ (n m k : ℕ) (w new : List ℕ) {s : Bool} (e : m ≡ k) (h : s ≡ headStored n m w) where
-  pub head-new : {z : List ℕ} → s ≡ true → z ≡ new → z ≡ headAfter n k w new
-  head-new t q = q ∙ sym (if-true _ _ _ (ap (λ (x : ℕ). headStored n x w) (sym e) ∙ sym h ∙ t))
+module _ (n m k : ℕ) (w new : List ℕ) {s : Bool} (e : m ≡ k) (h : s ≡ head_stored n m w) where
+  pub head-new : {z : List ℕ} → s ≡ true → z ≡ new → z ≡ head_after n k w new
+  head-new t q = q ∙ sym (if_true _ _ _ (ap (λ (x : ℕ). head_stored n x w) (sym e) ∙ sym h ∙ t))
 
-  pub head-old : s ≡ false → w ≡ headAfter n k w new
-  head-old t = sym (if-false _ _ _ (ap (λ (x : ℕ). headStored n x w) (sym e) ∙ sym h ∙ t))
+  pub head-old : s ≡ false → w ≡ head_after n k w new
+  head-old t = sym (if_false _ _ _ (ap (λ (x : ℕ). head_stored n x w) (sym e) ∙ sym h ∙ t))
 
-pub head-length : (n m : ℕ) (w : List ℕ) {s : Bool} → s ≡ headStored n m w → s ≡ true → length w ≡ n
-unfolding headStored
+pub head-length : (n m : ℕ) (w : List ℕ) {s : Bool} → s ≡ head_stored n m w → s ≡ true → length w ≡ n
+unfolding head_stored
 head-length n m w h t = eqb-true _ _ (left-of (eqb (length w) n) (ltb m 2) (sym h ∙ t))

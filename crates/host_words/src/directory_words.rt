@@ -1,12 +1,12 @@
 // A directory from words, six a table.
 ghost use Rattle.std.specs.Prelude.{◌≡◌, true, ◌+◌, ◌≤◌, length};
-ghost use Rattle.host_words.specs.Tables.{kindFrom, rowFormed, rowFrom, brokenDirectory, with_row, directoryFrom};
+ghost use Rattle.host_words.specs.Tables.{kind_from, row_formed, row_from, broken_directory, with_row, directory_from};
 
 use directory::{Directory, TableDescription, TableKind};
 
 // The kind that a number is: 0 index, 1 value, any other reference count.
 pub fn kind_of(k: u64) -> TableKind
-    ensures { result ≡ kindFrom k }
+    ensures { result ≡ kind_from k }
 {
     if k == 0 {
         return TableKind::Index;
@@ -19,7 +19,7 @@ pub fn kind_of(k: u64) -> TableKind
 
 fn row_formed(w: &[u64], at: usize) -> bool
     requires { at + 6 ≤ length w.now }
-    ensures { result ≡ rowFormed w.now at }
+    ensures { result ≡ row_formed w.now at }
 {
     if 3 <= w[at] {
         return false;
@@ -40,8 +40,8 @@ fn row_formed(w: &[u64], at: usize) -> bool
 }
 
 fn row_of(w: &[u64], at: usize) -> TableDescription
-    requires { (at + 6 ≤ length w.now) × (rowFormed w.now at ≡ true) }
-    ensures { result ≡ rowFrom w.now at }
+    requires { (at + 6 ≤ length w.now) × (row_formed w.now at ≡ true) }
+    ensures { result ≡ row_from w.now at }
 {
     let kind = kind_of(w[at]);
     TableDescription::new(
@@ -54,7 +54,7 @@ fn row_of(w: &[u64], at: usize) -> TableDescription
 }
 
 fn broken() -> Directory
-    ensures { result ≡ brokenDirectory }
+    ensures { result ≡ broken_directory }
 {
     let mut d = Directory::new();
     d.count = 17;
@@ -79,7 +79,7 @@ fn with_row(d: Directory, w: &[u64], at: usize) -> Directory
 }
 
 pub fn directory_of(w: &[u64]) -> Directory
-    ensures { result ≡ directoryFrom w.now }
+    ensures { result ≡ directory_from w.now }
 {
     if w.len() % 6 != 0 {
         return broken();

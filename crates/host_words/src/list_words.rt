@@ -3,7 +3,7 @@ ghost use Rattle.std.specs.Prelude.{◌≡◌, true, ◌+◌, ◌≤◌, length}
 ghost use Rattle.numbers.specs.Numbers.{all_below};
 ghost use Rattle.output.specs.Put.{Wrote};
 ghost use Rattle.host_words.specs.Head.{HeadLeft};
-ghost use Rattle.host_words.specs.Change.{listSize, tablesFrom, dropsFrom, countsFrom, listFormed, brokenList, listIn, list_from, countsWords, dropsWords, listWords};
+ghost use Rattle.host_words.specs.Change.{list_size, tables_from, drops_from, counts_from, list_formed, broken_list, list_in, list_from, counts_words, drops_words, list_words_of};
 
 use super::writing::{number, put_word, stored};
 use answer::Answer;
@@ -11,7 +11,7 @@ use change::{Drops, LogChange};
 use memory::Counts;
 
 fn formed(words: &[u64]) -> bool
-    ensures { result ≡ listFormed words.now }
+    ensures { result ≡ list_formed words.now }
 {
     if words.len() != 38 {
         return false;
@@ -24,7 +24,7 @@ fn formed(words: &[u64]) -> bool
 
 pub(crate) fn counts_at(words: &[u64], at: usize) -> Counts
     requires { at + 3 ≤ length words.now }
-    ensures { result ≡ countsFrom words.now at }
+    ensures { result ≡ counts_from words.now at }
 {
     Counts {
         index: words[at] as usize,
@@ -34,8 +34,8 @@ pub(crate) fn counts_at(words: &[u64], at: usize) -> Counts
 }
 
 fn drops_at(words: &[u64], at: usize) -> Drops
-    requires { (at + 17 ≤ length words.now) × (all_below 65536 (tablesFrom words.now (at + 1)) ≡ true) }
-    ensures { result ≡ dropsFrom words.now at }
+    requires { (at + 17 ≤ length words.now) × (all_below 65536 (tables_from words.now (at + 1)) ≡ true) }
+    ensures { result ≡ drops_from words.now at }
 {
     let mut tables = [0u16; 16];
     let mut i: usize = 0;
@@ -50,8 +50,8 @@ fn drops_at(words: &[u64], at: usize) -> Drops
 }
 
 fn loaded(words: &[u64]) -> LogChange
-    requires { listFormed words.now ≡ true }
-    ensures { result ≡ listIn words.now }
+    requires { list_formed words.now ≡ true }
+    ensures { result ≡ list_in words.now }
 {
     LogChange {
         record_id: words[0],
@@ -62,7 +62,7 @@ fn loaded(words: &[u64]) -> LogChange
 }
 
 fn broken() -> LogChange
-    ensures { result ≡ brokenList }
+    ensures { result ≡ broken_list }
 {
     let mut drops = Drops::new();
     drops.count = 17;
@@ -82,7 +82,7 @@ pub fn list_of(words: &[u64]) -> LogChange
 
 pub(crate) fn put_counts(words: &mut [u64], at: usize, c: Counts) -> usize
     requires { at + 3 ≤ length words.old }
-    ensures { Wrote words.old at (countsWords c) words.new result }
+    ensures { Wrote words.old at (counts_words c) words.new result }
 {
     let a = put_word(words, at, c.index as u64);
     let b = put_word(words, a, c.value as u64);
@@ -109,7 +109,7 @@ fn put_tables(words: &mut [u64], at: usize, tables: &[u16]) -> usize
 
 fn put_drops(words: &mut [u64], at: usize, s: Drops) -> usize
     requires { at + 17 ≤ length words.old }
-    ensures { (Wrote words.old at (dropsWords s) words.new result) × (result ≡ at + 17) }
+    ensures { (Wrote words.old at (drops_words s) words.new result) × (result ≡ at + 17) }
 {
     let tables = s.tables;
     let a = put_word(words, at, s.count as u64);
@@ -117,8 +117,8 @@ fn put_drops(words: &mut [u64], at: usize, s: Drops) -> usize
 }
 
 fn store(words: &mut [u64], l: LogChange)
-    requires { length words.old ≡ listSize }
-    ensures { words.new ≡ listWords l }
+    requires { length words.old ≡ list_size }
+    ensures { words.new ≡ list_words_of l }
 {
     let a = put_word(words, 0, l.record_id);
     let b = put_counts(words, a, l.counts);
@@ -128,7 +128,7 @@ fn store(words: &mut [u64], l: LogChange)
 
 // What a call answered, as a number; the words are then the list that it left, where it answered 0 or 1.
 pub fn keep_list(words: &mut [u64], answer: Answer, l: LogChange) -> u64
-    ensures { HeadLeft listSize answer (listWords l) words.old result words.new }
+    ensures { HeadLeft list_size answer (list_words_of l) words.old result words.new }
 {
     let n = number(answer);
     if stored(38, n, words) {

@@ -1,7 +1,7 @@
 // The overlays' head from words and back.
 ghost use Rattle.std.specs.Prelude.{◌≡◌, length};
 ghost use Rattle.host_words.specs.Head.{HeadLeft};
-ghost use Rattle.host_words.specs.Overlays.{overlaysSize, brokenOverlays, overlaysFrom, overlaysWords};
+ghost use Rattle.host_words.specs.Overlays.{overlays_size, broken_overlays, overlays_from, overlays_words};
 
 use super::list_words::{counts_at, put_counts};
 use super::writing::{number, put_words, stored};
@@ -9,7 +9,7 @@ use answer::Answer;
 use memory::{Counts, LogOverlays};
 
 fn broken() -> LogOverlays
-    ensures { result ≡ brokenOverlays }
+    ensures { result ≡ broken_overlays }
 {
     LogOverlays {
         counts: Counts {
@@ -22,7 +22,7 @@ fn broken() -> LogOverlays
 }
 
 pub fn overlays_of(words: &[u64]) -> LogOverlays
-    ensures { result ≡ overlaysFrom words.now }
+    ensures { result ≡ overlays_from words.now }
 {
     if words.len() != 11 {
         return broken();
@@ -36,8 +36,8 @@ pub fn overlays_of(words: &[u64]) -> LogOverlays
 }
 
 fn store(words: &mut [u64], o: LogOverlays)
-    requires { length words.old ≡ overlaysSize }
-    ensures { words.new ≡ overlaysWords o }
+    requires { length words.old ≡ overlays_size }
+    ensures { words.new ≡ overlays_words o }
 {
     let ids = o.last_record_ids;
     let a = put_counts(words, 0, o.counts);
@@ -46,7 +46,7 @@ fn store(words: &mut [u64], o: LogOverlays)
 
 // What a call answered, as a number; the words are then the overlays' head that it left, where it answered 0 or 1.
 pub fn keep_overlays(words: &mut [u64], answer: Answer, o: LogOverlays) -> u64
-    ensures { HeadLeft overlaysSize answer (overlaysWords o) words.old result words.new }
+    ensures { HeadLeft overlays_size answer (overlays_words o) words.old result words.new }
 {
     let n = number(answer);
     if stored(11, n, words) {

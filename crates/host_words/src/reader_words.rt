@@ -1,14 +1,14 @@
 // A reader from words and back.
 ghost use Rattle.std.specs.Prelude.{◌≡◌, true, length};
 ghost use Rattle.host_words.specs.Head.{HeadLeft};
-ghost use Rattle.host_words.specs.Reader.{readerSize, readerFormed, readerFrom, readerWords};
+ghost use Rattle.host_words.specs.Reader.{reader_size, reader_formed, reader_from, reader_words};
 
 use super::writing::{flag, number, put_word, stored};
 use answer::Answer;
 use record::LogReader;
 
 pub fn reader_formed(words: &[u64]) -> bool
-    ensures { result ≡ readerFormed words.now }
+    ensures { result ≡ reader_formed words.now }
 {
     if words.len() != 5 {
         return false;
@@ -23,8 +23,8 @@ pub fn reader_formed(words: &[u64]) -> bool
 }
 
 pub fn reader_of(words: &[u64]) -> LogReader
-    requires { readerFormed words.now ≡ true }
-    ensures { result ≡ readerFrom words.now }
+    requires { reader_formed words.now ≡ true }
+    ensures { result ≡ reader_from words.now }
 {
     LogReader {
         position: words[0] as usize,
@@ -36,8 +36,8 @@ pub fn reader_of(words: &[u64]) -> LogReader
 }
 
 fn store(words: &mut [u64], reader: LogReader)
-    requires { length words.old ≡ readerSize }
-    ensures { words.new ≡ readerWords reader }
+    requires { length words.old ≡ reader_size }
+    ensures { words.new ≡ reader_words reader }
 {
     let a = put_word(words, 0, reader.position as u64);
     let b = put_word(words, a, reader.record_id);
@@ -48,7 +48,7 @@ fn store(words: &mut [u64], reader: LogReader)
 
 // What a call answered, as a number; the words are then the reader that it left, where it answered 0 or 1.
 pub fn keep_reader(words: &mut [u64], answer: Answer, reader: LogReader) -> u64
-    ensures { HeadLeft readerSize answer (readerWords reader) words.old result words.new }
+    ensures { HeadLeft reader_size answer (reader_words reader) words.old result words.new }
 {
     let n = number(answer);
     if stored(5, n, words) {

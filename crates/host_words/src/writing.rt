@@ -1,9 +1,9 @@
 // Words written into a lent slice, one after the other: each call gives the place behind what it wrote.
 ghost use Rattle.std.specs.Prelude.{◌≡◌, [], ◌∷◌, ◌+◌, ◌≤◌, length};
 ghost use Rattle.answer.specs.Answer.{number_of};
-ghost use Rattle.numbers.specs.Numbers.{oneIf};
+ghost use Rattle.numbers.specs.Numbers.{one_if};
 ghost use Rattle.output.specs.Put.{Wrote};
-ghost use Rattle.host_words.specs.Head.{headRoom, headStored};
+ghost use Rattle.host_words.specs.Head.{head_room, head_stored};
 
 use answer::Answer;
 
@@ -15,7 +15,7 @@ pub fn number(answer: Answer) -> u64
 }
 
 pub fn flag(b: bool) -> u64
-    ensures { result ≡ oneIf b }
+    ensures { result ≡ one_if b }
 {
     numbers::count(b) as u64
 }
@@ -39,7 +39,7 @@ pub fn put_words(words: &mut [u64], at: usize, src: &[u64]) -> usize
 
 // Whether a head of n words is stored after a call that answered a number.
 pub fn stored(n: usize, answered: u64, words: &[u64]) -> bool
-    ensures { result ≡ headStored n answered words.now }
+    ensures { result ≡ head_stored n answered words.now }
 {
     if words.len() != n {
         return false;
@@ -49,7 +49,7 @@ pub fn stored(n: usize, answered: u64, words: &[u64]) -> bool
 
 // Whether words are as long as a head that is to be made there.
 pub fn head_room(words: &[u64], n: usize) -> Answer
-    ensures { result ≡ headRoom n words.now }
+    ensures { result ≡ head_room n words.now }
 {
     if words.len() == n {
         return Answer::Done;

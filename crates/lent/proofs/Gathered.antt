@@ -10,12 +10,12 @@ use lib.ListN.{length, take, drop, get_or, length-append, take-append-drop}
 use lib.Seq.{length-take-le, take_all, take-suc, take-append_seam, take-length}
 use borrow.Author.Tests.{ltb-true, ltb-false, le-ltb, le-leb, lt-leb}
 use Rattle.words.specs.Choice.{if◌then◌else◌}
-use Rattle.directory.specs.Directory.{noTables, tables_of, findFrom, findTable, eachKept, apart, directoryKept, sizesOf, start_of, imageLength}
+use Rattle.directory.specs.Directory.{no_tables, tables_of, find_from, find_table, each_kept, apart, directory_kept, sizes_of, start_of, image_length}
 use Rattle.directory.specs.declared.table.TableKind.{TableKind}
 use Rattle.directory.specs.declared.table.TableDescription.{TableDescription}
 use Rattle.directory.specs.declared.directory.Directory.{Directory}
 use Rattle.lent.specs.Lent.{gathered}
-use Rattle.lent.specs.Inner.{withOneMore}
+use Rattle.lent.specs.Inner.{with_one_more}
 use Rattle.lent.proofs.More.{one_more, no_more}
 
 module _ (ts : List TableDescription) where
@@ -30,29 +30,29 @@ module _ (ts : List TableDescription) where
     gathered-tables = rw (le-leb (length ts) 16 few, take_all 16 ts few, take-append_seam)
 
     -- so what is said of a directory's tables is said of these
-    pub gathered-kept : directoryKept (gathered ts) ≡ eachKept ts && apart ts
-    unfolding directoryKept
+    pub gathered-kept : directory_kept (gathered ts) ≡ each_kept ts && apart ts
+    unfolding directory_kept
     gathered-kept = rw (gathered-tables, gathered-count, le-leb (length ts) 16 few)
 
-    pub gathered-find : (kind : TableKind) (number : ℕ) → findTable (gathered ts) kind number ≡ findFrom 0 ts kind number
-    unfolding findTable
-    gathered-find kind number = rw gathered-tables
+    pub gathered_find : (kind : TableKind) (number : ℕ) → find_table (gathered ts) kind number ≡ find_from 0 ts kind number
+    unfolding find_table
+    gathered_find kind number = rw gathered-tables
 
-    pub gathered-start : (row : ℕ) → start_of (gathered ts) row ≡ sizesOf (take row ts)
+    pub gathered-start : (row : ℕ) → start_of (gathered ts) row ≡ sizes_of (take row ts)
     unfolding start_of
     gathered-start row = rw gathered-tables
 
-    pub gathered-image : imageLength (gathered ts) ≡ sizesOf ts
-    unfolding imageLength
+    pub gathered-image : image_length (gathered ts) ≡ sizes_of ts
+    unfolding image_length
     gathered-image = rw gathered-tables
 
   -- more: the directory keeps no rule
-  pub gathered-many : 16 < length ts → directoryKept (gathered ts) ≡ false
-  unfolding gathered directoryKept
+  pub gathered-many : 16 < length ts → directory_kept (gathered ts) ≡ false
+  unfolding gathered directory_kept
   gathered-many h = rw (lt-leb (length ts) 16 h)
 
 -- a directory by value whose rows behind the count are those of no table is what its tables are gathered into: every call answers alike
-pub gathered-again : (d : Directory) → length d.tables ≡ 16 → d.count ≤ 16 → drop d.count d.tables ≡ drop d.count noTables.tables
+pub gathered-again : (d : Directory) → length d.tables ≡ 16 → d.count ≤ 16 → drop d.count d.tables ≡ drop d.count no_tables.tables
     → gathered (tables_of d) ≡ d
 unfolding gathered
 gathered-again d rows few behind =
@@ -69,29 +69,29 @@ full n h = go (leb n 16) refl
     go false e = rw e
 
 -- one more behind them
-pub gathered-more : (ts : List TableDescription) (t : TableDescription) → withOneMore (gathered ts) t ≡ gathered (ts ++ t ∷ [])
-unfolding gathered withOneMore
+pub gathered-more : (ts : List TableDescription) (t : TableDescription) → with_one_more (gathered ts) t ≡ gathered (ts ++ t ∷ [])
+unfolding gathered with_one_more
 gathered-more ts t = go (ltb (length ts) 16) refl
   where
     grown : length (ts ++ t ∷ []) ≡ length ts + 1
     grown = length-append ts (t ∷ [])
 
-    go : (b : Bool) → ltb (length ts) 16 ≡ b → withOneMore (gathered ts) t ≡ gathered (ts ++ t ∷ [])
+    go : (b : Bool) → ltb (length ts) 16 ≡ b → with_one_more (gathered ts) t ≡ gathered (ts ++ t ∷ [])
     go true e =
         let h : length ts < 16 = ltb-true _ _ e in
         let k : length (ts ++ t ∷ []) ≤ 16 = omega (arith, grown) in
-        rw (le-leb (length ts) 16 (omega arith), e, one_more 16 noTables.tables refl ts t h, le-leb (length (ts ++ t ∷ [])) 16 k, grown)
+        rw (le-leb (length ts) 16 (omega arith), e, one_more 16 no_tables.tables refl ts t h, le-leb (length (ts ++ t ∷ [])) 16 k, grown)
     go false e =
         let h : 16 ≤ length ts = ltb-false _ _ e in
         let k : 16 < length (ts ++ t ∷ []) = omega (arith, grown) in
-        rw (full (length ts) h, no_more 16 noTables.tables refl ts t h, lt-leb (length (ts ++ t ∷ [])) 16 k)
+        rw (full (length ts) h, no_more 16 no_tables.tables refl ts t h, lt-leb (length (ts ++ t ∷ [])) 16 k)
 
 -- a slice's descriptions one after the other: none, the next, all
-pub gathered_none : noTables ≡ gathered []
+pub gathered_none : no_tables ≡ gathered []
 unfolding gathered
 gathered_none = refl
 
-pub gathered_next : (ts : List TableDescription) (i : ℕ) (z : TableDescription) → i < length ts → withOneMore (gathered (take i ts)) (get_or ts i z) ≡ gathered (take (i + 1) ts)
+pub gathered_next : (ts : List TableDescription) (i : ℕ) (z : TableDescription) → i < length ts → with_one_more (gathered (take i ts)) (get_or ts i z) ≡ gathered (take (i + 1) ts)
 gathered_next ts i z h = gathered-more (take i ts) (get_or ts i z) ∙ ap gathered (sym (ap (λ (k : ℕ). take k ts) (add-one i) ∙ take-suc ts i z h))
 
 pub gathered-all : (ts : List TableDescription) → gathered (take (length ts) ts) ≡ gathered ts

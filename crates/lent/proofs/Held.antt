@@ -31,8 +31,8 @@ pub record Held : Type 2 where
   pub makes : {M : Type 1} {𝓤 : Ura M} (𝓛 : Logic 𝓤) → Makes 𝓛 row (Is row)
   pub lawful : {M : Type 1} {𝓤 : Ura M} (𝓛 : Logic 𝓤) → Lawful 𝓛 row
 
-abbrev pub heldNumber : Width → Held
-heldNumber w = record {
+abbrev pub held_number : Width → Held
+held_number w = record {
   row = UInt w;
   val = vint w;
   tells = uint_Tells w;
@@ -40,8 +40,8 @@ heldNumber w = record {
   lawful = λ 𝓛. uint_Lawful 𝓛 w;
 }
 
-abbrev pub heldBool : Held
-heldBool = record {
+abbrev pub held_bool : Held
+held_bool = record {
   row = Boolean;
   val = vbool;
   tells = bool_Tells;
@@ -49,8 +49,8 @@ heldBool = record {
   lawful = λ 𝓛. bool_Lawful 𝓛;
 }
 
-abbrev pub heldStruct : (T : S.Declared) → SL.Laws T → Plains (S.fields T) → Held
-heldStruct T L pl = record {
+abbrev pub held_struct : (T : S.Declared) → SL.Laws T → Plains (S.fields T) → Held
+held_struct T L pl = record {
   row = S.row T;
   val = SL.val T L;
   tells = SL.tells T L;
@@ -58,8 +58,8 @@ heldStruct T L pl = record {
   lawful = λ 𝓛. SL.lawful T L 𝓛;
 }
 
-abbrev pub heldEnum : (T : E.Declared) → EL.Laws T → Plainss (E.variants T) → Few (E.shape T) → Held
-heldEnum T L pl few = record {
+abbrev pub held_enum : (T : E.Declared) → EL.Laws T → Plainss (E.variants T) → Few (E.shape T) → Held
+held_enum T L pl few = record {
   row = E.row T;
   val = EL.val T L;
   tells = EL.tells T L;
@@ -67,8 +67,8 @@ heldEnum T L pl few = record {
   lawful = λ 𝓛. EL.lawful T L 𝓛 few;
 }
 
-abbrev pub heldArray : Held → ℕ → Held
-heldArray h n = record {
+abbrev pub held_array : Held → ℕ → Held
+held_array h n = record {
   row = Array h.row n;
   val = λ xs. array_val (map h.val xs);
   tells = Array-Tells h.row (λ x. h.val x ∷ []) h.tells n;
@@ -78,11 +78,11 @@ heldArray h n = record {
 
 -- a description, and the directory by value
 abbrev pub Tab : Held
-Tab = heldStruct T.the_type T'.the_laws T'.the_plain
+Tab = held_struct T.the_type T'.the_laws T'.the_plain
 
 abbrev pub Dir : Held
-Dir = heldStruct D.the_type D'.the_laws D'.the_plain
+Dir = held_struct D.the_type D'.the_laws D'.the_plain
 
 -- the machine value of a lent slice
-abbrev pub lentVal : {X : Type 0} → Bor (List X) → Val
-lentVal x = slice_val x.ref_ptr (length x.now)
+abbrev pub lent_val : {X : Type 0} → Bor (List X) → Val
+lent_val x = slice_val x.ref_ptr (length x.now)

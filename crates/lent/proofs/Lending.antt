@@ -31,11 +31,11 @@ use borrow.Rule.Slice.Shared.{parts-cells}
 use borrow.Rule.Array.Init.{part_room}
 use borrow.Rule.Array.Share.{Room-take}
 use Rattle.directory.specs.declared.table.TableDescription.{TableDescription}
-use Rattle.lent.proofs.Held.{Held, heldArray, Tab}
+use Rattle.lent.proofs.Held.{Held, held_array, Tab}
 
 -- 16 descriptions and one more: as many as it takes to be too many
 abbrev pub Rows : Held
-Rows = heldArray Tab 17
+Rows = held_array Tab 17
 
 -- the first n rows at a place, as a reference
 abbrev pub part : ℕ → GName → ℕ → List TableDescription → Bor (List TableDescription)

@@ -2,7 +2,7 @@
 -- entries also take the directory as a lent slice of descriptions"). log.rs has no directory: this part is added.
 use Rattle.std.specs.Prelude.{List, ◌++◌, leb, length, take, drop}
 use Rattle.words.specs.Choice.{if◌then◌else◌}
-use Rattle.directory.specs.Directory.{noTables}
+use Rattle.directory.specs.Directory.{no_tables}
 use Rattle.directory.specs.declared.table.TableDescription.{TableDescription}
 use Rattle.directory.specs.declared.directory.Directory.{Directory}
 
@@ -10,4 +10,4 @@ use Rattle.directory.specs.declared.directory.Directory.{Directory}
 -- "Up to 16 tables": more count as 17, which no rule allows, so that every call answers 13
 unfoldable pub gathered : List TableDescription → Directory
 gathered ts =
-    record { tables = take 16 ts ++ drop (length ts) noTables.tables; count = if leb (length ts) 16 then length ts else 17 }
+    record { tables = take 16 ts ++ drop (length ts) no_tables.tables; count = if leb (length ts) 16 then length ts else 17 }

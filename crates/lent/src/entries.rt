@@ -1,9 +1,9 @@
 // The calls of reader, replay and salvage, of the same names.
 ghost use Rattle.std.specs.Prelude.{◌≡◌};
 ghost use Rattle.record.specs.Next.{next_of};
-ghost use Rattle.replay.specs.Replay.{judged, replayedAs, imageAfter};
+ghost use Rattle.replay.specs.Replay.{judged, replayed_as, image_after};
 ghost use Rattle.replay.specs.Run.{run_of};
-ghost use Rattle.salvaging.specs.Salvage.{left_of, salvageOf};
+ghost use Rattle.salvaging.specs.Salvage.{left_of, salvage_of};
 ghost use Rattle.lent.specs.Lent.{gathered};
 
 use super::slice::gather;
@@ -26,7 +26,7 @@ pub fn replay(
     expected: u64,
     image: &mut [u8],
 ) -> Replayed
-    ensures { (result ≡ replayedAs at (judged (gathered tables.now) log.now at expected image.old)) × (image.new ≡ imageAfter (gathered tables.now) image.old (judged (gathered tables.now) log.now at expected image.old)) }
+    ensures { (result ≡ replayed_as at (judged (gathered tables.now) log.now at expected image.old)) × (image.new ≡ image_after (gathered tables.now) image.old (judged (gathered tables.now) log.now at expected image.old)) }
 {
     let d = gather(tables);
     replay::replay(d, log, at, expected, image)
@@ -51,7 +51,7 @@ pub fn salvage(
     out: &mut [u8],
     list: &mut [u64],
 ) -> Salvaged
-    ensures { left_of result out.new list.new ≡ salvageOf (gathered tables.now) log.now out.old list.old }
+    ensures { left_of result out.new list.new ≡ salvage_of (gathered tables.now) log.now out.old list.old }
 {
     let d = gather(tables);
     salvaging::salvage(d, log, out, list)

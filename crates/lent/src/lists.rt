@@ -1,9 +1,9 @@
 // The calls of a change list, of the same names.
 ghost use Rattle.std.specs.Prelude.{◌≡◌};
 ghost use Rattle.directory.specs.declared.table.TableKind.TheVariants.{Index, Value, RefCount};
-ghost use Rattle.change.specs.Change.{changeOf};
+ghost use Rattle.change.specs.Change.{change_of};
 ghost use Rattle.change.specs.Insert.{made_of, inserted};
-ghost use Rattle.change.specs.Drop.{tableDropped, countTableDropped};
+ghost use Rattle.change.specs.Drop.{table_dropped, count_table_dropped};
 ghost use Rattle.change.specs.Size.{sized};
 ghost use Rattle.lent.specs.Lent.{gathered};
 
@@ -22,7 +22,7 @@ pub fn insert_index(
     data: &[u8],
 ) -> Changed
     ensures { made_of result words.new bytes.new
-        ≡ inserted Index (gathered tables.now) (changeOf list words.old bytes.old) table.0 index sub «data».now }
+        ≡ inserted Index (gathered tables.now) (change_of list words.old bytes.old) table.0 index sub «data».now }
 {
     let d = gather(tables);
     list.insert_index(d, words, bytes, table, index, sub, data)
@@ -38,7 +38,7 @@ pub fn insert_value(
     data: &[u8],
 ) -> Changed
     ensures { made_of result words.new bytes.new
-        ≡ inserted Value (gathered tables.now) (changeOf list words.old bytes.old) table.0 index 0 «data».now }
+        ≡ inserted Value (gathered tables.now) (change_of list words.old bytes.old) table.0 index 0 «data».now }
 {
     let d = gather(tables);
     list.insert_value(d, words, bytes, table, index, data)
@@ -55,7 +55,7 @@ pub fn insert_ref_count(
     data: &[u8],
 ) -> Changed
     ensures { made_of result words.new bytes.new
-        ≡ inserted RefCount (gathered tables.now) (changeOf list words.old bytes.old) table.0 index sub «data».now }
+        ≡ inserted RefCount (gathered tables.now) (change_of list words.old bytes.old) table.0 index sub «data».now }
 {
     let d = gather(tables);
     list.insert_ref_count(d, words, bytes, table, index, sub, data)
@@ -69,7 +69,7 @@ pub fn drop_table(
     id: IndexTableId,
 ) -> Changed
     ensures { made_of result words.now bytes.now
-        ≡ tableDropped (gathered tables.now) (changeOf list words.now bytes.now) id.0 }
+        ≡ table_dropped (gathered tables.now) (change_of list words.now bytes.now) id.0 }
 {
     let d = gather(tables);
     list.drop_table(d, words, bytes, id)
@@ -83,7 +83,7 @@ pub fn drop_ref_count_table(
     id: RefCountTableId,
 ) -> Changed
     ensures { made_of result words.now bytes.now
-        ≡ countTableDropped (gathered tables.now) (changeOf list words.now bytes.now) id.0 }
+        ≡ count_table_dropped (gathered tables.now) (change_of list words.now bytes.now) id.0 }
 {
     let d = gather(tables);
     list.drop_ref_count_table(d, words, bytes, id)
@@ -95,7 +95,7 @@ pub fn record_size(
     words: &[u64],
     bytes: &[u8],
 ) -> Sized
-    ensures { result ≡ sized (gathered tables.now) (changeOf list words.now bytes.now) }
+    ensures { result ≡ sized (gathered tables.now) (change_of list words.now bytes.now) }
 {
     let d = gather(tables);
     list.record_size(d, words, bytes)

@@ -1,10 +1,10 @@
 // The calls that write a record, end it and clear it, of the same names.
 ghost use Rattle.std.specs.Prelude.{◌≡◌};
-ghost use Rattle.change.specs.Change.{changeOf};
-ghost use Rattle.memory.specs.Overlays.{overlaysOf};
-ghost use Rattle.writer.specs.Flush.{flushedOf, flushToFile};
-ghost use Rattle.clearing.specs.EndRead.{endReadOf, endRead};
-ghost use Rattle.ending.specs.EndRecord.{handedOf, endStateOf, endRecord};
+ghost use Rattle.change.specs.Change.{change_of};
+ghost use Rattle.memory.specs.Overlays.{overlays_of};
+ghost use Rattle.writer.specs.Flush.{flushed_of, flush_to_file};
+ghost use Rattle.clearing.specs.EndRead.{end_read_of_of, end_read_of};
+ghost use Rattle.ending.specs.EndRecord.{handed_of, end_state_of, end_record};
 ghost use Rattle.lent.specs.Lent.{gathered};
 
 use super::slice::gather;
@@ -22,8 +22,8 @@ pub fn flush_to_file(
     bytes: &[u8],
     out: &mut [u8],
 ) -> Sized
-    ensures { flushedOf result out.new
-        ≡ flushToFile (gathered tables.now) (changeOf list words.now bytes.now) out.old }
+    ensures { flushed_of result out.new
+        ≡ flush_to_file (gathered tables.now) (change_of list words.now bytes.now) out.old }
 {
     let d = gather(tables);
     writer::flush_to_file(list, d, words, bytes, out)
@@ -38,8 +38,8 @@ pub fn end_read(
     bytes: &mut [u8],
     next: u64,
 ) -> EndRead
-    ensures { endReadOf result words.new bytes.new
-        ≡ endRead (gathered tables.now) log.now position (overlaysOf overlays words.old bytes.old) next }
+    ensures { end_read_of_of result words.new bytes.new
+        ≡ end_read_of (gathered tables.now) log.now position (overlays_of overlays words.old bytes.old) next }
 {
     let d = gather(tables);
     clearing::end_read(d, log, position, overlays, words, bytes, next)
@@ -57,8 +57,8 @@ pub fn end_record<'a>(
     next: u64,
     out: &mut [u8],
 ) -> Ended
-    ensures { endStateOf result words.new bytes.new out.new
-        ≡ endRecord (gathered tables.now) (handedOf list list_words.now list_bytes.now overlays words.old bytes.old queues next out.old) }
+    ensures { end_state_of result words.new bytes.new out.new
+        ≡ end_record (gathered tables.now) (handed_of list list_words.now list_bytes.now overlays words.old bytes.old queues next out.old) }
 {
     let d = gather(tables);
     ending::end_record(

@@ -1,13 +1,13 @@
 // A lent slice of descriptions as a directory by value.
 ghost use Rattle.std.specs.Prelude.{◌≡◌};
 ghost use Rattle.lent.specs.Lent.{gathered};
-ghost use Rattle.lent.specs.Inner.{withOneMore};
+ghost use Rattle.lent.specs.Inner.{with_one_more};
 
 use directory::{Directory, TableDescription};
 
 // One description more; a directory that is full counts 17 from then on.
 fn push(d: Directory, t: TableDescription) -> Directory
-    ensures { result ≡ withOneMore d t }
+    ensures { result ≡ with_one_more d t }
 {
     let at = d.count;
     let mut e = d;

@@ -1,20 +1,20 @@
 // A table's place, and what the directory comes to, of a directory that is lent.
 ghost use Rattle.std.specs.Prelude.{◌≡◌};
-ghost use Rattle.directory.specs.Directory.{findTable, directoryKept, start_of, imageLength};
+ghost use Rattle.directory.specs.Directory.{find_table, directory_kept, start_of, image_length};
 ghost use Rattle.lent.specs.Lent.{gathered};
 
 use super::slice::gather;
 use directory::{Found, TableDescription, TableKind};
 
 pub fn find(tables: &[TableDescription], kind: TableKind, number: u16) -> Found
-    ensures { result ≡ findTable (gathered tables.now) kind number }
+    ensures { result ≡ find_table (gathered tables.now) kind number }
 {
     let d = gather(tables);
     d.find(kind, number)
 }
 
 pub fn kept(tables: &[TableDescription]) -> bool
-    ensures { result ≡ directoryKept (gathered tables.now) }
+    ensures { result ≡ directory_kept (gathered tables.now) }
 {
     let d = gather(tables);
     d.kept()
@@ -28,7 +28,7 @@ pub fn start(tables: &[TableDescription], row: usize) -> usize
 }
 
 pub fn image_length(tables: &[TableDescription]) -> usize
-    ensures { result ≡ imageLength (gathered tables.now) }
+    ensures { result ≡ image_length (gathered tables.now) }
 {
     let d = gather(tables);
     d.image_length()

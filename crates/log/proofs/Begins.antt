@@ -5,44 +5,44 @@ use mathlib.Core.List.{List}
 use Prim.Native.Nat.{ℕ, ◌+◌, ◌<◌}
 use native.Mathlib.Omega.{arith}
 use borrow.Author.Tests.{eq-eqb, ne_eqb}
-use Rattle.answer.specs.Answer.{lastRecordId}
+use Rattle.answer.specs.Answer.{last_record_id}
 use Rattle.answer.specs.declared.answer.Answer.TheVariants.{Done, UsedUp, BadState}
 use Rattle.directory.specs.declared.directory.Directory.{Directory}
 use Rattle.memory.specs.declared.overlays.LogOverlays.{LogOverlays}
-use Rattle.change.specs.Change.{newList}
+use Rattle.change.specs.Change.{new_list}
 use Rattle.change.specs.declared.change.LogChange.{LogChange}
 use Rattle.files.specs.declared.queues.Queues.{Queues}
-use Rattle.ending.specs.EndRecord.{Handed, handedOf, endAnswer, isDone}
+use Rattle.ending.specs.EndRecord.{Handed, handed_of, end_answer, is_done}
 use Rattle.ending.proofs.Decided.{accepted}
-use Rattle.log.specs.Begin.{notBegun, beginRecord}
+use Rattle.log.specs.Begin.{not_begun, begin_record}
 
 module _ (next : ℕ) where
-  pub begun-0 : next ≡ 0 → notBegun BadState next ≡ beginRecord next
-  unfolding beginRecord
+  pub begun-0 : next ≡ 0 → not_begun BadState next ≡ begin_record next
+  unfolding begin_record
   begun-0 e = rw (eq-eqb next 0 e)
 
-  pub begun-last : (next ≡ 0 → ⊥) → next ≡ lastRecordId → notBegun UsedUp next ≡ beginRecord next
-  unfolding beginRecord
-  begun-last n e = rw (ne_eqb next 0 n, eq-eqb next lastRecordId e)
+  pub begun-last : (next ≡ 0 → ⊥) → next ≡ last_record_id → not_begun UsedUp next ≡ begin_record next
+  unfolding begin_record
+  begun-last n e = rw (ne_eqb next 0 n, eq-eqb next last_record_id e)
 
-  pub begun-next : (next ≡ 0 → ⊥) → (next ≡ lastRecordId → ⊥) → (l : LogChange) → l ≡ newList next → record { answer = Done; next_record_id = next + 1; list = l } ≡ beginRecord next
-  unfolding beginRecord
-  begun-next n m l e = rw (e, ne_eqb next 0 n, ne_eqb next lastRecordId m)
+  pub begun-next : (next ≡ 0 → ⊥) → (next ≡ last_record_id → ⊥) → (l : LogChange) → l ≡ new_list next → record { answer = Done; next_record_id = next + 1; list = l } ≡ begin_record next
+  unfolding begin_record
+  begun-next n m l e = rw (e, ne_eqb next 0 n, ne_eqb next last_record_id m)
 
 -- no next id follows 2^64-1
 pub last-refused : (d : Directory) (h : Handed)
-    → h.list.id ≡ lastRecordId
+    → h.list.id ≡ last_record_id
     → h.next < 18446744073709551616  -- the next id is one of its type
-    → isDone (endAnswer d h) ≡ false
-last-refused d h e small = by (isDone (endAnswer d h)) refl
+    → is_done (end_answer d h) ≡ false
+last-refused d h e small = by (is_done (end_answer d h)) refl
   where
-    by : (b : Bool) → isDone (endAnswer d h) ≡ b → b ≡ false
+    by : (b : Bool) → is_done (end_answer d h) ≡ b → b ≡ false
     by true f = absurd (omega (arith, (accepted d h f).next))
     by false f = refl
 
 -- what a refused `begin_record` hands back in place of a list, `end_record` never takes
-pub not-begun-refused : (d : Directory) (lw lb : List ℕ) (o : LogOverlays) (w b : List ℕ) (q : Queues) (next : ℕ) (out : List ℕ)
+pub not_begun-refused : (d : Directory) (lw lb : List ℕ) (o : LogOverlays) (w b : List ℕ) (q : Queues) (next : ℕ) (out : List ℕ)
     → next < 18446744073709551616  -- the next id is one of its type
-    → isDone (endAnswer d (handedOf (newList lastRecordId) lw lb o w b q next out)) ≡ false
-unfolding handedOf
-not-begun-refused d lw lb o w b q next out small = last-refused d (handedOf (newList lastRecordId) lw lb o w b q next out) refl small
+    → is_done (end_answer d (handed_of (new_list last_record_id) lw lb o w b q next out)) ≡ false
+unfolding handed_of
+not_begun-refused d lw lb o w b q next out small = last-refused d (handed_of (new_list last_record_id) lw lb o w b q next out) refl small

@@ -11,39 +11,39 @@ use lib.Dec.{eqb}
 use lib.ListN.{length, get_or, take, drop}
 use lib.Seq.{get_or-take, length-take-le}
 use borrow.Author.Tests.{eq-eqb, ne_eqb}
-use Rattle.words.proofs.Choices.{if-true, if-false}
-use Rattle.directory.specs.Directory.{imageLength}
+use Rattle.words.proofs.Choices.{if_true, if_false}
+use Rattle.directory.specs.Directory.{image_length}
 use Rattle.directory.specs.declared.table.TableKind.{TableKind}
 use Rattle.directory.specs.declared.table.TableKind.TheVariants.{Index, Value, RefCount}
 use Rattle.directory.specs.declared.directory.Directory.{Directory}
-use Rattle.answer.specs.Answer.{lastRecordId}
+use Rattle.answer.specs.Answer.{last_record_id}
 use Rattle.answer.specs.declared.answer.Answer.TheVariants.{Done}
 use Rattle.effect.specs.Effect.{Written}
-use Rattle.replay.specs.Replay.{Walked, walked, judged, replayedAs}
+use Rattle.replay.specs.Replay.{Walked, walked, judged, replayed_as}
 use Rattle.numbers.proofs.Laws.{both}
 use Rattle.keys.specs.Keys.{key_at}
 use Rattle.overlay.specs.Rules.{Overlay}
-use Rattle.memory.specs.Parts.{ofKind, entryUnder}
+use Rattle.memory.specs.Parts.{of_kind, entry_under}
 use Rattle.memory.specs.declared.span.Holder.TheVariants as holder
-use Rattle.change.specs.Change.{Change, changeKept}
-use Rattle.change.specs.Size.{recordSize}
+use Rattle.change.specs.Change.{Change, change_kept}
+use Rattle.change.specs.Size.{record_size}
 use Rattle.change.proofs.Rules.{kept-directory, kept-ruled, kept-parts}
 use Rattle.clearing.specs.Clear.{named_by, hits, names}
 use Rattle.clearing.specs.EndRead as read
-use Rattle.clearing.proofs.Again.{record-is-again}
+use Rattle.clearing.proofs.Again.{record_is-again}
 use Rattle.clearing.proofs.Meaning.{own-cleared}
-use Rattle.writer.specs.Bytes.{recordOf}
-use Rattle.writer.specs.Flush.{flushToFile}
+use Rattle.writer.specs.Bytes.{record_of}
+use Rattle.writer.specs.Flush.{flush_to_file}
 use Rattle.writer.specs.Typed.{Typed}
-use Rattle.writer.proofs.Sizes.{length-record}
-use Rattle.written.specs.Actions.{insertAt, inserts, allInserts, allDrops, listActions}
+use Rattle.writer.proofs.Sizes.{length_record}
+use Rattle.written.specs.Actions.{insert_at, inserts, all_inserts, all_drops, list_actions}
 use Rattle.written.proofs.Accepted.{accepted}
 use Rattle.written.proofs.Replayed.{output-is, replayed-done}
 use Rattle.memory.proofs.OneKind.{kind-kept}
 use Rattle.putting.proofs.Places.{order-holds}
-use Rattle.ending.specs.EndRecord.{Handed, EndState, endAnswer, isDone, endRecord}
+use Rattle.ending.specs.EndRecord.{Handed, EndState, end_answer, is_done, end_record}
 use Rattle.ending.proofs.Decided as decided
-use Rattle.ending.proofs.Meaning.{as-flushed, listed_found, shared-stays}
+use Rattle.ending.proofs.Meaning.{as_flushed, listed_found, shared_stays}
 
 -- ---- the actions of a list name its keys
 
@@ -60,22 +60,22 @@ module _ (kind : TableKind) (k : ℕ) where
       by true f ih = refl
       by false f ih = ih f
 
-  names-right : (vs ws : List Written) → names kind k ws ≡ true → names kind k (vs ++ ws) ≡ true
-  names-right [] ws e = e
-  names-right (v ∷ vs) ws e = either (hits kind k (named_by v.action)) _ (names-right vs ws e)
+  names_right : (vs ws : List Written) → names kind k ws ≡ true → names kind k (vs ++ ws) ≡ true
+  names_right [] ws e = e
+  names_right (v ∷ vs) ws e = either (hits kind k (named_by v.action)) _ (names_right vs ws e)
 
 -- an insert names the key in its place
-hit : (kind : TableKind) (o : Overlay) (p : ℕ) → hits kind (key_at o.rows p) (named_by (insertAt kind o p).action) ≡ true
-unfolding insertAt
+hit : (kind : TableKind) (o : Overlay) (p : ℕ) → hits kind (key_at o.rows p) (named_by (insert_at kind o p).action) ≡ true
+unfolding insert_at
 hit Index o p = eq-eqb (key_at o.rows p) (key_at o.rows p) refl
 hit Value o p = eq-eqb (key_at o.rows p) (key_at o.rows p) refl
 hit RefCount o p = eq-eqb (key_at o.rows p) (key_at o.rows p) refl
 
-named-at : (kind : TableKind) (o : Overlay) (ps : List ℕ) (j : ℕ) → j < length ps → names kind (key_at o.rows (get_or ps j 0)) (map (insertAt kind o) ps) ≡ true
+named-at : (kind : TableKind) (o : Overlay) (ps : List ℕ) (j : ℕ) → j < length ps → names kind (key_at o.rows (get_or ps j 0)) (map (insert_at kind o) ps) ≡ true
 named-at kind o [] j h = absurd (not-suc-le-zero h)
 named-at kind o (p ∷ ps) zero h = rw (hit kind o p)
 named-at kind o (p ∷ ps) (suc j) h =
-    either (hits kind (key_at o.rows (get_or ps j 0)) (named_by (insertAt kind o p).action)) _ (named-at kind o ps j (le_of_suc-le-suc h))
+    either (hits kind (key_at o.rows (get_or ps j 0)) (named_by (insert_at kind o p).action)) _ (named-at kind o ps j (le_of_suc-le-suc h))
 
 -- so the j-th listed key is named
 listed-named : (kind : TableKind) (o : Overlay) (j : ℕ) → j < o.count → o.count ≤ length o.order → names kind (key_at o.rows (get_or o.order j 0)) (inserts kind o) ≡ true
@@ -85,9 +85,9 @@ listed-named kind o j h w =
     rw (get_or-take o.count o.order j 0 h) at n
 
 -- those of a kind are among all
-of-kind : (kind : TableKind) (k : ℕ) (l : Change) → names kind k (inserts kind (ofKind kind l.parts)) ≡ true → names kind k (listActions l) ≡ true
-unfolding listActions allInserts
-of-kind kind k l e = names-left kind k (allInserts l) (allDrops l) (among kind e)
+of-kind : (kind : TableKind) (k : ℕ) (l : Change) → names kind k (inserts kind (of_kind kind l.parts)) ≡ true → names kind k (list_actions l) ≡ true
+unfolding list_actions all_inserts
+of-kind kind k l e = names-left kind k (all_inserts l) (all_drops l) (among kind e)
   where
     a : List Written
     a = inserts Index l.parts.index
@@ -96,12 +96,12 @@ of-kind kind k l e = names-left kind k (allInserts l) (allDrops l) (among kind e
     b = inserts Value l.parts.value
 
     c : List Written
-    c = inserts RefCount l.parts.refCount
+    c = inserts RefCount l.parts.ref_count
 
-    among : (x : TableKind) → names kind k (inserts x (ofKind x l.parts)) ≡ true → names kind k (a ++ b ++ c) ≡ true
+    among : (x : TableKind) → names kind k (inserts x (of_kind x l.parts)) ≡ true → names kind k (a ++ b ++ c) ≡ true
     among Index f = names-left kind k (a ++ b) c (names-left kind k a b f)
-    among Value f = names-left kind k (a ++ b) c (names-right kind k a b f)
-    among RefCount f = names-right kind k (a ++ b) c f
+    among Value f = names-left kind k (a ++ b) c (names_right kind k a b f)
+    among RefCount f = names_right kind k (a ++ b) c f
 
 -- ---- the theorem
 
@@ -109,70 +109,70 @@ module _
     (d : Directory) (h : Handed)
     (words : Typed h.list)  -- the list's arrays and numbers are those of their types
     (small : h.next < 18446744073709551616)  -- so is the next id
-    (done : isDone (endAnswer d h) ≡ true)  -- `end_record` answers 0
+    (done : is_done (end_answer d h) ≡ true)  -- `end_record` answers 0
   where
     abbrev l : Change
     l = h.list
 
     -- what the call leaves
     abbrev left : EndState
-    left = endRecord d h
+    left = end_record d h
 
     -- the record as it is read again
     abbrev again : read.Again
-    again = record { id = l.id; actions = listActions l }
+    again = record { id = l.id; actions = list_actions l }
 
     taken : decided.Accepted d h
     taken = decided.accepted d h done
 
-    kept : changeKept d l ≡ true
+    kept : change_kept d l ≡ true
     kept = decided.list-kept d h taken.kept
 
     abbrev more : List ℕ
-    more = drop (length (recordOf l)) h.output
+    more = drop (length (record_of l)) h.output
 
     -- "What `end_record` writes is what `flush_to_file` writes ..
-    pub as-flush-writes : (endRecord d h).output ≡ (flushToFile d h.list h.output).output
-    as-flush-writes = as-flushed d h done
+    pub as_flush_writes : (end_record d h).output ≡ (flush_to_file d h.list h.output).output
+    as_flush_writes = as_flushed d h done
 
-    record-first : left.output ≡ recordOf l ++ more
-    record-first = as-flush-writes ∙ output-is d l h.output kept taken.fits
+    record_first : left.output ≡ record_of l ++ more
+    record_first = as_flush_writes ∙ output-is d l h.output kept taken.fits
 
     -- .. and what replay accepts": with the list's id it answers 0 and the length that `end_record` answered
     pub replay-accepts : (image : List ℕ)
-        → length image ≡ imageLength d  -- any other gives 13
-        → replayedAs 0 (judged d (endRecord d h).output 0 h.list.id image) ≡ record { answer = Done; position = recordSize h.list; fault_at = recordSize h.list }
+        → length image ≡ image_length d  -- any other gives 13
+        → replayed_as 0 (judged d (end_record d h).output 0 h.list.id image) ≡ record { answer = Done; position = record_size h.list; fault_at = record_size h.list }
     replay-accepts image long =
-        ap (λ (log : List ℕ). replayedAs 0 (judged d log 0 l.id image)) record-first ∙ replayed-done d l more image kept words long
+        ap (λ (log : List ℕ). replayed_as 0 (judged d log 0 l.id image)) record_first ∙ replayed-done d l more image kept words long
 
-    reads : read.recordAgain d left.output 0 ≡ walked again (recordSize l)
+    reads : read.record_again d left.output 0 ≡ walked again (record_size l)
     reads =
-        ap (λ (log : List ℕ). read.recordAgain d log 0) record-first
-        ∙ record-is-again d (recordOf l ++ more) 0 l.id (listActions l) (recordSize l)
-        (accepted d l kept words [] more ∙ ap (walked (listActions l)) (zero-add (length (recordOf l)) ∙ length-record l (kept-ruled d l kept) words))
+        ap (λ (log : List ℕ). read.record_again d log 0) record_first
+        ∙ record_is-again d (record_of l ++ more) 0 l.id (list_actions l) (record_size l)
+        (accepted d l kept words [] more ∙ ap (walked (list_actions l)) (zero-add (length (record_of l)) ∙ length_record l (kept-ruled d l kept) words))
 
     -- `end_read` of those bytes, behind all its tests, takes them as the record of the list's id and actions, of that length
-    pub accepted-again : read.toClear d (endRecord d h).output 0 (endRecord d h).overlays h.next
-        ≡ walked (record { id = h.list.id; actions = listActions h.list }) (recordSize h.list)
-    unfolding read.toClear
+    pub accepted-again : read.to_clear d (end_record d h).output 0 (end_record d h).overlays h.next
+        ≡ walked (record { id = h.list.id; actions = list_actions h.list }) (record_size h.list)
+    unfolding read.to_clear
     accepted-again =
-        if-true _ _ _
+        if_true _ _ _
         (both (kept-directory d l kept)
-        (both (shared-stays d h (decided.shared_kept d h taken.kept)) (ap not (ne_eqb h.next 0 (λ z. omega (arith, taken.next))))))
+        (both (shared_stays d h (decided.shared_kept d h taken.kept)) (ap not (ne_eqb h.next 0 (λ z. omega (arith, taken.next))))))
         ∙ ap read.clearable reads
-        ∙ if-false (eqb l.id lastRecordId) _ _ (ne_eqb l.id lastRecordId (λ z. omega (arith, taken.next, small)))
+        ∙ if_false (eqb l.id last_record_id) _ _ (ne_eqb l.id last_record_id (λ z. omega (arith, taken.next, small)))
 
     -- "After `end_record` and then `end_read` of its bytes, with nothing between, the overlays hold no key of the record": of no kind
     pub none_left : (kind : TableKind) (j : ℕ)
-        → j < (ofKind kind h.list.parts).count  -- the j-th listed key of the kind
-        → entryUnder kind (key_at (ofKind kind h.list.parts).rows (get_or (ofKind kind h.list.parts).order j 0)) (read.endRead d (endRecord d h).output 0 (endRecord d h).overlays h.next).overlays.parts ≡ none
+        → j < (of_kind kind h.list.parts).count  -- the j-th listed key of the kind
+        → entry_under kind (key_at (of_kind kind h.list.parts).rows (get_or (of_kind kind h.list.parts).order j 0)) (read.end_read_of d (end_record d h).output 0 (end_record d h).overlays h.next).overlays.parts ≡ none
     none_left kind j i =
-        ap (λ (g : Walked read.Again). entryUnder kind key (read.endReadBy 0 left.overlays h.next g).overlays.parts) accepted-again
-        ∙ own-cleared kind l.id key (listActions l) left.overlays.parts (shared-stays d h (decided.shared_kept d h taken.kept)) _
+        ap (λ (g : Walked read.Again). entry_under kind key (read.end_read_by 0 left.overlays h.next g).overlays.parts) accepted-again
+        ∙ own-cleared kind l.id key (list_actions l) left.overlays.parts (shared_stays d h (decided.shared_kept d h taken.kept)) _
         (of-kind kind key l named) (listed_found d h done kind j i) refl
       where
         key : ℕ
-        key = key_at (ofKind kind l.parts).rows (get_or (ofKind kind l.parts).order j 0)
+        key = key_at (of_kind kind l.parts).rows (get_or (of_kind kind l.parts).order j 0)
 
-        named : names kind key (inserts kind (ofKind kind l.parts)) ≡ true
-        named = listed-named kind (ofKind kind l.parts) j i (order-holds kind _ (ofKind kind l.parts) (kind-kept holder.List kind l.parts (kept-parts d l kept)))
+        named : names kind key (inserts kind (of_kind kind l.parts)) ≡ true
+        named = listed-named kind (of_kind kind l.parts) j i (order-holds kind _ (of_kind kind l.parts) (kind-kept holder.List kind l.parts (kept-parts d l kept)))

@@ -1,6 +1,6 @@
 // The beginning of a record: log.rs lines 839 to 842.
 ghost use Rattle.std.specs.Prelude.{◌≡◌};
-ghost use Rattle.log.specs.Begin.{firstRecordId, notBegun, beginRecord};
+ghost use Rattle.log.specs.Begin.{first_record_id, not_begun, begin_record};
 
 use answer::Answer;
 use change::LogChange;
@@ -15,13 +15,13 @@ pub struct Begun {
 
 // The next id of a log that has no record.
 pub fn first_record_id() -> u64
-    ensures { result ≡ firstRecordId }
+    ensures { result ≡ first_record_id }
 {
     1
 }
 
 fn not_begun(answer: Answer, next: u64) -> Begun
-    ensures { result ≡ notBegun answer next }
+    ensures { result ≡ not_begun answer next }
 {
     Begun {
         answer,
@@ -32,7 +32,7 @@ fn not_begun(answer: Answer, next: u64) -> Begun
 
 // Hands out the next id.
 pub fn begin_record(next: u64) -> Begun
-    ensures { result ≡ beginRecord next }
+    ensures { result ≡ begin_record next }
 {
     if next == 0 {
         return not_begun(Answer::BadState, next);

@@ -1,7 +1,7 @@
 // What was to be replayed, cleared: log.rs lines 816 to 837.
 ghost use Rattle.std.specs.Prelude.{◌≡◌, true};
-ghost use Rattle.files.specs.Queues.{queuesKept};
-ghost use Rattle.log.specs.ClearReplay.{logsClearedKept, logsCleared};
+ghost use Rattle.files.specs.Queues.{queues_kept};
+ghost use Rattle.log.specs.ClearReplay.{logs_cleared_kept, logs_cleared};
 
 use answer::Answer;
 use files::Queues;
@@ -16,8 +16,8 @@ pub struct LogsCleared {
 
 // Behind 13: the overlays that were are not asked.
 pub fn clear_replay_logs_kept(queues: Queues) -> LogsCleared
-    requires { queuesKept queues ≡ true }
-    ensures { result ≡ logsClearedKept queues }
+    requires { queues_kept queues ≡ true }
+    ensures { result ≡ logs_cleared_kept queues }
 {
     let q = queues.clear_replay_logs_kept().queues;
     LogsCleared {
@@ -34,7 +34,7 @@ pub fn clear_replay_logs(
     bytes: &[u8],
     queues: Queues,
 ) -> LogsCleared
-    ensures { result ≡ logsCleared overlays words.now bytes.now queues }
+    ensures { result ≡ logs_cleared overlays words.now bytes.now queues }
 {
     let counts = overlays.counts;
     if memory::all_kept(Holder::Shared, counts, words, bytes) {

@@ -8,42 +8,42 @@ use lib.ListN.{drop, length, length-drop}
 use borrow.Author.Tests.{eq-eqb}
 use Rattle.directory.specs.declared.table.TableKind.{TableKind}
 use Rattle.directory.specs.declared.table.TableKind.TheVariants.{Index, Value, RefCount}
-use Rattle.overlay.specs.Rules.{overlayKept}
+use Rattle.overlay.specs.Rules.{overlay_kept}
 use Rattle.memory.specs.declared.counts.Counts.{Counts}
 use Rattle.memory.specs.declared.span.Holder.{Holder}
-use Rattle.memory.specs.Parts.{span_of, wordsAll, bytesAll, part_of, parts_of, partsKept}
+use Rattle.memory.specs.Parts.{span_of, words_all, bytes_all, part_of, parts_of, parts_kept}
 use Rattle.memory.proofs.Spans.{words-all, bytes-all}
 
 module _ (h : Holder) (c : Counts) (words bytes : List ℕ) where
-  refused : (partsKept h (parts_of h c words bytes) ≡ true → ⊥) → false ≡ partsKept h (parts_of h c words bytes)
-  refused never = by (partsKept h (parts_of h c words bytes)) refl
+  refused : (parts_kept h (parts_of h c words bytes) ≡ true → ⊥) → false ≡ parts_kept h (parts_of h c words bytes)
+  refused never = by (parts_kept h (parts_of h c words bytes)) refl
     where
-      by : (b : Bool) → partsKept h (parts_of h c words bytes) ≡ b → false ≡ partsKept h (parts_of h c words bytes)
+      by : (b : Bool) → parts_kept h (parts_of h c words bytes) ≡ b → false ≡ parts_kept h (parts_of h c words bytes)
       by true e = absurd (never e)
       by false e = sym e
 
-  pub other-words : (length words ≡ wordsAll h → ⊥) → false ≡ partsKept h (parts_of h c words bytes)
+  pub other-words : (length words ≡ words_all h → ⊥) → false ≡ parts_kept h (parts_of h c words bytes)
   other-words ne = refused (λ ok. ne (words-all h c words bytes ok))
 
-  pub other-bytes : (length bytes ≡ bytesAll h → ⊥) → false ≡ partsKept h (parts_of h c words bytes)
+  pub other-bytes : (length bytes ≡ bytes_all h → ⊥) → false ≡ parts_kept h (parts_of h c words bytes)
   other-bytes ne = refused (λ ok. ne (bytes-all h c words bytes ok))
 
   none-behind : (n : ℕ) (l : List ℕ) → length l ≡ n → length (drop n l) ≡ 0
   none-behind n l e = length-drop n l ∙ omega (arith, e)
 
-  module _ (wl : length words ≡ wordsAll h) (bl : length bytes ≡ bytesAll h) where
+  module _ (wl : length words ≡ words_all h) (bl : length bytes ≡ bytes_all h) where
     abbrev ruled : TableKind → Bool
-    ruled kind = overlayKept kind (span_of h kind).room (part_of h kind c words bytes)
+    ruled kind = overlay_kept kind (span_of h kind).room (part_of h kind c words bytes)
 
-    three : ruled Index && (ruled Value && ruled RefCount) ≡ partsKept h (parts_of h c words bytes)
-    unfolding partsKept
-    three = sym (rw (eq-eqb (length (drop (wordsAll h) words)) 0 (none-behind (wordsAll h) words wl), eq-eqb (length (drop (bytesAll h) bytes)) 0 (none-behind (bytesAll h) bytes bl)))
+    three : ruled Index && (ruled Value && ruled RefCount) ≡ parts_kept h (parts_of h c words bytes)
+    unfolding parts_kept
+    three = sym (rw (eq-eqb (length (drop (words_all h) words)) 0 (none-behind (words_all h) words wl), eq-eqb (length (drop (bytes_all h) bytes)) 0 (none-behind (bytes_all h) bytes bl)))
 
-    pub index-fails : ruled Index ≡ false → false ≡ partsKept h (parts_of h c words bytes)
+    pub index-fails : ruled Index ≡ false → false ≡ parts_kept h (parts_of h c words bytes)
     index-fails e = rw e at three
 
-    pub value-fails : ruled Index ≡ true → ruled Value ≡ false → false ≡ partsKept h (parts_of h c words bytes)
+    pub value-fails : ruled Index ≡ true → ruled Value ≡ false → false ≡ parts_kept h (parts_of h c words bytes)
     value-fails d e = rw (d, e) at three
 
-    pub last_says : ruled Index ≡ true → ruled Value ≡ true → ruled RefCount ≡ partsKept h (parts_of h c words bytes)
+    pub last_says : ruled Index ≡ true → ruled Value ≡ true → ruled RefCount ≡ parts_kept h (parts_of h c words bytes)
     last_says d e = rw (d, e) at three

@@ -1,6 +1,6 @@
 // How many keys of each kind are in use: what goes by value.
 ghost use Rattle.std.specs.Prelude.{◌≡◌};
-ghost use Rattle.memory.specs.Parts.{noCounts, count_of, withCount};
+ghost use Rattle.memory.specs.Parts.{no_counts, count_of, with_count};
 
 use directory::TableKind;
 
@@ -13,7 +13,7 @@ pub struct Counts {
 
 impl Counts {
     pub fn new() -> Counts
-        ensures { result ≡ noCounts }
+        ensures { result ≡ no_counts }
     {
         Counts {
             index: 0,
@@ -33,7 +33,7 @@ impl Counts {
     }
 
     pub fn with(mut self, kind: TableKind, n: usize) -> Counts
-        ensures { result ≡ withCount kind self n }
+        ensures { result ≡ with_count kind self n }
     {
         match kind {
             TableKind::Index => {

@@ -1,6 +1,6 @@
 // What of the shared overlays goes by value: how many keys of each kind are in use, and the columns' last ids. log.rs lines 92 to 98.
 ghost use Rattle.std.specs.Prelude.{◌≡◌};
-ghost use Rattle.memory.specs.Overlays.{noOverlays, lastIdOf};
+ghost use Rattle.memory.specs.Overlays.{no_overlays, last_id_of};
 
 use super::counts::Counts;
 
@@ -13,7 +13,7 @@ pub struct LogOverlays {
 impl LogOverlays {
     // Empty overlays; their memory may hold anything.
     pub fn new() -> LogOverlays
-        ensures { result ≡ noOverlays }
+        ensures { result ≡ no_overlays }
     {
         LogOverlays {
             counts: Counts::new(),
@@ -22,7 +22,7 @@ impl LogOverlays {
     }
 
     pub fn last_record_id(self, col: u64) -> u64
-        ensures { result ≡ lastIdOf self col }
+        ensures { result ≡ last_id_of self col }
     {
         if col < 8 {
             return self.last_record_ids[col as usize];

@@ -12,14 +12,14 @@ use lib.Seq.{take_all, take_at, drop_at, drop-drop, drop-cons, get_or-take, leng
 use Rattle.words.specs.Words.{little}
 use Rattle.output.specs.Put.{put, Wrote, le, joined}
 
-le-or-le : (a b : ℕ) → (a ≤ b) ⊎ (b ≤ a)
-le-or-le zero b = inl zero-le
-le-or-le (suc a) zero = inr zero-le
-le-or-le (suc a) (suc b) = ⊎_elim (λ p. inl (suc-le-suc p)) (λ q. inr (suc-le-suc q)) (le-or-le a b)
+le_or_le : (a b : ℕ) → (a ≤ b) ⊎ (b ≤ a)
+le_or_le zero b = inl zero-le
+le_or_le (suc a) zero = inr zero-le
+le_or_le (suc a) (suc b) = ⊎_elim (λ p. inl (suc-le-suc p)) (λ q. inr (suc-le-suc q)) (le_or_le a b)
 
-pub put-nil : (l : List ℕ) (at : ℕ) → put l at [] ≡ l
+pub put_nil : (l : List ℕ) (at : ℕ) → put l at [] ≡ l
 unfolding put
-put-nil l at = simp (append-nil, add-zero, take-append-drop)
+put_nil l at = simp (append-nil, add-zero, take-append-drop)
 
 -- a write at or past the end goes behind what is there
 far : (l : List ℕ) (at : ℕ) (bs : List ℕ) → length l ≤ at → put l at bs ≡ l ++ bs
@@ -47,15 +47,15 @@ far-put l at a b h =
 
 -- two writes, one behind the other, are one
 pub put-put : (l : List ℕ) (at : ℕ) (a b : List ℕ) → put (put l at a) (at + length a) b ≡ put l at (a ++ b)
-put-put l at a b = ⊎_elim (near-put l at a b) (far-put l at a b) (le-or-le at (length l))
+put-put l at a b = ⊎_elim (near-put l at a b) (far-put l at a b) (le_or_le at (length l))
 
 set-put : (l : List ℕ) (at b : ℕ) → at < length l → set l at b ≡ put l at (b ∷ [])
 unfolding put
 set-put l at b h = set_split l at b h ∙ rw (append_assoc, add-one)
 
 -- one write after another, and what is left of a write
-pub wrote-nil : (l : List ℕ) (at : ℕ) → Wrote l at [] l at
-wrote-nil l at = record { next = sym (add-zero at); bytes = sym (put-nil l at) }
+pub wrote_nil : (l : List ℕ) (at : ℕ) → Wrote l at [] l at
+wrote_nil l at = record { next = sym (add-zero at); bytes = sym (put_nil l at) }
 
 infixl 5 ◌⨾◌
 pub ◌⨾◌ : {o : List ℕ} {at : ℕ} {a m : List ℕ} {r : ℕ} {b n : List ℕ} {s : ℕ} → Wrote o at a m r → Wrote m r b n s → Wrote o at (a ++ b) n s
@@ -91,7 +91,7 @@ all_left l at bs = record { next = refl; bytes = refl }
 
 pub none_left : {l : List ℕ} {at : ℕ} {bs m : List ℕ} {r : ℕ} → Wrote m r [] (put l at bs) (at + length bs) → Wrote l at bs m r
 none_left {l} {at} {bs} {m} {r} w =
-    record { next = omega (arith, w.next); bytes = sym (put-nil m r) ∙ sym w.bytes }
+    record { next = omega (arith, w.next); bytes = sym (put_nil m r) ∙ sym w.bytes }
 
 -- a number in n bytes has n bytes, and reads back as itself
 pub length-le : (n x : ℕ) → length (le n x) ≡ n

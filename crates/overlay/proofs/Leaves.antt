@@ -8,61 +8,61 @@ use lib.ListN.{length}
 use Rattle.words.specs.Choice.{if◌then◌else◌}
 use Rattle.directory.specs.declared.table.TableKind.{TableKind}
 use Rattle.numbers.proofs.Laws.{left-of}
-use Rattle.keys.specs.Keys.{cutOut, renameAll}
-use Rattle.overlay.specs.Rules.{Overlay, slotSize, overlayKept, lists_of}
+use Rattle.keys.specs.Keys.{cut_out, rename_all}
+use Rattle.overlay.specs.Rules.{Overlay, slot_size, overlay_kept, lists_of}
 use Rattle.overlay.specs.declared.seat.Leaving.{Leaving}
 use Rattle.overlay.specs.declared.seat.Leaving.TheVariants.{At, Stays}
-use Rattle.overlay.specs.Overlay.{spotIn, standsIn, place_in, goesFrom, rowMoved, slotMoved, freed, removedFrom}
-use Rattle.overlay.specs.Inner.{leavingIn}
+use Rattle.overlay.specs.Overlay.{spot_in_of, stands_in, place_in, goes_from, row_moved, slot_moved, freed, removed_from}
+use Rattle.overlay.specs.Inner.{leaving_in}
 use Rattle.overlay.proofs.Ruled.{Kept, shows}
-use Rattle.overlay.proofs.Slots.{slot-in}
-use Rattle.overlay.proofs.Plan.{stands-in, place-in, place-there}
+use Rattle.overlay.proofs.Slots.{slot_in_lem}
+use Rattle.overlay.proofs.Plan.{stands_in_lem, place_in_lem, place-there}
 
 -- the bytes are not asked
-pub leaving-keys : (rows order bytes : List ℕ) (n k id : ℕ) → leavingIn (lists_of rows order [] n) k id ≡ leavingIn (lists_of rows order bytes n) k id
-unfolding leavingIn goesFrom place_in standsIn spotIn
-leaving-keys rows order bytes n k id = refl
+pub leaving_keys : (rows order bytes : List ℕ) (n k id : ℕ) → leaving_in (lists_of rows order [] n) k id ≡ leaving_in (lists_of rows order bytes n) k id
+unfolding leaving_in goes_from place_in stands_in spot_in_of
+leaving_keys rows order bytes n k id = refl
 
-abbrev freeBy : TableKind → Overlay → Leaving → Overlay
-freeBy kind o (At j p) = freed kind o j p
-freeBy kind o Stays = o
+abbrev free_by : TableKind → Overlay → Leaving → Overlay
+free_by kind o (At j p) = freed kind o j p
+free_by kind o Stays = o
 
 module _ (kind : TableKind) (o : Overlay) (key id : ℕ) where
-  removed-by : removedFrom kind o key id ≡ freeBy kind o (leavingIn o key id)
-  unfolding removedFrom leavingIn
-  removed-by = by (goesFrom o key id)
+  removed-by : removed_from kind o key id ≡ free_by kind o (leaving_in o key id)
+  unfolding removed_from leaving_in
+  removed-by = by (goes_from o key id)
     where
-      by : (b : Bool) → (if b then freed kind o (spotIn o key) (place_in o key) else o) ≡ freeBy kind o (if b then At (spotIn o key) (place_in o key) else Stays)
+      by : (b : Bool) → (if b then freed kind o (spot_in_of o key) (place_in o key) else o) ≡ free_by kind o (if b then At (spot_in_of o key) (place_in o key) else Stays)
       by true = refl
       by false = refl
 
-  pub gone-is : (j p : ℕ) → At j p ≡ leavingIn o key id → freed kind o j p ≡ removedFrom kind o key id
-  gone-is j p e = ap (freeBy kind o) e ∙ sym removed-by
+  pub gone-is : (j p : ℕ) → At j p ≡ leaving_in o key id → freed kind o j p ≡ removed_from kind o key id
+  gone-is j p e = ap (free_by kind o) e ∙ sym removed-by
 
-  pub left_is : Stays ≡ leavingIn o key id → o ≡ removedFrom kind o key id
-  left_is e = ap (freeBy kind o) e ∙ sym removed-by
+  pub left_is : Stays ≡ leaving_in o key id → o ≡ removed_from kind o key id
+  left_is e = ap (free_by kind o) e ∙ sym removed-by
 
   -- the code's stores, as they stand, are the removal
-  pub removal-is : (rows order bytes : List ℕ) (s : ℕ) → s ≡ slotSize kind → (j p : ℕ) → leavingIn o key id ≡ At j p
-      → rows ≡ rowMoved o.rows (o.count - 1) p → order ≡ renameAll (o.count - 1) (o.count - 1) p (cutOut j (o.count - 1) o.order) → bytes ≡ slotMoved s o.bytes (o.count - 1) p
-      → lists_of rows order bytes (o.count - 1) ≡ removedFrom kind o key id
+  pub removal_is : (rows order bytes : List ℕ) (s : ℕ) → s ≡ slot_size kind → (j p : ℕ) → leaving_in o key id ≡ At j p
+      → rows ≡ row_moved o.rows (o.count - 1) p → order ≡ rename_all (o.count - 1) (o.count - 1) p (cut_out j (o.count - 1) o.order) → bytes ≡ slot_moved s o.bytes (o.count - 1) p
+      → lists_of rows order bytes (o.count - 1) ≡ removed_from kind o key id
   unfolding freed
-  removal-is rows order bytes s size j p e r d b = rw (r, d, b, size) (gone-is j p (sym e))
+  removal_is rows order bytes s size j p e r d b = rw (r, d, b, size) (gone-is j p (sym e))
 
 -- a place in use, and the position of the order where it stands
 abbrev is_at : Leaving → Bool
 is_at (At j p) = true
 is_at Stays = false
 
-abbrev spotBy : Leaving → ℕ
-spotBy (At j p) = j
-spotBy Stays = 0
+abbrev spot_by : Leaving → ℕ
+spot_by (At j p) = j
+spot_by Stays = 0
 
-abbrev placeBy : Leaving → ℕ
-placeBy (At j p) = p
-placeBy Stays = 0
+abbrev place_by : Leaving → ℕ
+place_by (At j p) = p
+place_by Stays = 0
 
-module _ (kind : TableKind) (room : ℕ) (o : Overlay) (ok : overlayKept kind room o ≡ true) (key id : ℕ) where
+module _ (kind : TableKind) (room : ℕ) (o : Overlay) (ok : overlay_kept kind room o ≡ true) (key id : ℕ) where
   k : Kept kind room o
   k = shows kind room o ok
 
@@ -73,27 +73,27 @@ module _ (kind : TableKind) (room : ℕ) (o : Overlay) (ok : overlayKept kind ro
     pub spot-low : j < o.count
     pub place-low : p < o.count
     pub most : o.count ≤ room
-    pub slot : slotSize kind * (o.count - 1) + slotSize kind ≤ length o.bytes
+    pub slot : slot_size kind * (o.count - 1) + slot_size kind ≤ length o.bytes
 
-  pub leaves : (j p : ℕ) → leavingIn o key id ≡ At j p → Leaves j p
-  unfolding leavingIn goesFrom standsIn spotIn
-  leaves j p e = by (goesFrom o key id) refl
+  pub leaves : (j p : ℕ) → leaving_in o key id ≡ At j p → Leaves j p
+  unfolding leaving_in goes_from stands_in spot_in_of
+  leaves j p e = by (goes_from o key id) refl
     where
       plan : Bool → Leaving
-      plan b = if b then At (spotIn o key) (place_in o key) else Stays
+      plan b = if b then At (spot_in_of o key) (place_in o key) else Stays
 
-      by : (b : Bool) → goesFrom o key id ≡ b → Leaves j p
+      by : (b : Bool) → goes_from o key id ≡ b → Leaves j p
       by true h =
-          let there : standsIn o key ≡ true = left-of (standsIn o key) _ h in
-          let s : spotIn o key ≡ j = ap spotBy (sym (ap plan h) ∙ e) in
-          let q : place_in o key ≡ p = ap placeBy (sym (ap plan h) ∙ e) in
-          let low : spotIn o key < o.count = stands-in o key (spotIn o key) refl w there in
-          let used : place_in o key < o.count = subst (λ (i : ℕ). i < o.count) (sym (place-there o key (spotIn o key) refl there)) (place-in o key (spotIn o key) refl w k.in_order there) in
+          let there : stands_in o key ≡ true = left-of (stands_in o key) _ h in
+          let s : spot_in_of o key ≡ j = ap spot_by (sym (ap plan h) ∙ e) in
+          let q : place_in o key ≡ p = ap place_by (sym (ap plan h) ∙ e) in
+          let low : spot_in_of o key < o.count = stands_in_lem o key (spot_in_of o key) refl w there in
+          let used : place_in o key < o.count = subst (λ (i : ℕ). i < o.count) (sym (place-there o key (spot_in_of o key) refl there)) (place_in_lem o key (spot_in_of o key) refl w k.in_order there) in
           record {
             spot-low = omega (arith, s, low);
             place-low = omega (arith, q, used);
             most = k.fits;
-            slot = omega (arith, slot-in (slotSize kind) (o.count - 1) room (omega (arith, low, k.fits)), k.bytes-long);
+            slot = omega (arith, slot_in_lem (slot_size kind) (o.count - 1) room (omega (arith, low, k.fits)), k.bytes-long);
           }
       by false h =
           let z : true ≡ false = ap is_at (sym e ∙ ap plan h) in

@@ -1,6 +1,6 @@
 -- The rules of keys, in one pass over them. Assumes nothing.
 use mathlib.Core.Path.{◌≡◌, refl, sym, ap, ◌∙◌}
-use mathlib.Core.Bool.{Bool, true, false, ◌&&◌, and-false}
+use mathlib.Core.Bool.{Bool, true, false, ◌&&◌, and_false}
 use mathlib.Core.List.{List, [], ◌∷◌, map}
 use Prim.Native.Nat.{ℕ, ◌+◌, ◌*◌, ◌<◌, ◌≤◌}
 use native.Mathlib.Omega.{arith}
@@ -11,67 +11,67 @@ use Rattle.directory.specs.declared.table.TableKind.{TableKind}
 use Rattle.directory.specs.declared.table.TableKind.TheVariants.{Index, Value, RefCount}
 use Rattle.numbers.specs.Numbers.{above, ascends}
 use Rattle.numbers.proofs.Laws.{places-cons, places-end}
-use Rattle.keys.specs.Keys.{key_at, markAt, keys_of, every, allUnder, ruled}
-use Rattle.overlay.specs.Rules.{markRuled, rowRuled, keysRuled}
-use Rattle.overlay.specs.Inner.{mostMark, isWithin, followed}
+use Rattle.keys.specs.Keys.{key_at, mark_at, keys_of, every, all_under_of, ruled}
+use Rattle.overlay.specs.Rules.{mark_ruled, row_ruled, keys_ruled}
+use Rattle.overlay.specs.Inner.{most_mark, is_within, followed}
 
 -- a mask: any word but 0
-any-mask : (mark : ℕ) → mark ≤ 18446744073709551615 → leb 1 mark && leb mark 18446744073709551615 ≡ ltb 0 mark
-any-mask mark h = by (ltb 0 mark) refl
+any_mask : (mark : ℕ) → mark ≤ 18446744073709551615 → leb 1 mark && leb mark 18446744073709551615 ≡ ltb 0 mark
+any_mask mark h = by (ltb 0 mark) refl
   where
     by : (t : Bool) → ltb 0 mark ≡ t → leb 1 mark && leb mark 18446744073709551615 ≡ ltb 0 mark
     by true e = let k = ltb-true 0 mark e in rw (le-leb 1 mark (omega arith), le-leb mark 18446744073709551615 h)
     by false e = let k = ltb-false 0 mark e in rw (lt-leb 1 mark (omega arith))
 
-mark-same : (kind : TableKind) (mark : ℕ) → mark ≤ 18446744073709551615 → leb 1 mark && leb mark (mostMark kind) ≡ markRuled kind mark
-mark-same Index mark h = any-mask mark h
+mark-same : (kind : TableKind) (mark : ℕ) → mark ≤ 18446744073709551615 → leb 1 mark && leb mark (most_mark kind) ≡ mark_ruled kind mark
+mark-same Index mark h = any_mask mark h
 mark-same Value mark h = refl
-mark-same RefCount mark h = any-mask mark h
+mark-same RefCount mark h = any_mask mark h
 
 -- three rules of a place and of those behind it, as one pass meets them
 step : (u a r us vs rs f : Bool) → (us && vs) && rs ≡ f → ((u && us) && (a && vs)) && (r && rs) ≡ u && (r && (a && f))
 step false a r us vs rs f e = refl
-step true false r us vs rs f e = rw (and-false us, and-false r)
-step true true false us vs rs f e = and-false (us && vs)
+step true false r us vs rs f e = rw (and_false us, and_false r)
+step true true false us vs rs f e = and_false (us && vs)
 step true true true us vs rs f e = e
 
 start : (u r us vs rs f : Bool) → (us && vs) && rs ≡ f → ((u && us) && vs) && (r && rs) ≡ u && (r && f)
 start false r us vs rs f e = refl
-start true false us vs rs f e = and-false (us && vs)
+start true false us vs rs f e = and_false (us && vs)
 start true true us vs rs f e = e
 
 module _ (kind : TableKind) (rows : List ℕ) (words : (i : ℕ) → get_or rows i 0 ≤ 18446744073709551615) where
-  row_same : (p : ℕ) → isWithin (mostMark kind) (get_or rows (4 * p) 0) (markAt rows p) ≡ rowRuled kind rows p
-  unfolding rowRuled
-  row_same p = ap (λ (b : Bool). ltb (get_or rows (4 * p) 0) 65536 && b) (mark-same kind (markAt rows p) (words (4 * p + 3)))
+  row_same : (p : ℕ) → is_within (most_mark kind) (get_or rows (4 * p) 0) (mark_at rows p) ≡ row_ruled kind rows p
+  unfolding row_ruled
+  row_same p = ap (λ (b : Bool). ltb (get_or rows (4 * p) 0) 65536 && b) (mark-same kind (mark_at rows p) (words (4 * p + 3)))
 
-  behind : (n k : ℕ) (l : List ℕ) → (allUnder n l && above k (map (key_at rows) l)) && every (rowRuled kind rows) l ≡ followed (mostMark kind) rows n k l
+  behind : (n k : ℕ) (l : List ℕ) → (all_under_of n l && above k (map (key_at rows) l)) && every (row_ruled kind rows) l ≡ followed (most_mark kind) rows n k l
   behind n k [] = refl
   behind n k (p ∷ l) =
-      rw (row_same p) (step (ltb p n) (ltb k (key_at rows p)) (rowRuled kind rows p) _ _ _ _ (behind n (key_at rows p) l))
+      rw (row_same p) (step (ltb p n) (ltb k (key_at rows p)) (row_ruled kind rows p) _ _ _ _ (behind n (key_at rows p) l))
 
   -- all of them
   pub pass : (os : List ℕ) (n : ℕ) → n ≤ length os → 0 < n
-      → ruled rows os n && every (rowRuled kind rows) (take n os)
-      ≡ ltb (get_or os 0 0) n && (isWithin (mostMark kind) (get_or rows (4 * get_or os 0 0) 0) (markAt rows (get_or os 0 0))
-      && followed (mostMark kind) rows n (key_at rows (get_or os 0 0)) (drop 1 (take n os)))
+      → ruled rows os n && every (row_ruled kind rows) (take n os)
+      ≡ ltb (get_or os 0 0) n && (is_within (most_mark kind) (get_or rows (4 * get_or os 0 0) 0) (mark_at rows (get_or os 0 0))
+      && followed (most_mark kind) rows n (key_at rows (get_or os 0 0)) (drop 1 (take n os)))
   unfolding ruled keys_of
   pass os n k h =
       let p = get_or os 0 0 in
-      ap (λ (l : List ℕ). (allUnder n l && ascends (map (key_at rows) l)) && every (rowRuled kind rows) l) (places-cons os n k 0 h)
-      ∙ rw (row_same p) (start (ltb p n) (rowRuled kind rows p) _ _ _ _ (behind n (key_at rows p) (drop 1 (take n os))))
+      ap (λ (l : List ℕ). (all_under_of n l && ascends (map (key_at rows) l)) && every (row_ruled kind rows) l) (places-cons os n k 0 h)
+      ∙ rw (row_same p) (start (ltb p n) (row_ruled kind rows p) _ _ _ _ (behind n (key_at rows p) (drop 1 (take n os))))
 
   -- the rules whole, by a first place
   module _ (room : ℕ) (os : List ℕ) (n : ℕ) where
-    pub ruled-none : n ≡ 0 → keysRuled kind room rows os n ≡ true
-    unfolding keysRuled ruled keys_of
+    pub ruled-none : n ≡ 0 → keys_ruled kind room rows os n ≡ true
+    unfolding keys_ruled ruled keys_of
     ruled-none e = rw (e, le-leb 0 room (omega arith))
 
-    pub ruled-by : n ≤ room → n ≤ length os → 0 < n → (most : ℕ) → most ≡ mostMark kind
-        → keysRuled kind room rows os n
-        ≡ ltb (get_or os 0 0) n && (isWithin most (get_or rows (4 * get_or os 0 0) 0) (markAt rows (get_or os 0 0))
+    pub ruled-by : n ≤ room → n ≤ length os → 0 < n → (most : ℕ) → most ≡ most_mark kind
+        → keys_ruled kind room rows os n
+        ≡ ltb (get_or os 0 0) n && (is_within most (get_or rows (4 * get_or os 0 0) 0) (mark_at rows (get_or os 0 0))
         && followed most rows n (key_at rows (get_or os 0 0)) (drop 1 (take n os)))
-    unfolding keysRuled
+    unfolding keys_ruled
     ruled-by g k h most e = rw (le-leb n room g, e) (pass os n k h)
 
 -- a turn
@@ -80,17 +80,17 @@ module _ (most : ℕ) (rows os : List ℕ) (n k j : ℕ) (w : n ≤ length os) (
   q = get_or os j 0
 
   cons : followed most rows n k (drop j (take n os))
-      ≡ ltb q n && (isWithin most (get_or rows (4 * q) 0) (markAt rows q) && (ltb k (key_at rows q) && followed most rows n (key_at rows q) (drop (j + 1) (take n os))))
+      ≡ ltb q n && (is_within most (get_or rows (4 * q) 0) (mark_at rows q) && (ltb k (key_at rows q) && followed most rows n (key_at rows q) (drop (j + 1) (take n os))))
   cons = ap (followed most rows n k) (places-cons os n w j h)
 
   pub no_place : n ≤ q → followed most rows n k (drop j (take n os)) ≡ false
   no_place g = cons ∙ rw (le-ltb q n g)
 
   module _ (g : q < n) where
-    pub no_row : isWithin most (get_or rows (4 * q) 0) (markAt rows q) ≡ false → followed most rows n k (drop j (take n os)) ≡ false
+    pub no_row : is_within most (get_or rows (4 * q) 0) (mark_at rows q) ≡ false → followed most rows n k (drop j (take n os)) ≡ false
     no_row e = cons ∙ rw (lt-ltb q n g, e)
 
-    module _ (e : isWithin most (get_or rows (4 * q) 0) (markAt rows q) ≡ true) where
+    module _ (e : is_within most (get_or rows (4 * q) 0) (mark_at rows q) ≡ true) where
       pub no-rise : key_at rows q ≤ k → followed most rows n k (drop j (take n os)) ≡ false
       no-rise i = cons ∙ rw (lt-ltb q n g, e, le-ltb k (key_at rows q) i)
 

@@ -1,8 +1,8 @@
 // An entry taken out, if its id is the one given: any room.
 ghost use Rattle.std.specs.Prelude.{◌≡◌, true, ◌*◌, ◌<◌, ◌≤◌, length};
-ghost use Rattle.keys.specs.Keys.{rank, cutOut, renameAll};
-ghost use Rattle.overlay.specs.Rules.{rows_of, order_of, overlayKept, overlayOf};
-ghost use Rattle.overlay.specs.Overlay.{rowMoved, removedFrom};
+ghost use Rattle.keys.specs.Keys.{rank, cut_out, rename_all};
+ghost use Rattle.overlay.specs.Rules.{rows_of, order_of, overlay_kept, overlay_of};
+ghost use Rattle.overlay.specs.Overlay.{row_moved, removed_from};
 
 use super::place::{order_move, row_move, slot_move};
 use super::rules::slot_size;
@@ -12,7 +12,7 @@ use directory::TableKind;
 // The last row over row p, in the first part of the words.
 fn row_leave(room: usize, words: &mut [u64], last: usize, p: usize)
     requires { (length words.old ≡ 5 * room) × (p < room) × (last < room) }
-    ensures { (rows_of room words.new ≡ rowMoved (rows_of room words.old) last p)
+    ensures { (rows_of room words.new ≡ row_moved (rows_of room words.old) last p)
         × (order_of room words.new ≡ order_of room words.old) }
 {
     let cut = 4 * room;
@@ -23,7 +23,7 @@ fn row_leave(room: usize, words: &mut [u64], last: usize, p: usize)
 fn order_leave(room: usize, words: &mut [u64], j: usize, last: usize, p: usize)
     requires { (length words.old ≡ 5 * room) × (j ≤ last) × (last < room) }
     ensures { (rows_of room words.new ≡ rows_of room words.old)
-        × (order_of room words.new ≡ renameAll last last p (cutOut j last (order_of room words.old))) }
+        × (order_of room words.new ≡ rename_all last last p (cut_out j last (order_of room words.old))) }
 {
     let cut = 4 * room;
     order_move(&mut words[cut..], j, last, p);
@@ -40,9 +40,9 @@ pub fn remove(
     index: u64,
     id: u64,
 ) -> usize
-    requires { overlayKept kind room (overlayOf room words.old bytes.old n) ≡ true }
-    ensures { overlayOf room words.new bytes.new result
-        ≡ removedFrom kind (overlayOf room words.old bytes.old n) (rank table index) id }
+    requires { overlay_kept kind room (overlay_of room words.old bytes.old n) ≡ true }
+    ensures { overlay_of room words.new bytes.new result
+        ≡ removed_from kind (overlay_of room words.old bytes.old n) (rank table index) id }
 {
     match leaving_of(room, words, n, table as u64, index, id) {
         Leaving::Stays => n,

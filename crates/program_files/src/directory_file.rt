@@ -1,6 +1,6 @@
 // A directory's text, read from its file.
 ghost use Rattle.std.specs.Prelude.{◌≡◌, true};
-ghost use Rattle.directory.specs.Directory.{directoryKept};
+ghost use Rattle.directory.specs.Directory.{directory_kept};
 
 use super::fault::tell_fault;
 use super::message::tell;
@@ -19,7 +19,7 @@ pub struct Read {
 }
 
 fn refused() -> Read
-    ensures { result.good ≡ true → directoryKept result.directory ≡ true }
+    ensures { result.good ≡ true → directory_kept result.directory ≡ true }
 {
     Read {
         directory: Directory::new(),
@@ -28,7 +28,7 @@ fn refused() -> Read
 }
 
 fn read_text(who: &[u8], path: &[u8], text: &[u8]) -> Read
-    ensures { result.good ≡ true → directoryKept result.directory ≡ true }
+    ensures { result.good ≡ true → directory_kept result.directory ≡ true }
 {
     let parsed = directory_of(text);
     let fault = parsed.fault;
@@ -48,7 +48,7 @@ fn read_text(who: &[u8], path: &[u8], text: &[u8]) -> Read
 }
 
 pub fn read_directory(who: &[u8], path: &[u8], text: &mut [u8; TEXT_ROOM]) -> Read
-    ensures { result.good ≡ true → directoryKept result.directory ≡ true }
+    ensures { result.good ≡ true → directory_kept result.directory ≡ true }
 {
     let file = os::open_read(path);
     if file < 0 {

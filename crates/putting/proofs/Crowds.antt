@@ -9,47 +9,47 @@ use lib.ListN.{length, take, drop}
 use Rattle.directory.specs.declared.table.TableKind.{TableKind}
 use Rattle.directory.specs.declared.table.TableKind.TheVariants.{Index, Value, RefCount}
 use Rattle.keys.specs.Keys.{keys_of, news}
-use Rattle.keys.proofs.Rank.{ltb-same}
-use Rattle.overlay.specs.Rules.{Overlay, rows_of, order_of, overlayOf}
+use Rattle.keys.proofs.Rank.{ltb_same}
+use Rattle.overlay.specs.Rules.{Overlay, rows_of, order_of, overlay_of}
 use Rattle.overlay.proofs.Parts.{rest_part}
 use Rattle.overlay.proofs.Ruled.{keys-room}
-use Rattle.memory.specs.Parts.{Parts, span_of, count_of, part_of, ofKind}
+use Rattle.memory.specs.Parts.{Parts, span_of, count_of, part_of, of_kind}
 use Rattle.memory.specs.declared.counts.Counts.{Counts}
 use Rattle.memory.specs.declared.span.Holder.TheVariants as holder
 use Rattle.memory.specs.declared.span.Span.{Span}
 use Rattle.memory.proofs.Lent.{lent_of, lent_is}
-use Rattle.putting.specs.Listed.{keysHeld, passes, crowded}
+use Rattle.putting.specs.Listed.{keys_held, passes, crowded}
 use Rattle.putting.specs.Inner.{KeysIn}
-use Rattle.memory.proofs.OneKind.{shared-room}
+use Rattle.memory.proofs.OneKind.{shared_room}
 
 -- the two parts of each, lent at once
-pub lacking-as : (room : ℕ) (words : List ℕ) (n list-room : ℕ) (listed : List ℕ) (m : ℕ)
+pub lacking_as : (room : ℕ) (words : List ℕ) (n list-room : ℕ) (listed : List ℕ) (m : ℕ)
     → news (keys_of (rows_of room words) (take (length words - 4 * room) (drop (4 * room) words)) n) (keys_of (rows_of list-room listed) (take (length listed - 4 * list-room) (drop (4 * list-room) listed)) m)
-    ≡ news (keysHeld (overlayOf room words [] n)) (keysHeld (overlayOf list-room listed [] m))
-lacking-as room words n list-room listed m =
+    ≡ news (keys_held (overlay_of room words [] n)) (keys_held (overlay_of list-room listed [] m))
+lacking_as room words n list-room listed m =
     ap (λ (o : List ℕ). news (keys_of (rows_of room words) o n) (keys_of (rows_of list-room listed) (take (length listed - 4 * list-room) (drop (4 * list-room) listed)) m)) (rest_part (4 * room) words)
     ∙ ap (λ (o : List ℕ). news (keys_of (rows_of room words) (order_of room words) n) (keys_of (rows_of list-room listed) o m)) (rest_part (4 * list-room) listed)
 
 -- counted without a sum that could be too large
-passes-as : (n x y : ℕ) → x ≡ y → n ≤ 256 → ltb (256 - n) x ≡ ltb 256 (n + y)
-passes-as n x y e h = ltb-same (256 - n) x 256 (n + y) (λ r. omega (arith, e)) (λ r. omega (arith, e))
+passes_as : (n x y : ℕ) → x ≡ y → n ≤ 256 → ltb (256 - n) x ≡ ltb 256 (n + y)
+passes_as n x y e h = ltb_same (256 - n) x 256 (n + y) (λ r. omega (arith, e)) (λ r. omega (arith, e))
 
 module _ (kind : TableKind) (list counts : Counts) (list-words words : List ℕ) (k : KeysIn holder.Shared kind counts words) where
   few : count_of kind counts ≤ 256
-  few = subst (λ (r : ℕ). count_of kind counts ≤ r) (shared-room kind) (keys-room kind (span_of holder.Shared kind).room _ _ (count_of kind counts) k.ruled)
+  few = subst (λ (r : ℕ). count_of kind counts ≤ r) (shared_room kind) (keys-room kind (span_of holder.Shared kind).room _ _ (count_of kind counts) k.ruled)
 
-  pub few-shared : (n : ℕ) → n ≡ count_of kind counts → n ≤ 256
-  few-shared n e = omega (arith, few)
+  pub few_shared : (n : ℕ) → n ≡ count_of kind counts → n ≤ 256
+  few_shared n e = omega (arith, few)
 
-  pub crowd-as : (s : Span) → s ≡ span_of holder.Shared kind → (t : Span) → t ≡ span_of holder.List kind → (n : ℕ) → n ≡ count_of kind counts → (m : ℕ) → m ≡ count_of kind list
-      → (x : ℕ) → x ≡ news (keysHeld (lent_of s words [] n)) (keysHeld (lent_of t list-words [] m))
+  pub crowd_as : (s : Span) → s ≡ span_of holder.Shared kind → (t : Span) → t ≡ span_of holder.List kind → (n : ℕ) → n ≡ count_of kind counts → (m : ℕ) → m ≡ count_of kind list
+      → (x : ℕ) → x ≡ news (keys_held (lent_of s words [] n)) (keys_held (lent_of t list-words [] m))
       → ltb (256 - n) x ≡ passes (part_of holder.List kind list list-words []) (part_of holder.Shared kind counts words [])
   unfolding passes
-  crowd-as s e t f n g m h x i =
+  crowd_as s e t f n g m h x i =
       ap (λ (n : ℕ). ltb (256 - n) x) g
-      ∙ passes-as (count_of kind counts) x _
-      (i ∙ ap (λ (o : Overlay). news (keysHeld o) (keysHeld (lent_of t list-words [] m))) (lent_is holder.Shared kind counts words [] s e n g)
-      ∙ ap (λ (o : Overlay). news (keysHeld (part_of holder.Shared kind counts words [])) (keysHeld o)) (lent_is holder.List kind list list-words [] t f m h)) few
+      ∙ passes_as (count_of kind counts) x _
+      (i ∙ ap (λ (o : Overlay). news (keys_held o) (keys_held (lent_of t list-words [] m))) (lent_is holder.Shared kind counts words [] s e n g)
+      ∙ ap (λ (o : Overlay). news (keys_held (part_of holder.Shared kind counts words [])) (keys_held o)) (lent_is holder.List kind list list-words [] t f m h)) few
 
 -- a test a kind
 module _ (list shared : Parts) where
@@ -61,7 +61,7 @@ module _ (list shared : Parts) where
   unfolding crowded
   crowded-value d e = rw (← d, ← e)
 
-  pub crowded-last : false ≡ passes list.index shared.index → false ≡ passes list.value shared.value → (b : Bool) → b ≡ passes list.refCount shared.refCount → b ≡ crowded list shared
+  pub crowded-last : false ≡ passes list.index shared.index → false ≡ passes list.value shared.value → (b : Bool) → b ≡ passes list.ref_count shared.ref_count → b ≡ crowded list shared
   unfolding crowded
   crowded-last d e b f = rw (← d, ← e) f
 
@@ -71,7 +71,7 @@ neither false true e = let z : ◌≡◌ {A = ℕ} 0 1 = cc in absurd (omega ari
 neither true b e = let z : ◌≡◌ {A = ℕ} 0 1 = cc in absurd (omega arith)
 
 -- where none is crowded, each has room
-pub each_free : (kind : TableKind) (list shared : Parts) → crowded list shared ≡ false → passes (ofKind kind list) (ofKind kind shared) ≡ false
+pub each_free : (kind : TableKind) (list shared : Parts) → crowded list shared ≡ false → passes (of_kind kind list) (of_kind kind shared) ≡ false
 unfolding crowded
 each_free Index list shared e = (neither (passes list.index shared.index) _ e).0
 each_free Value list shared e = (neither (passes list.value shared.value) _ (neither (passes list.index shared.index) _ e).1).0

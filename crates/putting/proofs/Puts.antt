@@ -12,23 +12,23 @@ use Rattle.words.specs.Choice.{if◌then◌else◌}
 use Rattle.directory.specs.declared.table.TableKind.{TableKind}
 use Rattle.numbers.proofs.Laws.{places-cons, places-end}
 use Rattle.numbers.specs.Numbers.{spot, has}
-use Rattle.keys.specs.Keys.{key_at, markAt, keys_of, news}
-use Rattle.overlay.specs.Rules.{Overlay, overlayKept, overlayOf}
-use Rattle.overlay.specs.Overlay.{spotIn, standsIn, put_over}
-use Rattle.overlay.specs.Entries.{Entry, entriesOf, findEntry}
+use Rattle.keys.specs.Keys.{key_at, mark_at, keys_of, news}
+use Rattle.overlay.specs.Rules.{Overlay, overlay_kept, overlay_of}
+use Rattle.overlay.specs.Overlay.{spot_in_of, stands_in, put_over}
+use Rattle.overlay.specs.Entries.{Entry, entries_of, find_entry}
 use Rattle.overlay.proofs.Entries.{key_of}
-use Rattle.overlay.proofs.Lookups.{findEntry-there, findEntry-none}
-use Rattle.overlay.proofs.Memory.{keys-are}
-use Rattle.overlay.proofs.Puts.{put-kept, findEntry-after-put}
+use Rattle.overlay.proofs.Lookups.{find_entry-there, find_entry-none}
+use Rattle.overlay.proofs.Memory.{keys_are}
+use Rattle.overlay.proofs.Puts.{put-kept, find_entry-after-put}
 use Rattle.overlay.proofs.Ruled.{Kept, shows}
-use Rattle.memory.specs.Parts.{Parts, span_of, ofKind, withKind, partsKept, Takes}
+use Rattle.memory.specs.Parts.{Parts, span_of, of_kind, with_kind, parts_kept, Takes}
 use Rattle.memory.specs.declared.span.Holder.TheVariants as holder
-use Rattle.memory.proofs.Spans.{with-kept}
-use Rattle.putting.specs.Listed.{keysHeld, passes, stored_at, putPlace, putPlaces, listedEntry}
-use Rattle.putting.specs.Inner.{row_at, placePut, listPut, RowGoes, KindGoes}
+use Rattle.memory.proofs.Spans.{with_kept}
+use Rattle.putting.specs.Listed.{keys_held, passes, stored_at, put_place, put_places, listed_entry}
+use Rattle.putting.specs.Inner.{row_at, place_put, list_put, RowGoes, KindGoes}
 use Rattle.putting.specs.declared.place.ListedRow.{ListedRow}
 use Rattle.change.proofs.Listed.{Placed, placed}
-use Rattle.memory.proofs.OneKind.{of-with, with-with, with-of, kind-kept, shared-room}
+use Rattle.memory.proofs.OneKind.{of_with, with_with, with_of, kind-kept, shared_room}
 use Rattle.putting.proofs.Places.{order-word, order-holds, bytes-long, bytes_fit, table-small, row_goes, row_put}
 
 -- whether a lookup finds something
@@ -36,11 +36,11 @@ abbrev pub is_some : Option Entry → Bool
 is_some none = false
 is_some (some e) = true
 
-pub has-found : (k : ℕ) (l : List Entry) → has k (map key_of l) ≡ is_some (findEntry k l)
+pub has-found : (k : ℕ) (l : List Entry) → has k (map key_of l) ≡ is_some (find_entry k l)
 has-found k [] = refl
 has-found k (a ∷ l) = by (eqb a.key k) (has-found k l)
   where
-    by : (b : Bool) → has k (map key_of l) ≡ is_some (findEntry k l) → (if b then true else has k (map key_of l)) ≡ is_some (if b then some a else findEntry k l)
+    by : (b : Bool) → has k (map key_of l) ≡ is_some (find_entry k l) → (if b then true else has k (map key_of l)) ≡ is_some (if b then some a else find_entry k l)
     by true ih = refl
     by false ih = ih
 
@@ -67,8 +67,8 @@ counted k s t l n m e f = by (has k s) e
 
 -- the shared ones keep their rules, and the keys in the places left have room
 pub record Going (kind : TableKind) (rows ps : List ℕ) (o : Overlay) : Type 0 where
-  pub kept : overlayKept kind (span_of holder.Shared kind).room o ≡ true
-  pub room : o.count + news (keysHeld o) (map (key_at rows) ps) ≤ 256
+  pub kept : overlay_kept kind (span_of holder.Shared kind).room o ≡ true
+  pub room : o.count + news (keys_held o) (map (key_at rows) ps) ≤ 256
 
 module _ (kind : TableKind) (list : Overlay) (ps : List ℕ) (p : ℕ) (o : Overlay) (g : Going kind list.rows (p ∷ ps) o) where
   abbrev key : ℕ
@@ -80,117 +80,117 @@ module _ (kind : TableKind) (list : Overlay) (ps : List ℕ) (p : ℕ) (o : Over
   w : o.count ≤ length o.order
   w = omega (arith, k.fits, k.order-long)
 
-  has-as : has key (keysHeld o) ≡ is_some (findEntry key (entriesOf kind o))
-  has-as = ap (has key) (sym (keys-are kind o)) ∙ has-found key (entriesOf kind o)
+  has_as : has key (keys_held o) ≡ is_some (find_entry key (entries_of kind o))
+  has_as = ap (has key) (sym (keys_are kind o)) ∙ has-found key (entries_of kind o)
 
-  stands-has : standsIn o key ≡ has key (keysHeld o)
-  unfolding standsIn spotIn
-  stands-has = by (standsIn o key) refl
+  stands-has : stands_in o key ≡ has key (keys_held o)
+  unfolding stands_in spot_in_of
+  stands-has = by (stands_in o key) refl
     where
-      by : (b : Bool) → standsIn o key ≡ b → standsIn o key ≡ has key (keysHeld o)
-      by true h = h ∙ sym (has-as ∙ ap is_some (findEntry-there kind o w key (spot key (keysHeld o)) refl h))
-      by false h = h ∙ sym (has-as ∙ ap is_some (findEntry-none kind o w key (spot key (keysHeld o)) refl k.in_order h))
+      by : (b : Bool) → stands_in o key ≡ b → stands_in o key ≡ has key (keys_held o)
+      by true h = h ∙ sym (has_as ∙ ap is_some (find_entry-there kind o w key (spot key (keys_held o)) refl h))
+      by false h = h ∙ sym (has_as ∙ ap is_some (find_entry-none kind o w key (spot key (keys_held o)) refl k.in_order h))
 
-  pub finds-room : standsIn o key ≡ false → o.count < (span_of holder.Shared kind).room
-  finds-room h =
-      let n : has key (keysHeld o) ≡ false = sym stands-has ∙ h in
-      rw (shared-room kind) (omega (arith, rw n at g.room))
+  pub finds_room : stands_in o key ≡ false → o.count < (span_of holder.Shared kind).room
+  finds_room h =
+      let n : has key (keys_held o) ≡ false = sym stands-has ∙ h in
+      rw (shared_room kind) (omega (arith, rw n at g.room))
 
   module _ (id room : ℕ) (ready : Placed kind room list p) where
     -- a lookup finds the list's entry under its key, with its own mask
-    pub found-placed : (x : ℕ) → findEntry x (entriesOf kind (putPlace kind id list p o)) ≡ (if eqb key x then some (listedEntry kind id list p) else findEntry x (entriesOf kind o))
-    unfolding putPlace
+    pub found-placed : (x : ℕ) → find_entry x (entries_of kind (put_place kind id list p o)) ≡ (if eqb key x then some (listed_entry kind id list p) else find_entry x (entries_of kind o))
+    unfolding put_place
     found-placed =
-        findEntry-after-put kind (span_of holder.Shared kind).room o g.kept (get_or list.rows (4 * p) 0) (get_or list.rows (4 * p + 1) 0) id (markAt list.rows p) (stored_at kind list p) (bytes_fit kind room list p ready) finds-room (bytes-long kind room list p ready)
+        find_entry-after-put kind (span_of holder.Shared kind).room o g.kept (get_or list.rows (4 * p) 0) (get_or list.rows (4 * p + 1) 0) id (mark_at list.rows p) (stored_at kind list p) (bytes_fit kind room list p ready) finds_room (bytes-long kind room list p ready)
 
-    still : (x : ℕ) → has x (keysHeld o) ≡ true → has x (keysHeld (putPlace kind id list p o)) ≡ true
+    still : (x : ℕ) → has x (keys_held o) ≡ true → has x (keys_held (put_place kind id list p o)) ≡ true
     still x h =
-        ap (has x) (sym (keys-are kind (putPlace kind id list p o))) ∙ has-found x (entriesOf kind (putPlace kind id list p o)) ∙ ap is_some (found-placed x)
-        ∙ by (eqb key x) (sym (ap (has x) (sym (keys-are kind o)) ∙ has-found x (entriesOf kind o)) ∙ h)
+        ap (has x) (sym (keys_are kind (put_place kind id list p o))) ∙ has-found x (entries_of kind (put_place kind id list p o)) ∙ ap is_some (found-placed x)
+        ∙ by (eqb key x) (sym (ap (has x) (sym (keys_are kind o)) ∙ has-found x (entries_of kind o)) ∙ h)
       where
-        by : (b : Bool) → is_some (findEntry x (entriesOf kind o)) ≡ true → is_some (if b then some (listedEntry kind id list p) else findEntry x (entriesOf kind o)) ≡ true
+        by : (b : Bool) → is_some (find_entry x (entries_of kind o)) ≡ true → is_some (if b then some (listed_entry kind id list p) else find_entry x (entries_of kind o)) ≡ true
         by true q = refl
         by false q = q
 
-    count-as : (putPlace kind id list p o).count ≡ (if has key (keysHeld o) then o.count else o.count + 1)
-    unfolding putPlace put_over
-    count-as = ap (λ (b : Bool). if b then o.count else o.count + 1) stands-has
+    count_as : (put_place kind id list p o).count ≡ (if has key (keys_held o) then o.count else o.count + 1)
+    unfolding put_place put_over
+    count_as = ap (λ (b : Bool). if b then o.count else o.count + 1) stands-has
 
-    kept_on : overlayKept kind (span_of holder.Shared kind).room (putPlace kind id list p o) ≡ true
-    unfolding putPlace
+    kept_on : overlay_kept kind (span_of holder.Shared kind).room (put_place kind id list p o) ≡ true
+    unfolding put_place
     kept_on =
-        put-kept kind (span_of holder.Shared kind).room o g.kept (get_or list.rows (4 * p) 0) (get_or list.rows (4 * p + 1) 0) id (markAt list.rows p) (stored_at kind list p) (bytes_fit kind room list p ready) finds-room ready.small ready.mark
+        put-kept kind (span_of holder.Shared kind).room o g.kept (get_or list.rows (4 * p) 0) (get_or list.rows (4 * p + 1) 0) id (mark_at list.rows p) (stored_at kind list p) (bytes_fit kind room list p ready) finds_room ready.small ready.mark
 
-    pub goes_on : Going kind list.rows ps (putPlace kind id list p o)
+    pub goes_on : Going kind list.rows ps (put_place kind id list p o)
     goes_on = record {
       kept = kept_on;
-      room = omega (arith, g.room, counted key (keysHeld o) (keysHeld (putPlace kind id list p o)) (map (key_at list.rows) ps) o.count (putPlace kind id list p o).count count-as still);
+      room = omega (arith, g.room, counted key (keys_held o) (keys_held (put_place kind id list p o)) (map (key_at list.rows) ps) o.count (put_place kind id list p o).count count_as still);
     }
 
 -- at the start, where they don't pass 256
-pub going-first : (kind : TableKind) (list o : Overlay) → overlayKept kind (span_of holder.Shared kind).room o ≡ true → passes list o ≡ false → Going kind list.rows (take list.count list.order) o
+pub going-first : (kind : TableKind) (list o : Overlay) → overlay_kept kind (span_of holder.Shared kind).room o ≡ true → passes list o ≡ false → Going kind list.rows (take list.count list.order) o
 unfolding keys_of passes
-going-first kind list o ok free = record { kept = ok; room = ltb-false 256 (o.count + news (keysHeld o) (keysHeld list)) free }
+going-first kind list o ok free = record { kept = ok; room = ltb-false 256 (o.count + news (keys_held o) (keys_held list)) free }
 
 -- from the i-th of the order on: what is left to put, over what is there, is the whole
 pub record Left (kind : TableKind) (id : ℕ) (list : Overlay) (i : ℕ) (shared whole : Parts) : Type 0 where
-  pub kept : partsKept holder.Shared shared ≡ true
-  pub going : Going kind list.rows (drop i (take list.count list.order)) (ofKind kind shared)
-  pub rest : withKind kind shared (putPlaces kind id list (drop i (take list.count list.order)) (ofKind kind shared)) ≡ whole
+  pub kept : parts_kept holder.Shared shared ≡ true
+  pub going : Going kind list.rows (drop i (take list.count list.order)) (of_kind kind shared)
+  pub rest : with_kind kind shared (put_places kind id list (drop i (take list.count list.order)) (of_kind kind shared)) ≡ whole
 
 module _ (kind : TableKind) (id : ℕ) (list : Overlay) where
-  pub left-first : (room : ℕ) (shared : Parts) → KindGoes kind room list shared → Left kind id list 0 shared (listPut kind id list shared)
-  unfolding listPut
-  left-first room shared g = record { kept = g.kept; going = going-first kind list (ofKind kind shared) (kind-kept holder.Shared kind shared g.kept) g.free; rest = refl }
+  pub left-first : (room : ℕ) (shared : Parts) → KindGoes kind room list shared → Left kind id list 0 shared (list_put kind id list shared)
+  unfolding list_put
+  left-first room shared g = record { kept = g.kept; going = going-first kind list (of_kind kind shared) (kind-kept holder.Shared kind shared g.kept) g.free; rest = refl }
 
-  module _ (room : ℕ) (ok : overlayKept kind room list ≡ true) (i : ℕ) (shared whole : Parts) (t : Left kind id list i shared whole) where
+  module _ (room : ℕ) (ok : overlay_kept kind room list ≡ true) (i : ℕ) (shared whole : Parts) (t : Left kind id list i shared whole) where
     pub left-done : list.count ≤ i → shared ≡ whole
-    unfolding putPlaces
+    unfolding put_places
     left-done h =
-        sym (with-of kind shared)
-        ∙ sym (ap (λ (ps : List ℕ). withKind kind shared (putPlaces kind id list ps (ofKind kind shared))) (places-end list.order list.count (order-holds kind room list ok) i h))
+        sym (with_of kind shared)
+        ∙ sym (ap (λ (ps : List ℕ). with_kind kind shared (put_places kind id list ps (of_kind kind shared))) (places-end list.order list.count (order-holds kind room list ok) i h))
         ∙ t.rest
 
     module _ (h : i < list.count) where
-      here : Going kind list.rows (get_or list.order i 0 ∷ drop (i + 1) (take list.count list.order)) (ofKind kind shared)
+      here : Going kind list.rows (get_or list.order i 0 ∷ drop (i + 1) (take list.count list.order)) (of_kind kind shared)
       here = rw (places-cons list.order list.count (order-holds kind room list ok) i h) at t.going
 
       -- its place, as the code reads it
       module _ (p : ℕ) (is : p ≡ get_or list.order i 0) where
-        at_p : Going kind list.rows (p ∷ drop (i + 1) (take list.count list.order)) (ofKind kind shared)
+        at_p : Going kind list.rows (p ∷ drop (i + 1) (take list.count list.order)) (of_kind kind shared)
         at_p = rw is here
 
         pub left-ready : Placed kind room list p
         left-ready = rw is (placed kind room list ok i h)
 
         pub left-takes : Takes holder.Shared kind shared (key_at list.rows p)
-        left-takes = finds-room kind list (drop (i + 1) (take list.count list.order)) p (ofKind kind shared) at_p
+        left-takes = finds_room kind list (drop (i + 1) (take list.count list.order)) p (of_kind kind shared) at_p
 
-        goes : Going kind list.rows (drop (i + 1) (take list.count list.order)) (putPlace kind id list p (ofKind kind shared))
-        goes = goes_on kind list (drop (i + 1) (take list.count list.order)) p (ofKind kind shared) at_p id room left-ready
+        goes : Going kind list.rows (drop (i + 1) (take list.count list.order)) (put_place kind id list p (of_kind kind shared))
+        goes = goes_on kind list (drop (i + 1) (take list.count list.order)) p (of_kind kind shared) at_p id room left-ready
 
-        pub left-next : (q : Parts) → q ≡ withKind kind shared (putPlace kind id list p (ofKind kind shared)) → Left kind id list (i + 1) q whole
-        unfolding putPlaces
+        pub left-next : (q : Parts) → q ≡ with_kind kind shared (put_place kind id list p (of_kind kind shared)) → Left kind id list (i + 1) q whole
+        unfolding put_places
         left-next q e =
-            let o = putPlace kind id list p (ofKind kind shared) in
+            let o = put_place kind id list p (of_kind kind shared) in
             let ps = drop (i + 1) (take list.count list.order) in
             rw e
             (record {
-              kept = with-kept holder.Shared shared t.kept kind o goes.kept;
-              going = subst (λ (x : Overlay). Going kind list.rows ps x) (sym (of-with kind shared o)) goes;
+              kept = with_kept holder.Shared shared t.kept kind o goes.kept;
+              going = subst (λ (x : Overlay). Going kind list.rows ps x) (sym (of_with kind shared o)) goes;
               rest =
-                  with-with kind shared o (putPlaces kind id list ps (ofKind kind (withKind kind shared o)))
-                  ∙ ap (λ (x : Overlay). withKind kind shared (putPlaces kind id list ps x)) (of-with kind shared o)
-                  ∙ ap (λ (k : ℕ). withKind kind shared (putPlaces kind id list (k ∷ ps) (ofKind kind shared))) is
-                  ∙ sym (ap (λ (qs : List ℕ). withKind kind shared (putPlaces kind id list qs (ofKind kind shared))) (places-cons list.order list.count (order-holds kind room list ok) i h))
+                  with_with kind shared o (put_places kind id list ps (of_kind kind (with_kind kind shared o)))
+                  ∙ ap (λ (x : Overlay). with_kind kind shared (put_places kind id list ps x)) (of_with kind shared o)
+                  ∙ ap (λ (k : ℕ). with_kind kind shared (put_places kind id list (k ∷ ps) (of_kind kind shared))) is
+                  ∙ sym (ap (λ (qs : List ℕ). with_kind kind shared (put_places kind id list qs (of_kind kind shared))) (places-cons list.order list.count (order-holds kind room list ok) i h))
                   ∙ t.rest;
             })
 
 -- a turn of the code: the place it reads, the row, the put
-module _ (kind : TableKind) (id room : ℕ) (words bytes : List ℕ) (n : ℕ) (ok : overlayKept kind room (overlayOf room words bytes n) ≡ true) (i : ℕ) (shared whole : Parts)
-    (t : Left kind id (overlayOf room words bytes n) i shared whole) (h : i < n) where
+module _ (kind : TableKind) (id room : ℕ) (words bytes : List ℕ) (n : ℕ) (ok : overlay_kept kind room (overlay_of room words bytes n) ≡ true) (i : ℕ) (shared whole : Parts)
+    (t : Left kind id (overlay_of room words bytes n) i shared whole) (h : i < n) where
   abbrev list : Overlay
-  list = overlayOf room words bytes n
+  list = overlay_of room words bytes n
 
   abbrev p : ℕ
   p = get_or words (4 * room + i) 0
@@ -210,6 +210,6 @@ module _ (kind : TableKind) (id room : ℕ) (words bytes : List ℕ) (n : ℕ) (
   pub turn-goes : (row : ListedRow) → row ≡ row_at words p → RowGoes holder.Shared kind row bytes p shared
   turn-goes row e = rw e (row_goes kind room words bytes n p ready holder.Shared shared t.kept (left-takes kind id list room ok i shared whole t h p is))
 
-  pub turn-next : (row : ListedRow) → row ≡ row_at words p → (q : Parts) → q ≡ placePut kind id row bytes p shared → Left kind id list (i + 1) q whole
+  pub turn-next : (row : ListedRow) → row ≡ row_at words p → (q : Parts) → q ≡ place_put kind id row bytes p shared → Left kind id list (i + 1) q whole
   turn-next row e q f =
-      left-next kind id list room ok i shared whole t h p is q (f ∙ ap (λ (r : ListedRow). placePut kind id r bytes p shared) e ∙ row_put kind room words bytes n p ready id shared)
+      left-next kind id list room ok i shared whole t h p is q (f ∙ ap (λ (r : ListedRow). place_put kind id r bytes p shared) e ∙ row_put kind room words bytes n p ready id shared)

@@ -1,11 +1,11 @@
 // Whether shared and listed keys together pass the room of the shared ones.
 ghost use Rattle.std.specs.Prelude.{◌≡◌, true, [], ◌*◌, ◌≤◌, length};
 ghost use Rattle.keys.specs.Keys.{ruled, news};
-ghost use Rattle.overlay.specs.Rules.{rows_of, order_of, overlayOf};
+ghost use Rattle.overlay.specs.Rules.{rows_of, order_of, overlay_of};
 ghost use Rattle.directory.specs.declared.table.TableKind.{TableKind};
 ghost use Rattle.memory.specs.Parts.{part_of, parts_of};
 ghost use Rattle.memory.specs.declared.span.Holder.TheVariants.{Shared, List};
-ghost use Rattle.putting.specs.Listed.{keysHeld, passes, crowded};
+ghost use Rattle.putting.specs.Listed.{keys_held, passes, crowded};
 ghost use Rattle.putting.specs.Inner.{KeysIn};
 
 use directory::TableKind;
@@ -22,7 +22,7 @@ fn lacking<'a>(
 ) -> usize
     requires words_len { (length words.now ≡ 5 * room) × (n ≤ room) × (ruled (rows_of room words.now) (order_of room words.now) n ≡ true) }
     requires listed_len { (length listed.now ≡ 5 * list_room) × (m ≤ list_room) × (ruled (rows_of list_room listed.now) (order_of list_room listed.now) m ≡ true) }
-    ensures { result ≡ news (keysHeld (overlayOf room words.now [] n)) (keysHeld (overlayOf list_room listed.now [] m)) }
+    ensures { result ≡ news (keys_held (overlay_of room words.now [] n)) (keys_held (overlay_of list_room listed.now [] m)) }
 {
     let cut = 4 * room;
     let list_cut = 4 * list_room;

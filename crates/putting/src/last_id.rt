@@ -1,18 +1,18 @@
 // The columns' last ids, which only values set: log.rs line 879.
 ghost use Rattle.std.specs.Prelude.{◌≡◌, true, [], ◌*◌, ◌≤◌, length, set};
-ghost use Rattle.directory.specs.Directory.{findTable};
+ghost use Rattle.directory.specs.Directory.{find_table};
 ghost use Rattle.directory.specs.declared.table.TableKind.TheVariants.{Value};
-ghost use Rattle.overlay.specs.Rules.{rows_of, order_of, keysRuled, overlayOf};
+ghost use Rattle.overlay.specs.Rules.{rows_of, order_of, keys_ruled, overlay_of};
 ghost use Rattle.memory.specs.Parts.{part_of};
 ghost use Rattle.memory.specs.declared.span.Holder.TheVariants.{List};
-ghost use Rattle.putting.specs.Listed.{columnOf, lastIdsPut};
-ghost use Rattle.putting.specs.Inner.{KeysIn, withLastIds};
+ghost use Rattle.putting.specs.Listed.{column_of, last_ids_put};
+ghost use Rattle.putting.specs.Inner.{KeysIn, with_last_ids};
 
 use directory::{Directory, Found, TableKind};
 use memory::{Counts, Holder, LogOverlays};
 
 fn column_of(directory: Directory, table: u16) -> u8
-    ensures { result ≡ columnOf (findTable directory Value table) }
+    ensures { result ≡ column_of (find_table directory Value table) }
 {
     match directory.find(TableKind::Value, table) {
         Found::At(_, t) => t.column,
@@ -21,7 +21,7 @@ fn column_of(directory: Directory, table: u16) -> u8
 }
 
 fn with_last_id(overlays: LogOverlays, column: u8, id: u64) -> LogOverlays
-    ensures { result ≡ withLastIds overlays (set overlays.last_record_ids column id) }
+    ensures { result ≡ with_last_ids overlays (set overlays.last_record_ids column id) }
 {
     let c = column as usize;
     let mut o = overlays;
@@ -41,8 +41,8 @@ fn last_ids(
     listed: &[u64],
     n: usize,
 ) -> LogOverlays
-    requires { (length listed.now ≡ 5 * room) × (room ≤ 256) × (keysRuled Value room (rows_of room listed.now) (order_of room listed.now) n ≡ true) }
-    ensures { result ≡ withLastIds overlays (lastIdsPut directory id (overlayOf room listed.now [] n) overlays.last_record_ids) }
+    requires { (length listed.now ≡ 5 * room) × (room ≤ 256) × (keys_ruled Value room (rows_of room listed.now) (order_of room listed.now) n ≡ true) }
+    ensures { result ≡ with_last_ids overlays (last_ids_put directory id (overlay_of room listed.now [] n) overlays.last_record_ids) }
 {
     let cut = 4 * room;
     let mut o = overlays;
@@ -65,7 +65,7 @@ pub(crate) fn set_last_ids(
     list_words: &[u64],
 ) -> LogOverlays
     requires { KeysIn List Value list list_words.now }
-    ensures { result ≡ withLastIds overlays (lastIdsPut directory id (part_of List Value list list_words.now []) overlays.last_record_ids) }
+    ensures { result ≡ with_last_ids overlays (last_ids_put directory id (part_of List Value list list_words.now []) overlays.last_record_ids) }
 {
     let s = memory::span_of(Holder::List, TableKind::Value);
     let a = s.words_at;

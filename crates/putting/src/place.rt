@@ -1,8 +1,8 @@
 // The entries of one kind of a list, put over the shared ones: log.rs lines 874, 880 and 885.
 ghost use Rattle.std.specs.Prelude.{◌≡◌, ◌+◌, ◌*◌, ◌<◌, ◌≤◌, length, get_or};
-ghost use Rattle.overlay.specs.Rules.{overlayOf};
+ghost use Rattle.overlay.specs.Rules.{overlay_of};
 ghost use Rattle.memory.specs.declared.span.Holder.TheVariants.{Shared};
-ghost use Rattle.putting.specs.Inner.{parts_at, row_at, placePut, listPut, RowGoes, KindGoes};
+ghost use Rattle.putting.specs.Inner.{parts_at, row_at, place_put, list_put, RowGoes, KindGoes};
 
 use directory::TableKind;
 use memory::{Counts, Holder};
@@ -40,7 +40,7 @@ fn put_place(
 ) -> Counts
     requires { RowGoes holder kind row stored.now p (parts_at holder counts words.old bytes.old) }
     ensures { parts_at holder result words.new bytes.new
-        ≡ placePut kind id row stored.now p (parts_at holder counts words.old bytes.old) }
+        ≡ place_put kind id row stored.now p (parts_at holder counts words.old bytes.old) }
 {
     let from = overlay::slot_size(kind) * p;
     let to = from + overlay::stored_length(kind, row.mark);
@@ -70,9 +70,9 @@ pub(crate) fn put_listed<'a>(
     stored: &'a [u8],
     n: usize,
 ) -> Counts
-    requires { KindGoes kind room (overlayOf room listed.now stored.now n) (parts_at Shared counts words.old bytes.old) }
+    requires { KindGoes kind room (overlay_of room listed.now stored.now n) (parts_at Shared counts words.old bytes.old) }
     ensures { parts_at Shared result words.new bytes.new
-        ≡ listPut kind id (overlayOf room listed.now stored.now n) (parts_at Shared counts words.old bytes.old) }
+        ≡ list_put kind id (overlay_of room listed.now stored.now n) (parts_at Shared counts words.old bytes.old) }
 {
     let cut = 4 * room;
     let mut m = counts;

@@ -1,9 +1,9 @@
 // All entries of a list, over the shared ones.
 ghost use Rattle.std.specs.Prelude.{◌≡◌, true, false};
-ghost use Rattle.memory.specs.Parts.{partsKept};
+ghost use Rattle.memory.specs.Parts.{parts_kept};
 ghost use Rattle.memory.specs.declared.span.Holder.TheVariants.{Shared, List};
-ghost use Rattle.putting.specs.Listed.{crowded, putKind, overlaysPut};
-ghost use Rattle.putting.specs.Inner.{parts_at, overlaysAt, ListGoes};
+ghost use Rattle.putting.specs.Listed.{crowded, put_kind, overlays_put};
+ghost use Rattle.putting.specs.Inner.{parts_at, overlays_at, ListGoes};
 
 use super::last_id::set_last_ids;
 use super::place::put_listed;
@@ -23,7 +23,7 @@ fn put_kind<'a>(
 ) -> Counts
     requires { ListGoes kind (parts_at List list list_words.now list_bytes.now) (parts_at Shared counts words.old bytes.old) }
     ensures { parts_at Shared result words.new bytes.new
-        ≡ putKind kind id (parts_at List list list_words.now list_bytes.now) (parts_at Shared counts words.old bytes.old) }
+        ≡ put_kind kind id (parts_at List list list_words.now list_bytes.now) (parts_at Shared counts words.old bytes.old) }
 {
     let s = memory::span_of(Holder::List, kind);
     let a = s.words_at;
@@ -54,11 +54,11 @@ pub fn put_list<'a>(
     words: &mut [u64],
     bytes: &mut [u8],
 ) -> LogOverlays
-    requires { (partsKept List (parts_at List list list_words.now list_bytes.now) ≡ true)
-        × (partsKept Shared (parts_at Shared overlays.counts words.old bytes.old) ≡ true)
+    requires { (parts_kept List (parts_at List list list_words.now list_bytes.now) ≡ true)
+        × (parts_kept Shared (parts_at Shared overlays.counts words.old bytes.old) ≡ true)
         × (crowded (parts_at List list list_words.now list_bytes.now) (parts_at Shared overlays.counts words.old bytes.old) ≡ false) }
-    ensures { overlaysAt result words.new bytes.new
-        ≡ overlaysPut directory id (parts_at List list list_words.now list_bytes.now) (overlaysAt overlays words.old bytes.old) }
+    ensures { overlays_at result words.new bytes.new
+        ≡ overlays_put directory id (parts_at List list list_words.now list_bytes.now) (overlays_at overlays words.old bytes.old) }
 {
     let mut o = set_last_ids(directory, overlays, id, list, list_words);
     let mut c = overlays.counts;

@@ -12,27 +12,27 @@ use Rattle.words.specs.Choice.{if◌then◌else◌}
 use Rattle.answer.specs.Answer.{number_of}
 use Rattle.answer.specs.declared.answer.Answer.TheVariants.{Done, BadState}
 use Rattle.overlay.specs.Entries.{Entry}
-use Rattle.query.specs.Query.{lookedIf, bytes_of, isThere, copiedOver, copiedBy}
+use Rattle.query.specs.Query.{looked_if, bytes_of, is_there, copied_over, copied_by}
 
 module _ (bytes dest : List ℕ) where
-  pub copied-short : length dest ≤ length bytes → paste dest 0 (take (length dest) bytes) (length (take (length dest) bytes)) ≡ copiedOver bytes dest
-  copied-short h =
+  pub copied_short : length dest ≤ length bytes → paste dest 0 (take (length dest) bytes) (length (take (length dest) bytes)) ≡ copied_over bytes dest
+  copied_short h =
       let n = length dest in
       let l : length (take n bytes) ≡ n = length-take-le n bytes h in
       let e : 0 + n ≡ n = omega arith in
       rw (l, take-take n n bytes (omega arith), e, drop_of_length-le dest {i = n} (omega arith), drop_of_length-le dest {i = length bytes} h)
 
-  pub copied-whole : length bytes ≤ length dest → paste dest 0 bytes (length bytes) ≡ copiedOver bytes dest
-  copied-whole h =
+  pub copied_whole : length bytes ≤ length dest → paste dest 0 bytes (length bytes) ≡ copied_over bytes dest
+  copied_whole h =
       let e : 0 + length bytes ≡ length bytes = omega arith in
       rw (take-length bytes, take_all (length dest) bytes h, e)
 
 -- "writes nothing": where nothing is found or it refuses
-pub nothing_copied : (dest : List ℕ) → copiedOver [] dest ≡ dest
+pub nothing_copied : (dest : List ℕ) → copied_over [] dest ≡ dest
 nothing_copied dest = rw (take-nil (length dest))
 
-pub copied-if : (ok : Bool) (found : Option Entry) (number : ℕ) (bytes : List ℕ) → number ≡ number_of (lookedIf ok found).answer → bytes ≡ bytes_of (lookedIf ok found).entry
-    → (ok ≡ true → ltb 0 (length (bytes_of found)) ≡ isThere found)
-    → record { answer = if eqb number 0 then Done else BadState; found = ltb 0 (length bytes) } ≡ copiedBy (lookedIf ok found)
-copied-if true found number bytes p q full = rw (p, q, full refl)
-copied-if false found number bytes p q full = rw (p, q)
+pub copied_if : (ok : Bool) (found : Option Entry) (number : ℕ) (bytes : List ℕ) → number ≡ number_of (looked_if ok found).answer → bytes ≡ bytes_of (looked_if ok found).entry
+    → (ok ≡ true → ltb 0 (length (bytes_of found)) ≡ is_there found)
+    → record { answer = if eqb number 0 then Done else BadState; found = ltb 0 (length bytes) } ≡ copied_by (looked_if ok found)
+copied_if true found number bytes p q full = rw (p, q, full refl)
+copied_if false found number bytes p q full = rw (p, q)

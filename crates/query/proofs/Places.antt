@@ -12,45 +12,45 @@ use lib.Seq.{get_or-take, take_all, take-suc-set, drop-cons, append_snoc}
 use Rattle.answer.specs.declared.answer.Answer.TheVariants.{Done, BadState, BadArgument}
 use Rattle.directory.specs.declared.table.TableKind.{TableKind}
 use Rattle.numbers.proofs.Laws.{left-of, right_of}
-use Rattle.keys.specs.Keys.{rank, markAt}
-use Rattle.overlay.specs.Rules.{Overlay, slotSize, storedLength, overlayOf, overlayKept}
-use Rattle.overlay.specs.Inner.{seatIn}
+use Rattle.keys.specs.Keys.{rank, mark_at}
+use Rattle.overlay.specs.Rules.{Overlay, slot_size, stored_length, overlay_of, overlay_kept}
+use Rattle.overlay.specs.Inner.{seat_in}
 use Rattle.overlay.specs.declared.seat.Seat.{Seat}
 use Rattle.overlay.specs.declared.seat.Seat.TheVariants.{Over, Next}
-use Rattle.query.specs.Query.{sharedLook, bytes_of}
-use Rattle.query.specs.Places.{noPlace, placeBy, storedPlace, places_of, paired, toldPlaces, severalLook}
-use Rattle.query.specs.Inner.{foundIn}
+use Rattle.query.specs.Query.{shared_look, bytes_of}
+use Rattle.query.specs.Places.{no_place_of, place_by, stored_place, places_of, paired, told_places, several_look}
+use Rattle.query.specs.Inner.{found_in}
 use Rattle.query.specs.declared.find.Place.{Place}
 use Rattle.query.proofs.Found.{found, not_found}
-use Rattle.query.proofs.Looks.{shared-found}
+use Rattle.query.proofs.Looks.{shared_found}
 
 -- the bytes in the place are the entry's; where there is none, there is no entry
-pub place-bytes : (kind : TableKind) (room : ℕ) (o : Overlay) → overlayKept kind room o ≡ true → (key : ℕ) → take (storedPlace kind o key).length (drop (storedPlace kind o key).at o.bytes) ≡ foundIn kind o key
-unfolding storedPlace
-place-bytes kind room o ok key = by (seatIn o key) refl
+pub place-bytes : (kind : TableKind) (room : ℕ) (o : Overlay) → overlay_kept kind room o ≡ true → (key : ℕ) → take (stored_place kind o key).length (drop (stored_place kind o key).at o.bytes) ≡ found_in kind o key
+unfolding stored_place
+place-bytes kind room o ok key = by (seat_in o key) refl
   where
-    by : (s : Seat) → seatIn o key ≡ s → take (placeBy kind o (seatIn o key)).length (drop (placeBy kind o (seatIn o key)).at o.bytes) ≡ foundIn kind o key
+    by : (s : Seat) → seat_in o key ≡ s → take (place_by kind o (seat_in o key)).length (drop (place_by kind o (seat_in o key)).at o.bytes) ≡ found_in kind o key
     by (Over p) e = rw e (found kind room o ok key p e).bytes
     by (Next j) e = rw e (not_found kind room o ok key j e)
 
 -- the place that the code has
-pub place-over : (kind : TableKind) (room : ℕ) (words bytes : List ℕ) (n key p s u : ℕ) → p < room → seatIn (overlayOf room words bytes n) key ≡ Over p → s ≡ slotSize kind
-    → u ≡ storedLength kind (get_or words (4 * p + 3) 0) → record { found = true; at = s * p; length = u } ≡ storedPlace kind (overlayOf room words bytes n) key
-unfolding storedPlace
+pub place-over : (kind : TableKind) (room : ℕ) (words bytes : List ℕ) (n key p s u : ℕ) → p < room → seat_in (overlay_of room words bytes n) key ≡ Over p → s ≡ slot_size kind
+    → u ≡ stored_length kind (get_or words (4 * p + 3) 0) → record { found = true; at = s * p; length = u } ≡ stored_place kind (overlay_of room words bytes n) key
+unfolding stored_place
 place-over kind room words bytes n key p s u low e d q =
-    let m : u ≡ storedLength kind (markAt (take (4 * room) words) p) = q ∙ ap (storedLength kind) (sym (get_or-take (4 * room) words (4 * p + 3) 0 (omega arith))) in
+    let m : u ≡ stored_length kind (mark_at (take (4 * room) words) p) = q ∙ ap (stored_length kind) (sym (get_or-take (4 * room) words (4 * p + 3) 0 (omega arith))) in
     rw (e, d, m)
 
-pub place_none : (kind : TableKind) (o : Overlay) (key j : ℕ) → seatIn o key ≡ Next j → noPlace ≡ storedPlace kind o key
-unfolding storedPlace
+pub place_none : (kind : TableKind) (o : Overlay) (key j : ℕ) → seat_in o key ≡ Next j → no_place_of ≡ stored_place kind o key
+unfolding stored_place
 place_none kind o key j e = rw e
 
 -- the part that the code takes there
-pub part_of : (kind : TableKind) (room : ℕ) (words bytes : List ℕ) (n : ℕ) → overlayKept kind room (overlayOf room words bytes n) ≡ true → (key : ℕ) (p : Place)
-    → p ≡ storedPlace kind (overlayOf room words bytes n) key → take (p.at + p.length - p.at) (drop p.at bytes) ≡ foundIn kind (overlayOf room words bytes n) key
+pub part_of : (kind : TableKind) (room : ℕ) (words bytes : List ℕ) (n : ℕ) → overlay_kept kind room (overlay_of room words bytes n) ≡ true → (key : ℕ) (p : Place)
+    → p ≡ stored_place kind (overlay_of room words bytes n) key → take (p.at + p.length - p.at) (drop p.at bytes) ≡ found_in kind (overlay_of room words bytes n) key
 part_of kind room words bytes n ok key p e =
     let d : p.at + p.length - p.at ≡ p.length = omega arith in
-    ap (λ (k : ℕ). take k (drop p.at bytes)) d ∙ ap (λ (x : Place). take x.length (drop x.at bytes)) e ∙ place-bytes kind room (overlayOf room words bytes n) ok key
+    ap (λ (k : ℕ). take k (drop p.at bytes)) d ∙ ap (λ (x : Place). take x.length (drop x.at bytes)) e ∙ place-bytes kind room (overlay_of room words bytes n) ok key
 
 -- words in pairs, by the test
 pub pairs : (keys places : ℕ) → paired keys places ≡ true → (keys / 2 * 2 ≡ keys) × (places ≡ keys)
@@ -59,10 +59,10 @@ pairs keys places e = (eqb-true _ _ (left-of (eqb (keys / 2 * 2) keys) _ e), eqb
 module _ (kind : TableKind) (o : Overlay) where
   -- the place of the pair at k
   abbrev at : List ℕ → ℕ → ℕ
-  at keys k = (storedPlace kind o (rank (get_or keys k 0) (get_or keys (suc k) 0))).at
+  at keys k = (stored_place kind o (rank (get_or keys k 0) (get_or keys (suc k) 0))).at
 
   abbrev long : List ℕ → ℕ → ℕ
-  long keys k = (storedPlace kind o (rank (get_or keys k 0) (get_or keys (suc k) 0))).length
+  long keys k = (stored_place kind o (rank (get_or keys k 0) (get_or keys (suc k) 0))).length
 
   told_at : (keys : List ℕ) (i k : ℕ) → k ≡ 2 * i → suc k < length keys → (get_or (places_of kind o keys) k 0 ≡ at keys k) × (get_or (places_of kind o keys) (suc k) 0 ≡ long keys k)
   told_at [] i k e h = absurd (omega arith)
@@ -73,20 +73,20 @@ module _ (kind : TableKind) (o : Overlay) where
       rw f (told_at keys i (2 * i) refl (omega (arith, f, h)))
 
   -- the bytes at the i-th place are what the lookup of the i-th key hands out
-  pub each-place : overlayKept kind 256 o ≡ true → (keys : List ℕ) (i : ℕ) → 2 * i + 1 < length keys
+  pub each-place : overlay_kept kind 256 o ≡ true → (keys : List ℕ) (i : ℕ) → 2 * i + 1 < length keys
       → take (get_or (places_of kind o keys) (2 * i + 1) 0) (drop (get_or (places_of kind o keys) (2 * i) 0) o.bytes)
-      ≡ bytes_of (sharedLook kind o (rank (get_or keys (2 * i) 0) (get_or keys (2 * i + 1) 0))).entry
+      ≡ bytes_of (shared_look kind o (rank (get_or keys (2 * i) 0) (get_or keys (2 * i + 1) 0))).entry
   each-place ok keys i h =
       let k = rank (get_or keys (2 * i) 0) (get_or keys (suc (2 * i)) 0) in
       let t = told_at keys i (2 * i) refl (omega (arith, h)) in
-      rw (add-one (2 * i), t.0, t.1) (place-bytes kind 256 o ok k ∙ shared-found kind o k ok)
+      rw (add-one (2 * i), t.0, t.1) (place-bytes kind 256 o ok k ∙ shared_found kind o k ok)
 
   -- a turn: what is told, and what is left to tell
-  pub told_more : (keys out : List ℕ) (i : ℕ) (p : Place) → i + 1 < length keys → length out ≡ length keys → p ≡ storedPlace kind o (rank (get_or keys i 0) (get_or keys (i + 1) 0))
+  pub told_more : (keys out : List ℕ) (i : ℕ) (p : Place) → i + 1 < length keys → length out ≡ length keys → p ≡ stored_place kind o (rank (get_or keys i 0) (get_or keys (i + 1) 0))
       → take i out ++ places_of kind o (drop i keys) ≡ places_of kind o keys
       → take (i + 2) (set (set out i p.at) (i + 1) p.length) ++ places_of kind o (drop (i + 2) keys) ≡ places_of kind o keys
   told_more keys out i p h l e before =
-      let q : p ≡ storedPlace kind o (rank (get_or keys i 0) (get_or keys (suc i) 0)) = e ∙ ap (λ (m : ℕ). storedPlace kind o (rank (get_or keys i 0) (get_or keys m 0))) (add-one i) in
+      let q : p ≡ stored_place kind o (rank (get_or keys i 0) (get_or keys (suc i) 0)) = e ∙ ap (λ (m : ℕ). stored_place kind o (rank (get_or keys i 0) (get_or keys m 0))) (add-one i) in
       let first : take (suc i) (set out i p.at) ≡ take i out ++ (p.at ∷ []) = take-suc-set out i p.at (omega (arith, l)) in
       let both : take (suc (suc i)) (set (set out i p.at) (suc i) p.length) ≡ take (suc i) (set out i p.at) ++ (p.length ∷ []) = take-suc-set (set out i p.at) (suc i) p.length (rw length-set (omega (arith, l))) in
       let n : i + 2 ≡ suc (suc i) = omega arith in
@@ -102,15 +102,15 @@ module _ (kind : TableKind) (o : Overlay) where
 
   -- the answers, a return of the code at a time
   module _ (keys places : List ℕ) where
-    pub several-broken : overlayKept kind 256 o ≡ false → toldPlaces BadState places ≡ severalLook kind o keys places
-    unfolding severalLook
-    several-broken e = rw e
+    pub several_broken : overlay_kept kind 256 o ≡ false → told_places BadState places ≡ several_look kind o keys places
+    unfolding several_look
+    several_broken e = rw e
 
-    module _ (ok : overlayKept kind 256 o ≡ true) where
-      pub several-unpaired : paired (length keys) (length places) ≡ false → toldPlaces BadArgument places ≡ severalLook kind o keys places
-      unfolding severalLook
-      several-unpaired e = rw (ok, e)
+    module _ (ok : overlay_kept kind 256 o ≡ true) where
+      pub several_unpaired : paired (length keys) (length places) ≡ false → told_places BadArgument places ≡ several_look kind o keys places
+      unfolding several_look
+      several_unpaired e = rw (ok, e)
 
-      pub several-told : paired (length keys) (length places) ≡ true → (after : List ℕ) → after ≡ places_of kind o keys → toldPlaces Done after ≡ severalLook kind o keys places
-      unfolding severalLook
-      several-told e after f = rw (ok, e, f)
+      pub several_told : paired (length keys) (length places) ≡ true → (after : List ℕ) → after ≡ places_of kind o keys → told_places Done after ≡ several_look kind o keys places
+      unfolding several_look
+      several_told e after f = rw (ok, e, f)

@@ -5,31 +5,31 @@ use Rattle.words.specs.Choice.{if◌then◌else◌}
 use Rattle.answer.specs.declared.answer.Answer.{Answer}
 use Rattle.answer.specs.declared.answer.Answer.TheVariants.{Done, BadState, BadArgument}
 use Rattle.directory.specs.declared.table.TableKind.{TableKind}
-use Rattle.keys.specs.Keys.{rank, markAt}
-use Rattle.overlay.specs.Rules.{Overlay, slotSize, storedLength, overlayKept}
-use Rattle.overlay.specs.Inner.{seatIn}
+use Rattle.keys.specs.Keys.{rank, mark_at}
+use Rattle.overlay.specs.Rules.{Overlay, slot_size, stored_length, overlay_kept}
+use Rattle.overlay.specs.Inner.{seat_in}
 use Rattle.overlay.specs.declared.seat.Seat.{Seat}
 use Rattle.overlay.specs.declared.seat.Seat.TheVariants.{Over, Next}
 use Rattle.query.specs.declared.find.Place.{Place}
 
 -- no place: the key isn't there
-abbrev pub noPlace : Place
-noPlace = record { found = false; at = 0; length = 0 }
+abbrev pub no_place_of : Place
+no_place_of = record { found = false; at = 0; length = 0 }
 
 -- where an entry's bytes lie in its kind's part, by its seat
-abbrev pub placeBy : TableKind → Overlay → Seat → Place
-placeBy kind o (Over p) = record { found = true; at = slotSize kind * p; length = storedLength kind (markAt o.rows p) }
-placeBy kind o (Next j) = noPlace
+abbrev pub place_by : TableKind → Overlay → Seat → Place
+place_by kind o (Over p) = record { found = true; at = slot_size kind * p; length = stored_length kind (mark_at o.rows p) }
+place_by kind o (Next j) = no_place_of
 
 -- the same of a key
-unfoldable pub storedPlace : TableKind → Overlay → ℕ → Place
-storedPlace kind o key = placeBy kind o (seatIn o key)
+unfoldable pub stored_place : TableKind → Overlay → ℕ → Place
+stored_place kind o key = place_by kind o (seat_in o key)
 
 -- for each key, a pair of table and index, two words: where its bytes lie, and how many there are; 0 and 0 where nothing is found
 abbrev pub places_of : TableKind → Overlay → List ℕ → List ℕ
 places_of kind o [] = []
 places_of kind o (t ∷ []) = []
-places_of kind o (t ∷ x ∷ keys) = (storedPlace kind o (rank t x)).at ∷ (storedPlace kind o (rank t x)).length ∷ places_of kind o keys
+places_of kind o (t ∷ x ∷ keys) = (stored_place kind o (rank t x)).at ∷ (stored_place kind o (rank t x)).length ∷ places_of kind o keys
 
 -- words in pairs, and as many for the answers
 abbrev pub paired : ℕ → ℕ → Bool
@@ -41,13 +41,13 @@ pub record ToldPlaces : Type 0 where
   pub places : List ℕ
 
 -- the same as the code has them
-abbrev pub toldPlaces : Answer → List ℕ → ToldPlaces
-toldPlaces answer places = record { answer = answer; places = places }
+abbrev pub told_places : Answer → List ℕ → ToldPlaces
+told_places answer places = record { answer = answer; places = places }
 
 -- 13 where the overlay breaks a rule, 14 where keys or places aren't lent in pairs; refused, no word is written. A table above 65,535 is an
 -- unknown one: "A lookup that finds nothing, unknown tables included, gives 0"
-unfoldable pub severalLook : TableKind → Overlay → List ℕ → List ℕ → ToldPlaces
-severalLook kind o keys places =
-    if overlayKept kind 256 o
-    then (if paired (length keys) (length places) then toldPlaces Done (places_of kind o keys) else toldPlaces BadArgument places)
-    else toldPlaces BadState places
+unfoldable pub several_look : TableKind → Overlay → List ℕ → List ℕ → ToldPlaces
+several_look kind o keys places =
+    if overlay_kept kind 256 o
+    then (if paired (length keys) (length places) then told_places Done (places_of kind o keys) else told_places BadArgument places)
+    else told_places BadState places

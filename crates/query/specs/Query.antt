@@ -6,11 +6,11 @@ use Rattle.directory.specs.declared.table.TableKind.{TableKind}
 use Rattle.answer.specs.Answer.{number_of}
 use Rattle.answer.specs.declared.answer.Answer.{Answer}
 use Rattle.answer.specs.declared.answer.Answer.TheVariants.{Done, BadState}
-use Rattle.overlay.specs.Rules.{Overlay, overlayOf, overlayKept}
-use Rattle.overlay.specs.Entries.{Entry, entriesOf, findEntry, or_else}
-use Rattle.memory.specs.Parts.{count_of, ofKind}
+use Rattle.overlay.specs.Rules.{Overlay, overlay_of, overlay_kept}
+use Rattle.overlay.specs.Entries.{Entry, entries_of, find_entry, or_else}
+use Rattle.memory.specs.Parts.{count_of, of_kind}
 use Rattle.memory.specs.declared.overlays.LogOverlays.{LogOverlays}
-use Rattle.change.specs.Change.{Change, changeRuled}
+use Rattle.change.specs.Change.{Change, change_ruled}
 use Rattle.query.specs.declared.copy.Copied.{Copied}
 
 -- a lookup's answer, and the entry where there is one
@@ -19,22 +19,22 @@ pub record Looked : Type 0 where
   pub entry : Option Entry
 
 -- "A lookup that finds nothing, unknown tables included, gives 0"; 13 where a state that it is handed breaks a rule
-abbrev pub lookedIf : Bool → Option Entry → Looked
-lookedIf true found = record { answer = Done; entry = found }
-lookedIf false found = record { answer = BadState; entry = none }
+abbrev pub looked_if : Bool → Option Entry → Looked
+looked_if true found = record { answer = Done; entry = found }
+looked_if false found = record { answer = BadState; entry = none }
 
 -- the shared overlay of a kind, as a lookup is handed it: the kind's part of the words, its part of the bytes, and how many keys are in use
-abbrev pub sharedPart : TableKind → LogOverlays → List ℕ → List ℕ → Overlay
-sharedPart kind s words bytes = overlayOf 256 words bytes (count_of kind s.counts)
+abbrev pub shared_part : TableKind → LogOverlays → List ℕ → List ℕ → Overlay
+shared_part kind s words bytes = overlay_of 256 words bytes (count_of kind s.counts)
 
 -- in the shared overlay alone
-unfoldable pub sharedLook : TableKind → Overlay → ℕ → Looked
-sharedLook kind o key = lookedIf (overlayKept kind 256 o) (findEntry key (entriesOf kind o))
+unfoldable pub shared_look : TableKind → Overlay → ℕ → Looked
+shared_look kind o key = looked_if (overlay_kept kind 256 o) (find_entry key (entries_of kind o))
 
 -- "Lookup goes to the local list first, then the shared overlays."
-unfoldable pub listedLook : TableKind → Change → Overlay → ℕ → Looked
-listedLook kind l o key =
-    lookedIf (changeRuled l && overlayKept kind 256 o) (or_else (findEntry key (entriesOf kind (ofKind kind l.parts))) (findEntry key (entriesOf kind o)))
+unfoldable pub listed_look : TableKind → Change → Overlay → ℕ → Looked
+listed_look kind l o key =
+    looked_if (change_ruled l && overlay_kept kind 256 o) (or_else (find_entry key (entries_of kind (of_kind kind l.parts))) (find_entry key (entries_of kind o)))
 
 -- "answers with the stored bytes themselves .. and with none if nothing is found or it refuses"
 abbrev pub bytes_of : Option Entry → List ℕ
@@ -46,18 +46,18 @@ abbrev pub HandsOut : Looked → ℕ → List ℕ → Type 0
 HandsOut l number bytes = (number ≡ number_of l.answer) × (bytes ≡ bytes_of l.entry)
 
 -- whether there is one
-abbrev pub isThere : Option Entry → Bool
-isThere none = false
-isThere (some e) = true
+abbrev pub is_there : Option Entry → Bool
+is_there none = false
+is_there (some e) = true
 
 -- "copies the shorter of destination and stored length; the rest of the destination keeps its bytes"
-abbrev pub copiedOver : List ℕ → List ℕ → List ℕ
-copiedOver bytes dest = take (length dest) bytes ++ drop (length bytes) dest
+abbrev pub copied_over : List ℕ → List ℕ → List ℕ
+copied_over bytes dest = take (length dest) bytes ++ drop (length bytes) dest
 
 -- what `value` hands back beside the copy: "says so"
-abbrev pub copiedBy : Looked → Copied
-copiedBy l = record { answer = l.answer; found = isThere l.entry }
+abbrev pub copied_by : Looked → Copied
+copied_by l = record { answer = l.answer; found = is_there l.entry }
 
 -- both: from the destination as it was to the destination as it then is
 abbrev pub CopiesOut : Looked → Copied → List ℕ → List ℕ → Type 0
-CopiesOut l r dest after = (r ≡ copiedBy l) × (after ≡ copiedOver (bytes_of l.entry) dest)
+CopiesOut l r dest after = (r ≡ copied_by l) × (after ≡ copied_over (bytes_of l.entry) dest)

@@ -2,7 +2,7 @@
 ghost use Rattle.std.specs.Prelude.{◌≡◌, ltb, eqb, length};
 ghost use Rattle.words.specs.Choice.{if◌then◌else◌};
 ghost use Rattle.answer.specs.declared.answer.Answer.TheVariants.{Done, BadState};
-ghost use Rattle.query.specs.Query.{copiedOver};
+ghost use Rattle.query.specs.Query.{copied_over};
 
 use answer::Answer;
 
@@ -14,7 +14,7 @@ pub struct Copied {
 }
 
 fn copy_over(dest: &mut [u8], bytes: &[u8])
-    ensures { dest.new ≡ copiedOver bytes.now dest.old }
+    ensures { dest.new ≡ copied_over bytes.now dest.old }
 {
     let n = dest.len();
     if n < bytes.len() {
@@ -36,7 +36,7 @@ fn answer_of(number: u64) -> Answer
 // What `value` hands back, by what `value_ref` does.
 pub fn copy_value(number: u64, bytes: &[u8], dest: &mut [u8]) -> Copied
     ensures { (result ≡ record { answer = if eqb number 0 then Done else BadState; found = ltb 0 (length bytes.now) })
-        × (dest.new ≡ copiedOver bytes.now dest.old) }
+        × (dest.new ≡ copied_over bytes.now dest.old) }
 {
     copy_over(dest, bytes);
     Copied {

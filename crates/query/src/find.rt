@@ -1,9 +1,9 @@
 // A key looked up in one kind's parts: where its bytes lie, or the bytes themselves, no copy.
 ghost use Rattle.std.specs.Prelude.{◌≡◌, true, ◌+◌, ◌≤◌, length};
 ghost use Rattle.keys.specs.Keys.{rank};
-ghost use Rattle.overlay.specs.Rules.{overlayOf, overlayKept};
-ghost use Rattle.query.specs.Places.{storedPlace};
-ghost use Rattle.query.specs.Inner.{foundIn};
+ghost use Rattle.overlay.specs.Rules.{overlay_of, overlay_kept};
+ghost use Rattle.query.specs.Places.{stored_place};
+ghost use Rattle.query.specs.Inner.{found_in};
 
 use directory::TableKind;
 use overlay::Seat;
@@ -25,8 +25,8 @@ pub fn place_in(
     table: u64,
     index: u64,
 ) -> Place
-    requires { overlayKept kind room (overlayOf room words.now bytes.now n) ≡ true }
-    ensures { (result ≡ storedPlace kind (overlayOf room words.now bytes.now n) (rank table index)) × (result.at + result.length ≤ length bytes.now) }
+    requires { overlay_kept kind room (overlay_of room words.now bytes.now n) ≡ true }
+    ensures { (result ≡ stored_place kind (overlay_of room words.now bytes.now n) (rank table index)) × (result.at + result.length ≤ length bytes.now) }
 {
     match overlay::seat_of(room, words, n, table, index) {
         Seat::Over(p) => Place {
@@ -51,8 +51,8 @@ pub(crate) fn find_in<'a>(
     table: u16,
     index: u64,
 ) -> &'a [u8]
-    requires { overlayKept kind room (overlayOf room words.now bytes.now n) ≡ true }
-    ensures { result.now ≡ foundIn kind (overlayOf room words.now bytes.now n) (rank table index) }
+    requires { overlay_kept kind room (overlay_of room words.now bytes.now n) ≡ true }
+    ensures { result.now ≡ found_in kind (overlay_of room words.now bytes.now n) (rank table index) }
 {
     let p = place_in(kind, room, words, bytes, n, table as u64, index);
     let a = p.at;

@@ -3,12 +3,12 @@
 ghost use Rattle.std.specs.Prelude.{◌≡◌, true};
 ghost use Rattle.directory.specs.declared.table.TableKind.TheVariants.{Index, Value, RefCount};
 ghost use Rattle.keys.specs.Keys.{rank};
-ghost use Rattle.overlay.specs.Rules.{overlayKept};
-ghost use Rattle.memory.specs.Parts.{parts_of, ofKind, partsKept};
+ghost use Rattle.overlay.specs.Rules.{overlay_kept};
+ghost use Rattle.memory.specs.Parts.{parts_of, of_kind, parts_kept};
 ghost use Rattle.memory.specs.declared.span.Holder.TheVariants.{List};
-ghost use Rattle.change.specs.Change.{changeOf, changeRuled};
-ghost use Rattle.query.specs.Query.{sharedPart, listedLook, bytes_of, HandsOut, CopiesOut};
-ghost use Rattle.query.specs.Inner.{foundIn};
+ghost use Rattle.change.specs.Change.{change_of, change_ruled};
+ghost use Rattle.query.specs.Query.{shared_part, listed_look, bytes_of, HandsOut, CopiesOut};
+ghost use Rattle.query.specs.Inner.{found_in};
 
 use super::copy::{Copied, copy_value};
 use super::find::find_in;
@@ -26,8 +26,8 @@ fn find_listed<'a>(
     table: u16,
     index: u64,
 ) -> &'a [u8]
-    requires { partsKept List (parts_of List counts words.now bytes.now) ≡ true }
-    ensures { result.now ≡ foundIn kind (ofKind kind (parts_of List counts words.now bytes.now)) (rank table index) }
+    requires { parts_kept List (parts_of List counts words.now bytes.now) ≡ true }
+    ensures { result.now ≡ found_in kind (of_kind kind (parts_of List counts words.now bytes.now)) (rank table index) }
 {
     let s = memory::span_of(Holder::List, kind);
     let a = s.words_at;
@@ -57,10 +57,10 @@ fn look_kept<'a>(
     table: u16,
     index: u64,
 ) -> &'a [u8]
-    requires { (changeRuled (changeOf list local_words.now local_bytes.now) ≡ true)
-        × (overlayKept kind 256 (sharedPart kind overlays words.now bytes.now) ≡ true) }
-    ensures { result.now ≡ bytes_of (listedLook kind (changeOf list local_words.now local_bytes.now)
-        (sharedPart kind overlays words.now bytes.now) (rank table index)).entry }
+    requires { (change_ruled (change_of list local_words.now local_bytes.now) ≡ true)
+        × (overlay_kept kind 256 (shared_part kind overlays words.now bytes.now) ≡ true) }
+    ensures { result.now ≡ bytes_of (listed_look kind (change_of list local_words.now local_bytes.now)
+        (shared_part kind overlays words.now bytes.now) (rank table index)).entry }
 {
     let counts = list.counts;
     let mine = find_listed(kind, counts, local_words, local_bytes, table, index);
@@ -82,8 +82,8 @@ fn look<'a>(
     index: u64,
     number: &mut u64,
 ) -> &'a [u8]
-    ensures { HandsOut (listedLook kind (changeOf list local_words.now local_bytes.now)
-        (sharedPart kind overlays words.now bytes.now) (rank table index)) number.new result.now }
+    ensures { HandsOut (listed_look kind (change_of list local_words.now local_bytes.now)
+        (shared_part kind overlays words.now bytes.now) (rank table index)) number.new result.now }
 {
     *number = 13;
     if !list.ruled(local_words, local_bytes) {
@@ -118,8 +118,8 @@ pub fn with_index<'a>(
     index: u64,
     number: &mut u64,
 ) -> &'a [u8]
-    ensures { HandsOut (listedLook Index (changeOf list local_words.now local_bytes.now)
-        (sharedPart Index overlays words.now bytes.now) (rank table.0 index)) number.new result.now }
+    ensures { HandsOut (listed_look Index (change_of list local_words.now local_bytes.now)
+        (shared_part Index overlays words.now bytes.now) (rank table.0 index)) number.new result.now }
 {
     look(
         TableKind::Index,
@@ -145,10 +145,10 @@ pub fn with_index_kept<'a>(
     table: IndexTableId,
     index: u64,
 ) -> &'a [u8]
-    requires { (changeRuled (changeOf list local_words.now local_bytes.now) ≡ true)
-        × (overlayKept Index 256 (sharedPart Index overlays words.now bytes.now) ≡ true) }
-    ensures { result.now ≡ bytes_of (listedLook Index (changeOf list local_words.now local_bytes.now)
-        (sharedPart Index overlays words.now bytes.now) (rank table.0 index)).entry }
+    requires { (change_ruled (change_of list local_words.now local_bytes.now) ≡ true)
+        × (overlay_kept Index 256 (shared_part Index overlays words.now bytes.now) ≡ true) }
+    ensures { result.now ≡ bytes_of (listed_look Index (change_of list local_words.now local_bytes.now)
+        (shared_part Index overlays words.now bytes.now) (rank table.0 index)).entry }
 {
     look_kept(
         TableKind::Index,
@@ -174,8 +174,8 @@ pub fn value_ref<'a>(
     index: u64,
     number: &mut u64,
 ) -> &'a [u8]
-    ensures { HandsOut (listedLook Value (changeOf list local_words.now local_bytes.now)
-        (sharedPart Value overlays words.now bytes.now) (rank table.0 index)) number.new result.now }
+    ensures { HandsOut (listed_look Value (change_of list local_words.now local_bytes.now)
+        (shared_part Value overlays words.now bytes.now) (rank table.0 index)) number.new result.now }
 {
     look(
         TableKind::Value,
@@ -201,10 +201,10 @@ pub fn value_ref_kept<'a>(
     table: ValueTableId,
     index: u64,
 ) -> &'a [u8]
-    requires { (changeRuled (changeOf list local_words.now local_bytes.now) ≡ true)
-        × (overlayKept Value 256 (sharedPart Value overlays words.now bytes.now) ≡ true) }
-    ensures { result.now ≡ bytes_of (listedLook Value (changeOf list local_words.now local_bytes.now)
-        (sharedPart Value overlays words.now bytes.now) (rank table.0 index)).entry }
+    requires { (change_ruled (change_of list local_words.now local_bytes.now) ≡ true)
+        × (overlay_kept Value 256 (shared_part Value overlays words.now bytes.now) ≡ true) }
+    ensures { result.now ≡ bytes_of (listed_look Value (change_of list local_words.now local_bytes.now)
+        (shared_part Value overlays words.now bytes.now) (rank table.0 index)).entry }
 {
     look_kept(
         TableKind::Value,
@@ -230,8 +230,8 @@ pub fn ref_count<'a>(
     index: u64,
     number: &mut u64,
 ) -> &'a [u8]
-    ensures { HandsOut (listedLook RefCount (changeOf list local_words.now local_bytes.now)
-        (sharedPart RefCount overlays words.now bytes.now) (rank table.0 index)) number.new result.now }
+    ensures { HandsOut (listed_look RefCount (change_of list local_words.now local_bytes.now)
+        (shared_part RefCount overlays words.now bytes.now) (rank table.0 index)) number.new result.now }
 {
     look(
         TableKind::RefCount,
@@ -257,10 +257,10 @@ pub fn ref_count_kept<'a>(
     table: RefCountTableId,
     index: u64,
 ) -> &'a [u8]
-    requires { (changeRuled (changeOf list local_words.now local_bytes.now) ≡ true)
-        × (overlayKept RefCount 256 (sharedPart RefCount overlays words.now bytes.now) ≡ true) }
-    ensures { result.now ≡ bytes_of (listedLook RefCount (changeOf list local_words.now local_bytes.now)
-        (sharedPart RefCount overlays words.now bytes.now) (rank table.0 index)).entry }
+    requires { (change_ruled (change_of list local_words.now local_bytes.now) ≡ true)
+        × (overlay_kept RefCount 256 (shared_part RefCount overlays words.now bytes.now) ≡ true) }
+    ensures { result.now ≡ bytes_of (listed_look RefCount (change_of list local_words.now local_bytes.now)
+        (shared_part RefCount overlays words.now bytes.now) (rank table.0 index)).entry }
 {
     look_kept(
         TableKind::RefCount,
@@ -286,8 +286,8 @@ pub fn value<'a>(
     index: u64,
     dest: &mut [u8],
 ) -> Copied
-    ensures { CopiesOut (listedLook Value (changeOf list local_words.now local_bytes.now)
-        (sharedPart Value overlays words.now bytes.now) (rank table.0 index)) result dest.old dest.new }
+    ensures { CopiesOut (listed_look Value (change_of list local_words.now local_bytes.now)
+        (shared_part Value overlays words.now bytes.now) (rank table.0 index)) result dest.old dest.new }
 {
     let mut number: u64 = 0;
     let stored = value_ref(
@@ -315,10 +315,10 @@ pub fn value_kept<'a>(
     index: u64,
     dest: &mut [u8],
 ) -> Copied
-    requires { (changeRuled (changeOf list local_words.now local_bytes.now) ≡ true)
-        × (overlayKept Value 256 (sharedPart Value overlays words.now bytes.now) ≡ true) }
-    ensures { CopiesOut (listedLook Value (changeOf list local_words.now local_bytes.now)
-        (sharedPart Value overlays words.now bytes.now) (rank table.0 index)) result dest.old dest.new }
+    requires { (change_ruled (change_of list local_words.now local_bytes.now) ≡ true)
+        × (overlay_kept Value 256 (shared_part Value overlays words.now bytes.now) ≡ true) }
+    ensures { CopiesOut (listed_look Value (change_of list local_words.now local_bytes.now)
+        (shared_part Value overlays words.now bytes.now) (rank table.0 index)) result dest.old dest.new }
 {
     let stored = value_ref_kept(
         list,

@@ -1,8 +1,8 @@
 // Many keys looked up at once in a shared overlay: the rules are tested once for all of them. log.rs has no such call, its maps having no rules.
 ghost use Rattle.std.specs.Prelude.{◌≡◌, true, length};
-ghost use Rattle.overlay.specs.Rules.{overlayOf, overlayKept};
-ghost use Rattle.query.specs.Query.{sharedPart};
-ghost use Rattle.query.specs.Places.{paired, places_of, toldPlaces, severalLook};
+ghost use Rattle.overlay.specs.Rules.{overlay_of, overlay_kept};
+ghost use Rattle.query.specs.Query.{shared_part};
+ghost use Rattle.query.specs.Places.{paired, places_of, told_places, several_look};
 
 use super::find::place_in;
 use answer::Answer;
@@ -27,8 +27,8 @@ fn tell_places(
     keys: &[u64],
     places: &mut [u64],
 )
-    requires { (overlayKept kind 256 (overlayOf 256 words.now bytes.now n) ≡ true) × (paired (length keys.now) (length places.old) ≡ true) }
-    ensures { places.new ≡ places_of kind (overlayOf 256 words.now bytes.now n) keys.now }
+    requires { (overlay_kept kind 256 (overlay_of 256 words.now bytes.now n) ≡ true) × (paired (length keys.now) (length places.old) ≡ true) }
+    ensures { places.new ≡ places_of kind (overlay_of 256 words.now bytes.now n) keys.now }
 {
     let mut i: usize = 0;
     while i < keys.len() {
@@ -48,8 +48,8 @@ pub fn places_of(
     keys: &[u64],
     places: &mut [u64],
 ) -> Answer
-    ensures { toldPlaces result places.new
-        ≡ severalLook kind (sharedPart kind overlays words.now bytes.now) keys.now places.old }
+    ensures { told_places result places.new
+        ≡ several_look kind (shared_part kind overlays words.now bytes.now) keys.now places.old }
 {
     let counts = overlays.counts;
     if !overlay::kept(kind, 256, words, bytes, counts.of(kind)) {
@@ -67,9 +67,9 @@ pub fn places_of_kept(
     keys: &[u64],
     places: &mut [u64],
 ) -> Answer
-    requires { overlayKept kind 256 (sharedPart kind overlays words.now bytes.now) ≡ true }
-    ensures { toldPlaces result places.new
-        ≡ severalLook kind (sharedPart kind overlays words.now bytes.now) keys.now places.old }
+    requires { overlay_kept kind 256 (shared_part kind overlays words.now bytes.now) ≡ true }
+    ensures { told_places result places.new
+        ≡ several_look kind (shared_part kind overlays words.now bytes.now) keys.now places.old }
 {
     if !in_pairs(keys.len(), places.len()) {
         return Answer::BadArgument;

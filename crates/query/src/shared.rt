@@ -3,8 +3,8 @@
 ghost use Rattle.std.specs.Prelude.{◌≡◌, true};
 ghost use Rattle.directory.specs.declared.table.TableKind.TheVariants.{Index, Value, RefCount};
 ghost use Rattle.keys.specs.Keys.{rank};
-ghost use Rattle.overlay.specs.Rules.{overlayKept};
-ghost use Rattle.query.specs.Query.{sharedPart, sharedLook, bytes_of, HandsOut, CopiesOut};
+ghost use Rattle.overlay.specs.Rules.{overlay_kept};
+ghost use Rattle.query.specs.Query.{shared_part, shared_look, bytes_of, HandsOut, CopiesOut};
 
 use super::copy::{Copied, copy_value};
 use super::find::find_in;
@@ -21,8 +21,8 @@ pub(crate) fn look_kept<'a>(
     table: u16,
     index: u64,
 ) -> &'a [u8]
-    requires { overlayKept kind 256 (sharedPart kind overlays words.now bytes.now) ≡ true }
-    ensures { result.now ≡ bytes_of (sharedLook kind (sharedPart kind overlays words.now bytes.now) (rank table index)).entry }
+    requires { overlay_kept kind 256 (shared_part kind overlays words.now bytes.now) ≡ true }
+    ensures { result.now ≡ bytes_of (shared_look kind (shared_part kind overlays words.now bytes.now) (rank table index)).entry }
 {
     let counts = overlays.counts;
     find_in(kind, 256, words, bytes, counts.of(kind), table, index)
@@ -37,7 +37,7 @@ fn look<'a>(
     index: u64,
     number: &mut u64,
 ) -> &'a [u8]
-    ensures { HandsOut (sharedLook kind (sharedPart kind overlays words.now bytes.now) (rank table index)) number.new result.now }
+    ensures { HandsOut (shared_look kind (shared_part kind overlays words.now bytes.now) (rank table index)) number.new result.now }
 {
     *number = 13;
     let counts = overlays.counts;
@@ -56,7 +56,7 @@ pub fn with_index<'a>(
     index: u64,
     number: &mut u64,
 ) -> &'a [u8]
-    ensures { HandsOut (sharedLook Index (sharedPart Index overlays words.now bytes.now) (rank table.0 index)) number.new result.now }
+    ensures { HandsOut (shared_look Index (shared_part Index overlays words.now bytes.now) (rank table.0 index)) number.new result.now }
 {
     look(
         TableKind::Index,
@@ -76,8 +76,8 @@ pub fn with_index_kept<'a>(
     table: IndexTableId,
     index: u64,
 ) -> &'a [u8]
-    requires { overlayKept Index 256 (sharedPart Index overlays words.now bytes.now) ≡ true }
-    ensures { result.now ≡ bytes_of (sharedLook Index (sharedPart Index overlays words.now bytes.now) (rank table.0 index)).entry }
+    requires { overlay_kept Index 256 (shared_part Index overlays words.now bytes.now) ≡ true }
+    ensures { result.now ≡ bytes_of (shared_look Index (shared_part Index overlays words.now bytes.now) (rank table.0 index)).entry }
 {
     look_kept(TableKind::Index, overlays, words, bytes, table.0, index)
 }
@@ -90,7 +90,7 @@ pub fn value_ref<'a>(
     index: u64,
     number: &mut u64,
 ) -> &'a [u8]
-    ensures { HandsOut (sharedLook Value (sharedPart Value overlays words.now bytes.now) (rank table.0 index)) number.new result.now }
+    ensures { HandsOut (shared_look Value (shared_part Value overlays words.now bytes.now) (rank table.0 index)) number.new result.now }
 {
     look(
         TableKind::Value,
@@ -110,8 +110,8 @@ pub fn value_ref_kept<'a>(
     table: ValueTableId,
     index: u64,
 ) -> &'a [u8]
-    requires { overlayKept Value 256 (sharedPart Value overlays words.now bytes.now) ≡ true }
-    ensures { result.now ≡ bytes_of (sharedLook Value (sharedPart Value overlays words.now bytes.now) (rank table.0 index)).entry }
+    requires { overlay_kept Value 256 (shared_part Value overlays words.now bytes.now) ≡ true }
+    ensures { result.now ≡ bytes_of (shared_look Value (shared_part Value overlays words.now bytes.now) (rank table.0 index)).entry }
 {
     look_kept(TableKind::Value, overlays, words, bytes, table.0, index)
 }
@@ -124,7 +124,7 @@ pub fn ref_count<'a>(
     index: u64,
     number: &mut u64,
 ) -> &'a [u8]
-    ensures { HandsOut (sharedLook RefCount (sharedPart RefCount overlays words.now bytes.now) (rank table.0 index)) number.new result.now }
+    ensures { HandsOut (shared_look RefCount (shared_part RefCount overlays words.now bytes.now) (rank table.0 index)) number.new result.now }
 {
     look(
         TableKind::RefCount,
@@ -144,8 +144,8 @@ pub fn ref_count_kept<'a>(
     table: RefCountTableId,
     index: u64,
 ) -> &'a [u8]
-    requires { overlayKept RefCount 256 (sharedPart RefCount overlays words.now bytes.now) ≡ true }
-    ensures { result.now ≡ bytes_of (sharedLook RefCount (sharedPart RefCount overlays words.now bytes.now) (rank table.0 index)).entry }
+    requires { overlay_kept RefCount 256 (shared_part RefCount overlays words.now bytes.now) ≡ true }
+    ensures { result.now ≡ bytes_of (shared_look RefCount (shared_part RefCount overlays words.now bytes.now) (rank table.0 index)).entry }
 {
     look_kept(TableKind::RefCount, overlays, words, bytes, table.0, index)
 }
@@ -158,7 +158,7 @@ pub fn value<'a>(
     index: u64,
     dest: &mut [u8],
 ) -> Copied
-    ensures { CopiesOut (sharedLook Value (sharedPart Value overlays words.now bytes.now) (rank table.0 index)) result dest.old dest.new }
+    ensures { CopiesOut (shared_look Value (shared_part Value overlays words.now bytes.now) (rank table.0 index)) result dest.old dest.new }
 {
     let mut number: u64 = 0;
     let stored = value_ref(overlays, words, bytes, table, index, &mut number);
@@ -173,8 +173,8 @@ pub fn value_kept<'a>(
     index: u64,
     dest: &mut [u8],
 ) -> Copied
-    requires { overlayKept Value 256 (sharedPart Value overlays words.now bytes.now) ≡ true }
-    ensures { CopiesOut (sharedLook Value (sharedPart Value overlays words.now bytes.now) (rank table.0 index)) result dest.old dest.new }
+    requires { overlay_kept Value 256 (shared_part Value overlays words.now bytes.now) ≡ true }
+    ensures { CopiesOut (shared_look Value (shared_part Value overlays words.now bytes.now) (rank table.0 index)) result dest.old dest.new }
 {
     let stored = value_ref_kept(overlays, words, bytes, table, index);
     copy_value(0, stored, dest)

@@ -6,32 +6,32 @@ use native.Mathlib.Omega.{arith}
 use lib.ListN.{length, get_or, drop_of_length-le, get_or-eq_default}
 use lib.Seq.{drop-cons}
 use borrow.Author.Tests.{ne_eqb}
-use Rattle.words.specs.Words.{little, littleAt}
+use Rattle.words.specs.Words.{little, little_at}
 use Rattle.directory.specs.declared.directory.Directory.{Directory}
-use Rattle.record.specs.Inner.{namedByTag, named_in, lookedUp, soughtIn}
+use Rattle.record.specs.Inner.{named_by_tag, named_in, looked_up, sought_in}
 use Rattle.record.specs.declared.search.Named.TheVariants.{Nothing}
 
 module _ (log : List ℕ) (at : ℕ) where
   -- a number of which one byte is there, or none
-  pub number-one : at < length log → length log - at < 2 → get_or log at 0 ≡ littleAt 2 log at
+  pub number-one : at < length log → length log - at < 2 → get_or log at 0 ≡ little_at 2 log at
   unfolding little
   number-one h k = rw (drop-cons log at 0, drop_of_length-le log {i = suc at} (omega arith)) (omega arith)
 
-  pub number-none : length log ≤ at → 0 ≡ littleAt 2 log at
+  pub number-none : length log ≤ at → 0 ≡ little_at 2 log at
   unfolding little
   number-none h = rw (drop_of_length-le log {i = at} h)
 
   pub unnamed : length log ≤ at → Nothing ≡ named_in log at
-  unfolding namedByTag
+  unfolding named_by_tag
   unnamed h = rw (get_or-eq_default log 0 {n = at} h)
 
   -- by the tag that was read
-  pub named-tag : (tag number : ℕ) → get_or log at 0 ≡ tag → number ≡ littleAt 2 log (at + 1) → namedByTag tag number ≡ named_in log at
+  pub named-tag : (tag number : ℕ) → get_or log at 0 ≡ tag → number ≡ little_at 2 log (at + 1) → named_by_tag tag number ≡ named_in log at
   named-tag tag number e q = rw (e, q)
 
-  pub sought-tag : (d : Directory) (tag : ℕ) → get_or log at 0 ≡ tag → soughtIn d log at ≡ lookedUp d (namedByTag tag (littleAt 2 log (at + 1)))
-  sought-tag d tag e = rw e
+  pub sought_tag : (d : Directory) (tag : ℕ) → get_or log at 0 ≡ tag → sought_in d log at ≡ looked_up d (named_by_tag tag (little_at 2 log (at + 1)))
+  sought_tag d tag e = rw e
 
-pub named_none : (tag number : ℕ) → (tag ≡ 2 → ⊥) → (tag ≡ 3 → ⊥) → (tag ≡ 5 → ⊥) → (tag ≡ 6 → ⊥) → (tag ≡ 7 → ⊥) → Nothing ≡ namedByTag tag number
-unfolding namedByTag
+pub named_none : (tag number : ℕ) → (tag ≡ 2 → ⊥) → (tag ≡ 3 → ⊥) → (tag ≡ 5 → ⊥) → (tag ≡ 6 → ⊥) → (tag ≡ 7 → ⊥) → Nothing ≡ named_by_tag tag number
+unfolding named_by_tag
 named_none tag number a b c d e = rw (ne_eqb tag 2 a, ne_eqb tag 3 b, ne_eqb tag 5 c, ne_eqb tag 6 d, ne_eqb tag 7 e)

@@ -16,10 +16,10 @@ pub data Got (A : Type 0) : Type 0 where
   got : A → (end : ℕ) → Got A
 
 -- the bytes of a log from a position on, read as the format says
-unfoldable pub readAt : {A : Type 0} → Format A → ℕ → List ℕ → Got A
-readAt (need k short f) at log = if ltb (length log - at) k then stopped short else readAt (f (take k (drop at log))) (at + k) log
-readAt (refuse answer) at log = stopped answer
-readAt (give a) at log = got a at
+unfoldable pub read_at : {A : Type 0} → Format A → ℕ → List ℕ → Got A
+read_at (need k short f) at log = if ltb (length log - at) k then stopped short else read_at (f (take k (drop at log))) (at + k) log
+read_at (refuse answer) at log = stopped answer
+read_at (give a) at log = got a at
 
 -- one format, and then another by what the first gave: `do` is written with these
 infixl 20 ◌>>=◌ ◌>>◌

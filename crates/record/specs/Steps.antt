@@ -12,9 +12,9 @@ pub record On (log : List ℕ) (r : LogReader) (s : Stepped) : Type 0 where
   pub inside : s.reader.position ≤ length log
 
 -- a step's answer with n bytes more in front
-abbrev pub movedStep : ℕ → Step → Step
-movedStep n (Refused x) = refused x.answer (n + x.position)
-movedStep n (Took s) = Took (record {
+abbrev pub moved_step : ℕ → Step → Step
+moved_step n (Refused x) = refused x.answer (n + x.position)
+moved_step n (Took s) = Took (record {
   action = s.action;
   start = n + s.start;
   length = s.length;

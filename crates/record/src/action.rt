@@ -1,7 +1,7 @@
 // What a record is made of.
 ghost use Rattle.std.specs.Prelude.{◌≡◌};
-ghost use Rattle.record.specs.Next.{isEnd};
-ghost use Rattle.record.specs.Record.{insertOf, tag_of};
+ghost use Rattle.record.specs.Next.{is_end};
+ghost use Rattle.record.specs.Record.{insert_of, tag_of};
 
 use answer::Tag;
 use directory::{IndexTableId, RefCountTableId, TableKind, ValueTableId};
@@ -38,7 +38,7 @@ pub enum LogAction {
 impl LogAction {
     // The insertion into a table of that kind.
     pub fn insert(kind: TableKind, table: u16, index: u64) -> LogAction
-        ensures { result ≡ insertOf kind table index }
+        ensures { result ≡ insert_of kind table index }
     {
         match kind {
             TableKind::Index => LogAction::InsertIndex(InsertIndexAction {
@@ -57,7 +57,7 @@ impl LogAction {
     }
 
     pub fn is_end(self) -> bool
-        ensures { result ≡ isEnd self }
+        ensures { result ≡ is_end self }
     {
         match self {
             LogAction::EndRecord => true,

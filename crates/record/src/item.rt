@@ -1,13 +1,13 @@
 // What stands inside a record, from a position on: the tag, and what the tag says is behind it.
 ghost use Rattle.std.specs.Prelude.{◌≡◌, ◌+◌, ◌≤◌, ◌<◌, length};
-ghost use Rattle.words.specs.Words.{littleAt};
-ghost use Rattle.directory.specs.Directory.{findTable};
+ghost use Rattle.words.specs.Words.{little_at};
+ghost use Rattle.directory.specs.Directory.{find_table};
 ghost use Rattle.directory.specs.declared.directory.Directory.{Directory};
 ghost use Rattle.directory.specs.declared.table.TableKind.{TableKind};
 ghost use Rattle.directory.specs.declared.table.TableKind.TheVariants.{Index, Value, RefCount};
-ghost use Rattle.record.specs.Format.{readAt};
-ghost use Rattle.record.specs.Inner.{gotKey, gotTable, tagOfKind, actionIn, gotItem, FoundBy, Sought, soughtIn};
-ghost use Rattle.record.specs.Record.{key, chunk, maskedItem, valueLength, value, valuedItem, table, droppedItem, dropIndex, dropRefCount, sumHolds, endedItem, inside};
+ghost use Rattle.record.specs.Format.{read_at};
+ghost use Rattle.record.specs.Inner.{got_key, got_table, tag_of_kind, action_in, got_item, FoundBy, Sought, sought_in};
+ghost use Rattle.record.specs.Record.{key, chunk, masked_item, value_length, value, valued_item, table, dropped_item, drop_index, drop_ref_count, sum_holds, ended_item, inside};
 
 use super::action::LogAction;
 use super::mask::entries_length;
@@ -47,7 +47,7 @@ pub struct ReadItem {
 
 impl ReadItem {
     pub fn action(self) -> LogAction
-        ensures { result ≡ actionIn self }
+        ensures { result ≡ action_in self }
     {
         let tag = self.tag;
         match tag {
@@ -71,7 +71,7 @@ pub enum ItemAnswer {
 // Table and index, behind the tag of an insertion. Here and below `f` is what the search for the table that is named there has found.
 fn key_at(f: Found, log: &[u8], body: usize) -> KeyAnswer
     requires { body ≤ length log.now }
-    ensures { (d : Directory) (kind : TableKind) → f ≡ findTable d kind (littleAt 2 log.now body) → gotKey result (body + 10) ≡ readAt (key d kind) body log.now }
+    ensures { (d : Directory) (kind : TableKind) → f ≡ find_table d kind (little_at 2 log.now body) → got_key result (body + 10) ≡ read_at (key d kind) body log.now }
 {
     if log.len() - body < 10 {
         return KeyAnswer::NoKey(Answer::Cut);
@@ -97,7 +97,7 @@ fn key_at(f: Found, log: &[u8], body: usize) -> KeyAnswer
 
 // The tag of an insertion.
 fn insert_tag(kind: TableKind) -> u8
-    ensures { result ≡ tagOfKind kind }
+    ensures { result ≡ tag_of_kind kind }
 {
     match kind {
         TableKind::Index => 2,
@@ -109,7 +109,7 @@ fn insert_tag(kind: TableKind) -> u8
 // The mask and its entries, behind a key.
 fn chunk_at(log: &[u8], start: usize, kind: TableKind, width: usize, k: Key) -> ItemAnswer
     requires { (width ≤ 16) × (start ≤ length log.now) }
-    ensures { gotItem result ≡ readAt (chunk kind width k) start log.now }
+    ensures { got_item result ≡ read_at (chunk kind width k) start log.now }
 {
     if log.len() - start < 8 {
         return ItemAnswer::NoItem(Answer::Cut);
@@ -130,8 +130,8 @@ fn chunk_at(log: &[u8], start: usize, kind: TableKind, width: usize, k: Key) -> 
 
 // Tags 2 and 6.
 fn masked_at(f: Found, log: &[u8], body: usize, kind: TableKind, width: usize) -> ItemAnswer
-    requires { (width ≤ 16) × (body ≤ length log.now) × FoundBy f kind (littleAt 2 log.now body) }
-    ensures { (d : Directory) → f ≡ findTable d kind (littleAt 2 log.now body) → gotItem result ≡ readAt (maskedItem d kind width) body log.now }
+    requires { (width ≤ 16) × (body ≤ length log.now) × FoundBy f kind (little_at 2 log.now body) }
+    ensures { (d : Directory) → f ≡ find_table d kind (little_at 2 log.now body) → got_item result ≡ read_at (masked_item d kind width) body log.now }
 {
     match key_at(f, log, body) {
         KeyAnswer::NoKey(a) => ItemAnswer::NoItem(a),
@@ -141,7 +141,7 @@ fn masked_at(f: Found, log: &[u8], body: usize, kind: TableKind, width: usize) -
 
 // How many bytes a record has for a value of that table.
 fn value_length(t: TableDescription) -> usize
-    ensures { result ≡ valueLength t }
+    ensures { result ≡ value_length t }
 {
     t.length as usize
 }
@@ -149,7 +149,7 @@ fn value_length(t: TableDescription) -> usize
 // The value, behind a key.
 fn value_at(log: &[u8], start: usize, k: Key) -> ItemAnswer
     requires { start ≤ length log.now }
-    ensures { gotItem result ≡ readAt (value k) start log.now }
+    ensures { got_item result ≡ read_at (value k) start log.now }
 {
     let length = value_length(k.description);
     if log.len() - start < length {
@@ -166,8 +166,8 @@ fn value_at(log: &[u8], start: usize, k: Key) -> ItemAnswer
 
 // Tag 3.
 fn valued_at(f: Found, log: &[u8], body: usize) -> ItemAnswer
-    requires { (body ≤ length log.now) × FoundBy f Value (littleAt 2 log.now body) }
-    ensures { (d : Directory) → f ≡ findTable d Value (littleAt 2 log.now body) → gotItem result ≡ readAt (valuedItem d) body log.now }
+    requires { (body ≤ length log.now) × FoundBy f Value (little_at 2 log.now body) }
+    ensures { (d : Directory) → f ≡ find_table d Value (little_at 2 log.now body) → got_item result ≡ read_at (valued_item d) body log.now }
 {
     match key_at(f, log, body) {
         KeyAnswer::NoKey(a) => ItemAnswer::NoItem(a),
@@ -177,7 +177,7 @@ fn valued_at(f: Found, log: &[u8], body: usize) -> ItemAnswer
 
 // Whether the checksum over all up to the end tag is that number, or nobody asks.
 fn sum_holds(validate: bool, register: u32, sum: u32) -> bool
-    ensures { result ≡ sumHolds validate register sum }
+    ensures { result ≡ sum_holds validate register sum }
 {
     if !validate {
         return true;
@@ -188,7 +188,7 @@ fn sum_holds(validate: bool, register: u32, sum: u32) -> bool
 // Tag 4.
 fn ended_at(log: &[u8], body: usize, validate: bool, register: u32) -> ItemAnswer
     requires { body ≤ length log.now }
-    ensures { gotItem result ≡ readAt (endedItem validate register) body log.now }
+    ensures { got_item result ≡ read_at (ended_item validate register) body log.now }
 {
     if log.len() - body < 4 {
         return ItemAnswer::NoItem(Answer::Cut);
@@ -210,7 +210,7 @@ fn ended_at(log: &[u8], body: usize, validate: bool, register: u32) -> ItemAnswe
 // A table's number, behind the tag of a drop.
 fn table_at(f: Found, log: &[u8], body: usize) -> TableAnswer
     requires { body ≤ length log.now }
-    ensures { (d : Directory) (kind : TableKind) → f ≡ findTable d kind (littleAt 2 log.now body) → gotTable result (body + 2) ≡ readAt (table d kind) body log.now }
+    ensures { (d : Directory) (kind : TableKind) → f ≡ find_table d kind (little_at 2 log.now body) → got_table result (body + 2) ≡ read_at (table d kind) body log.now }
 {
     if log.len() - body < 2 {
         return TableAnswer::NoTable(Answer::Cut);
@@ -225,7 +225,7 @@ fn table_at(f: Found, log: &[u8], body: usize) -> TableAnswer
 // Tag 5.
 fn dropped_index_at(f: Found, log: &[u8], body: usize) -> ItemAnswer
     requires { body ≤ length log.now }
-    ensures { (d : Directory) → f ≡ findTable d Index (littleAt 2 log.now body) → gotItem result ≡ readAt (droppedItem d Index dropIndex) body log.now }
+    ensures { (d : Directory) → f ≡ find_table d Index (little_at 2 log.now body) → got_item result ≡ read_at (dropped_item d Index drop_index) body log.now }
 {
     match table_at(f, log, body) {
         TableAnswer::NoTable(a) => ItemAnswer::NoItem(a),
@@ -242,7 +242,7 @@ fn dropped_index_at(f: Found, log: &[u8], body: usize) -> ItemAnswer
 // Tag 7.
 fn dropped_ref_count_at(f: Found, log: &[u8], body: usize) -> ItemAnswer
     requires { body ≤ length log.now }
-    ensures { (d : Directory) → f ≡ findTable d RefCount (littleAt 2 log.now body) → gotItem result ≡ readAt (droppedItem d RefCount dropRefCount) body log.now }
+    ensures { (d : Directory) → f ≡ find_table d RefCount (little_at 2 log.now body) → got_item result ≡ read_at (dropped_item d RefCount drop_ref_count) body log.now }
 {
     match table_at(f, log, body) {
         TableAnswer::NoTable(a) => ItemAnswer::NoItem(a),
@@ -259,7 +259,7 @@ fn dropped_ref_count_at(f: Found, log: &[u8], body: usize) -> ItemAnswer
 // The decision on the tag, inside a record.
 pub fn item_at(f: Found, log: &[u8], at: usize, validate: bool, register: u32) -> ItemAnswer
     requires { (at ≤ length log.now) × Sought f log.now at }
-    ensures { (d : Directory) → f ≡ soughtIn d log.now at → gotItem result ≡ readAt (inside d validate register) at log.now }
+    ensures { (d : Directory) → f ≡ sought_in d log.now at → got_item result ≡ read_at (inside d validate register) at log.now }
 {
     if log.len() - at < 1 {
         return ItemAnswer::NoItem(Answer::Cut);

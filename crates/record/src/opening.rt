@@ -1,8 +1,8 @@
 // The opening of a record.
 ghost use Rattle.std.specs.Prelude.{◌≡◌, ◌+◌, ◌≤◌, length};
-ghost use Rattle.record.specs.Format.{readAt};
-ghost use Rattle.record.specs.Inner.{gotId};
-ghost use Rattle.record.specs.Record.{begunId, early, earlyEnd, opening};
+ghost use Rattle.record.specs.Format.{read_at};
+ghost use Rattle.record.specs.Inner.{got_id};
+ghost use Rattle.record.specs.Record.{begun_id, early, early_end, opening};
 
 use answer::Answer;
 
@@ -15,7 +15,7 @@ pub enum IdAnswer {
 // Tag 1.
 fn begun_at(log: &[u8], body: usize) -> IdAnswer
     requires { body ≤ length log.now }
-    ensures { gotId result (body + 8) ≡ readAt begunId body log.now }
+    ensures { got_id result (body + 8) ≡ read_at begun_id body log.now }
 {
     if log.len() - body < 8 {
         return IdAnswer::NotOpened(Answer::EndOfLog);
@@ -26,7 +26,7 @@ fn begun_at(log: &[u8], body: usize) -> IdAnswer
 // An action other than begin, of which so many bytes are wanted behind the tag.
 fn early_at(log: &[u8], body: usize, k: usize) -> IdAnswer
     requires { body ≤ length log.now }
-    ensures { gotId result (body + 8) ≡ readAt (early k) body log.now }
+    ensures { got_id result (body + 8) ≡ read_at (early k) body log.now }
 {
     if log.len() - body < k {
         return IdAnswer::NotOpened(Answer::EndOfLog);
@@ -37,7 +37,7 @@ fn early_at(log: &[u8], body: usize, k: usize) -> IdAnswer
 // Tag 4.
 fn early_end_at(log: &[u8], body: usize, validate: bool) -> IdAnswer
     requires { body ≤ length log.now }
-    ensures { gotId result (body + 8) ≡ readAt (earlyEnd validate) body log.now }
+    ensures { got_id result (body + 8) ≡ read_at (early_end validate) body log.now }
 {
     if log.len() - body < 4 {
         return IdAnswer::NotOpened(Answer::EndOfLog);
@@ -56,7 +56,7 @@ fn early_end_at(log: &[u8], body: usize, validate: bool) -> IdAnswer
 // The decision on the tag, where a record opens.
 pub fn opening_at(log: &[u8], at: usize, validate: bool) -> IdAnswer
     requires { at ≤ length log.now }
-    ensures { gotId result (at + 1 + 8) ≡ readAt (opening validate) at log.now }
+    ensures { got_id result (at + 1 + 8) ≡ read_at (opening validate) at log.now }
 {
     if log.len() - at < 1 {
         return IdAnswer::NotOpened(Answer::EndOfLog);

@@ -1,10 +1,10 @@
 // The reader: where it stands in a log, and its step to the next action.
 ghost use Rattle.std.specs.Prelude.{◌≡◌, true, false, ◌+◌, ◌≤◌, length};
-ghost use Rattle.directory.specs.Directory.{directoryKept};
+ghost use Rattle.directory.specs.Directory.{directory_kept};
 ghost use Rattle.directory.specs.declared.directory.Directory.{Directory};
-ghost use Rattle.record.specs.Format.{readAt};
-ghost use Rattle.record.specs.Inner.{Sought, soughtIn};
-ghost use Rattle.record.specs.Next.{refused, readerAt, plain, forwardTo, readerAfter, stepped, opened, openingOf, step_of, next_of};
+ghost use Rattle.record.specs.Format.{read_at};
+ghost use Rattle.record.specs.Inner.{Sought, sought_in};
+ghost use Rattle.record.specs.Next.{refused, reader_at, plain, forward_to, reader_after, stepped, opened, opening_of, step_of, next_of};
 ghost use Rattle.record.specs.Record.{inside, opening};
 
 use super::action::LogAction;
@@ -49,7 +49,7 @@ fn refuse(answer: Answer, position: usize) -> Step
 impl LogReader {
     // A reader between records.
     pub fn new(position: usize, validate: bool) -> LogReader
-        ensures { result ≡ readerAt position validate }
+        ensures { result ≡ reader_at position validate }
     {
         LogReader {
             position: position,
@@ -81,7 +81,7 @@ impl LogReader {
 
     fn forward(self, log: &[u8], end: usize) -> LogReader
         requires { (self.position ≤ end) × (end ≤ length log.now) }
-        ensures { result ≡ forwardTo log.now self end }
+        ensures { result ≡ forward_to log.now self end }
     {
         let at = self.position;
         let mut r = self;
@@ -94,7 +94,7 @@ impl LogReader {
 
     fn after(self, log: &[u8], action: LogAction, end: usize) -> LogReader
         requires { (self.position ≤ end) × (end ≤ length log.now) }
-        ensures { result ≡ readerAfter log.now self action end }
+        ensures { result ≡ reader_after log.now self action end }
     {
         if action.is_end() {
             LogReader {
@@ -112,8 +112,8 @@ impl LogReader {
     // Inside a record.
     fn step_inside(self, f: Found, log: &[u8]) -> Step
         requires { (self.position ≤ length log.now) × Sought f log.now self.position }
-        ensures { (d : Directory) → f ≡ soughtIn d log.now self.position
-            → result ≡ stepped log.now self (readAt (inside d self.validate self.crc32) self.position log.now) }
+        ensures { (d : Directory) → f ≡ sought_in d log.now self.position
+            → result ≡ stepped log.now self (read_at (inside d self.validate self.crc32) self.position log.now) }
     {
         match item_at(f, log, self.position, self.validate, self.crc32) {
             ItemAnswer::NoItem(a) => refuse(a, self.position),
@@ -133,7 +133,7 @@ impl LogReader {
     // Between records.
     fn step_opening(self, log: &[u8]) -> Step
         requires { self.position ≤ length log.now }
-        ensures { result ≡ opened log.now self (readAt (opening self.validate) self.position log.now) }
+        ensures { result ≡ opened log.now self (read_at (opening self.validate) self.position log.now) }
     {
         let at = self.position;
         match opening_at(log, at, self.validate) {
@@ -159,7 +159,7 @@ impl LogReader {
 
     // A record's opening, which needs no directory.
     pub fn open(self, log: &[u8]) -> Step
-        ensures { result ≡ openingOf log.now self }
+        ensures { result ≡ opening_of log.now self }
     {
         if log.len() < self.position {
             return refuse(Answer::BadArgument, self.position);
@@ -169,7 +169,7 @@ impl LogReader {
 
     // The next action under a directory that was tested already.
     pub fn next_kept(self, directory: Directory, log: &[u8]) -> Step
-        requires { directoryKept directory ≡ true }
+        requires { directory_kept directory ≡ true }
         ensures { result ≡ step_of directory log.now self }
     {
         if log.len() < self.position {

@@ -1,8 +1,8 @@
 // The table that an action inside a record names, looked up before the action is read.
 ghost use Rattle.std.specs.Prelude.{◌≡◌, ◌≤◌, length};
-ghost use Rattle.words.specs.Words.{littleAt};
-ghost use Rattle.directory.specs.Inner.{directoryIn, Flat};
-ghost use Rattle.record.specs.Inner.{named_in, soughtIn};
+ghost use Rattle.words.specs.Words.{little_at};
+ghost use Rattle.directory.specs.Inner.{directory_in, Flat};
+ghost use Rattle.record.specs.Inner.{named_in, sought_in};
 
 use directory::{Directory, Found, TableKind};
 
@@ -16,7 +16,7 @@ pub enum Named {
 // The number behind a tag, as far as there are bytes.
 fn number_at(log: &[u8], at: usize) -> u16
     requires { at ≤ length log.now }
-    ensures { result ≡ littleAt 2 log.now at }
+    ensures { result ≡ little_at 2 log.now at }
 {
     if 2 <= log.len() - at {
         return words::u16_at(log, at);
@@ -45,7 +45,7 @@ fn named_at(log: &[u8], at: usize) -> Named
 
 pub fn sought(directory: Directory, log: &[u8], at: usize) -> Found
     requires { at ≤ length log.now }
-    ensures { result ≡ soughtIn directory log.now at }
+    ensures { result ≡ sought_in directory log.now at }
 {
     match named_at(log, at) {
         Named::Nothing => Found::Nothing,
@@ -56,7 +56,7 @@ pub fn sought(directory: Directory, log: &[u8], at: usize) -> Found
 // The same in a directory in numbers.
 pub fn sought_in(t: &[u64; 81], log: &[u8], at: usize) -> Found
     requires { Flat t.now × (at ≤ length log.now) }
-    ensures { result ≡ soughtIn (directoryIn t.now) log.now at }
+    ensures { result ≡ sought_in (directory_in t.now) log.now at }
 {
     match named_at(log, at) {
         Named::Nothing => Found::Nothing,

@@ -7,11 +7,11 @@ use native.Mathlib.Omega.{arith}
 use lib.Dec.{eqb}
 use lib.ListN.{length, take, drop}
 use borrow.Author.Tests.{eqb-true}
-use Rattle.words.specs.Words.{littleAt}
-use Rattle.words.proofs.Choices.{if-true, if-false}
-use Rattle.checksum.specs.Checksum.{checksumOf}
-use Rattle.directory.specs.Directory.{directoryKept, imageLength}
-use Rattle.directory.specs.Inner.{directoryIn, Flat}
+use Rattle.words.specs.Words.{little_at}
+use Rattle.words.proofs.Choices.{if_true, if_false}
+use Rattle.checksum.specs.Checksum.{checksum_of}
+use Rattle.directory.specs.Directory.{directory_kept, image_length}
+use Rattle.directory.specs.Inner.{directory_in, Flat}
 use Rattle.directory.specs.declared.directory.Directory.{Directory}
 use Rattle.answer.specs.declared.answer.Answer.TheVariants.{Done, WrongSum, BadState}
 use Rattle.record.specs.declared.reader.LogReader.{LogReader}
@@ -19,11 +19,11 @@ use Rattle.effect.specs.Effect.{Written}
 use Rattle.record.specs.Next.{plain}
 use Rattle.answer.specs.declared.answer.Refusal.{Refusal}
 use Rattle.answer.specs.Answer.{refusal}
-use Rattle.replay.specs.Inner.{isWalked, Opened, Walker, FlatFor}
-use Rattle.replay.specs.Replay.{Walked, fault, walked, recordAt, tablesKept, judged, replayedAs, imageAfter, end_in}
-use Rattle.replay.specs.Sum.{sumHeld, sumTested}
+use Rattle.replay.specs.Inner.{is_walked, Opened, Walker, FlatFor}
+use Rattle.replay.specs.Replay.{Walked, fault, walked, record_at, tables_kept, judged, replayed_as, image_after, end_in}
+use Rattle.replay.specs.Sum.{sum_held, sum_tested}
 use Rattle.replay.specs.declared.check.EndAnswer.TheVariants.{Ended, NotEnded}
-use Rattle.replay.proofs.Places.{EndsIn, ends-in}
+use Rattle.replay.proofs.Places.{EndsIn, ends_in}
 use Rattle.replay.proofs.Rest.{whole}
 use Rattle.replay.proofs.Sum.{sum-rest, plain-walked}
 
@@ -32,93 +32,93 @@ pub ended-walked : (g : Walked (List Written)) (end : ℕ) → Ended end ≡ end
 ended-walked (fault x) end e = let z : ◌≡◌ {A = ℕ} 0 1 = cc in absurd (omega arith)
 ended-walked (walked ws x) end e = let p : x ≡ end = cc in (ws, ap (walked ws) p)
 
-pub not-ended : (g : Walked (List Written)) (a : Refusal) → NotEnded a ≡ end_in g → g ≡ fault a
-not-ended (fault x) a e = let p : x ≡ a = cc in ap {B = Walked (List Written)} fault p
-not-ended (walked ws x) a e = let z : ◌≡◌ {A = ℕ} 0 1 = cc in absurd (omega arith)
+pub not_ended_lem : (g : Walked (List Written)) (a : Refusal) → NotEnded a ≡ end_in g → g ≡ fault a
+not_ended_lem (fault x) a e = let p : x ≡ a = cc in ap {B = Walked (List Written)} fault p
+not_ended_lem (walked ws x) a e = let z : ◌≡◌ {A = ℕ} 0 1 = cc in absurd (omega arith)
 
 -- an answer by where a record ended: what `replay` says, and what becomes of the image
-pub ended-as : (at end : ℕ) (g : Walked (List Written)) → Ended end ≡ end_in g → record { answer = Done; position = end; fault_at = end } ≡ replayedAs at g
-ended-as at end g e = sym (ap (replayedAs at) (ended-walked g end e).1)
+pub ended_as : (at end : ℕ) (g : Walked (List Written)) → Ended end ≡ end_in g → record { answer = Done; position = end; fault_at = end } ≡ replayed_as at g
+ended_as at end g e = sym (ap (replayed_as at) (ended-walked g end e).1)
 
-pub not-ended-as : (at : ℕ) (a : Refusal) (g : Walked (List Written)) → NotEnded a ≡ end_in g → record { answer = a.answer; position = at; fault_at = a.position } ≡ replayedAs at g
-not-ended-as at a g e = sym (ap (replayedAs at) (not-ended g a e))
+pub not_ended_as : (at : ℕ) (a : Refusal) (g : Walked (List Written)) → NotEnded a ≡ end_in g → record { answer = a.answer; position = at; fault_at = a.position } ≡ replayed_as at g
+not_ended_as at a g e = sym (ap (replayed_as at) (not_ended_lem g a e))
 
-pub untouched : (d : Directory) (image : List ℕ) (a : Refusal) (g : Walked (List Written)) → NotEnded a ≡ end_in g → image ≡ imageAfter d image g
-untouched d image a g e = sym (ap (imageAfter d image) (not-ended g a e))
+pub untouched : (d : Directory) (image : List ℕ) (a : Refusal) (g : Walked (List Written)) → NotEnded a ≡ end_in g → image ≡ image_after d image g
+untouched d image a g e = sym (ap (image_after d image) (not_ended_lem g a e))
 
 module _ (d : Directory) (log : List ℕ) (at : ℕ) (r : LogReader) (o : Opened log at r) where
   abbrev fits : ℕ → Bool
-  fits end = eqb (littleAt 4 log (end - 4)) (checksumOf (take (end - 4 - at) (drop at log)))
+  fits end = eqb (little_at 4 log (end - 4)) (checksum_of (take (end - 4 - at) (drop at log)))
 
   pub checked-no : (a : Refusal) → NotEnded a ≡ end_in (whole d log (plain r)) → NotEnded a ≡ end_in (whole d log r)
-  checked-no a e = sym (ap end_in (sum-rest d log at (suc (length log)) r o ∙ ap (sumTested at log) (not-ended (whole d log (plain r)) a e)))
+  checked-no a e = sym (ap end_in (sum-rest d log at (suc (length log)) r o ∙ ap (sum_tested at log) (not_ended_lem (whole d log (plain r)) a e)))
 
-  by-sum : (end : ℕ) → Ended end ≡ end_in (whole d log (plain r)) → (b : Bool) → fits end ≡ b → end_in (whole d log r) ≡ end_in (sumHeld b end [])
+  by-sum : (end : ℕ) → Ended end ≡ end_in (whole d log (plain r)) → (b : Bool) → fits end ≡ b → end_in (whole d log r) ≡ end_in (sum_held b end [])
   by-sum end e b q =
       let g = ended-walked (whole d log (plain r)) end e in
-      ap end_in (sum-rest d log at (suc (length log)) r o ∙ ap (sumTested at log) g.1 ∙ ap (λ (t : Bool). sumHeld t end g.0) q)
+      ap end_in (sum-rest d log at (suc (length log)) r o ∙ ap (sum_tested at log) g.1 ∙ ap (λ (t : Bool). sum_held t end g.0) q)
       ∙ either b g.0
     where
-      either : (b : Bool) (ws : List Written) → end_in (sumHeld b end ws) ≡ end_in (sumHeld b end [])
+      either : (b : Bool) (ws : List Written) → end_in (sum_held b end ws) ≡ end_in (sum_held b end [])
       either true ws = refl
       either false ws = refl
 
-  pub checked-yes : (end : ℕ) → Ended end ≡ end_in (whole d log (plain r)) → fits end ≡ true → Ended end ≡ end_in (whole d log r)
-  checked-yes end e q = sym (by-sum end e true q)
+  pub checked_yes : (end : ℕ) → Ended end ≡ end_in (whole d log (plain r)) → fits end ≡ true → Ended end ≡ end_in (whole d log r)
+  checked_yes end e q = sym (by-sum end e true q)
 
-  pub checked-wrong : (end : ℕ) → Ended end ≡ end_in (whole d log (plain r)) → fits end ≡ false → NotEnded (refusal WrongSum (end - 5)) ≡ end_in (whole d log r)
-  checked-wrong end e q = sym (by-sum end e false q)
+  pub checked_wrong : (end : ℕ) → Ended end ≡ end_in (whole d log (plain r)) → fits end ≡ false → NotEnded (refusal WrongSum (end - 5)) ≡ end_in (whole d log r)
+  checked_wrong end e q = sym (by-sum end e false q)
 
   -- a reader that leaves the checksum out walks on
-  pub plain-walker : (p : LogReader) → p ≡ plain r → Walker log p
-  plain-walker p e = subst (Walker log) (sym e) (record { inside = o.inside; plainly = refl; within = o.within })
+  pub plain_walker : (p : LogReader) → p ≡ plain r → Walker log p
+  plain_walker p e = subst (Walker log) (sym e) (record { inside = o.inside; plainly = refl; within = o.within })
 
   -- the second pass reads what the first one read, and no checksum
-  pub second_walks : (end : ℕ) → Ended end ≡ end_in (whole d log r) → isWalked (whole d log (plain r)) ≡ true
+  pub second_walks : (end : ℕ) → Ended end ≡ end_in (whole d log r) → is_walked (whole d log (plain r)) ≡ true
   second_walks end e =
       let g = ended-walked (whole d log r) end e in
-      ap isWalked (plain-walked d log at (suc (length log)) r g.0 end o g.1)
+      ap is_walked (plain-walked d log at (suc (length log)) r g.0 end o g.1)
 
-  pub second-leaves : (image : List ℕ) (end : ℕ) → Ended end ≡ end_in (whole d log r) → imageAfter d image (whole d log (plain r)) ≡ imageAfter d image (whole d log r)
+  pub second-leaves : (image : List ℕ) (end : ℕ) → Ended end ≡ end_in (whole d log r) → image_after d image (whole d log (plain r)) ≡ image_after d image (whole d log r)
   second-leaves image end e =
       let g = ended-walked (whole d log r) end e in
-      ap (imageAfter d image) (plain-walked d log at (suc (length log)) r g.0 end o g.1 ∙ sym g.1)
+      ap (image_after d image) (plain-walked d log at (suc (length log)) r g.0 end o g.1 ∙ sym g.1)
 
   pub checked-place : (end : ℕ) → Ended end ≡ end_in (whole d log (plain r)) → EndsIn log r end
   checked-place end e =
       let g = ended-walked (whole d log (plain r)) end e in
-      let k : EndsIn log (plain r) end = ends-in d log (suc (length log)) (plain r) g.0 end o.inside g.1 in
+      let k : EndsIn log (plain r) end = ends_in d log (suc (length log)) (plain r) g.0 end o.inside g.1 in
       record { five = k.five; inside = k.inside }
 
 -- ---- 13 first
 
 module _ (d : Directory) (log : List ℕ) (at expected : ℕ) (image : List ℕ) where
-  pub judged-kept : tablesKept d image ≡ true → judged d log at expected image ≡ recordAt d log at expected
+  pub judged-kept : tables_kept d image ≡ true → judged d log at expected image ≡ record_at d log at expected
   unfolding judged
-  judged-kept e = if-true (tablesKept d image) _ _ e
+  judged-kept e = if_true (tables_kept d image) _ _ e
 
-  pub judged-bad : tablesKept d image ≡ false → judged d log at expected image ≡ fault (refusal BadState at)
+  pub judged_bad : tables_kept d image ≡ false → judged d log at expected image ≡ fault (refusal BadState at)
   unfolding judged
-  judged-bad e = if-false (tablesKept d image) _ _ e
+  judged_bad e = if_false (tables_kept d image) _ _ e
 
   -- what is accepted is a whole record
-  pub judged-walked : (ws : List Written) (end : ℕ) → judged d log at expected image ≡ walked ws end → recordAt d log at expected ≡ walked ws end
-  judged-walked ws end e = go (tablesKept d image) refl
+  pub judged-walked : (ws : List Written) (end : ℕ) → judged d log at expected image ≡ walked ws end → record_at d log at expected ≡ walked ws end
+  judged-walked ws end e = go (tables_kept d image) refl
     where
-      go : (b : Bool) → tablesKept d image ≡ b → recordAt d log at expected ≡ walked ws end
+      go : (b : Bool) → tables_kept d image ≡ b → record_at d log at expected ≡ walked ws end
       go true q = sym (judged-kept q) ∙ e
-      go false q = let z : ◌≡◌ {A = ℕ} 0 1 = cc (sym (judged-bad q) ∙ e) in absurd (omega arith)
+      go false q = let z : ◌≡◌ {A = ℕ} 0 1 = cc (sym (judged_bad q) ∙ e) in absurd (omega arith)
 
 -- what 13 tests
-module _ (d : Directory) (image : List ℕ) (e : tablesKept d image ≡ true) where
-  pub kept-directory : directoryKept d ≡ true
-  unfolding tablesKept
-  kept-directory = ((and-eq-true_iff (directoryKept d) (eqb (length image) (imageLength d))).0 e).0
+module _ (d : Directory) (image : List ℕ) (e : tables_kept d image ≡ true) where
+  pub kept-directory : directory_kept d ≡ true
+  unfolding tables_kept
+  kept-directory = ((and-eq-true_iff (directory_kept d) (eqb (length image) (image_length d))).0 e).0
 
-  pub kept-length : length image ≡ imageLength d
-  unfolding tablesKept
-  kept-length = eqb-true (length image) (imageLength d) ((and-eq-true_iff (directoryKept d) (eqb (length image) (imageLength d))).0 e).1
+  pub kept-length : length image ≡ image_length d
+  unfolding tables_kept
+  kept-length = eqb-true (length image) (image_length d) ((and-eq-true_iff (directory_kept d) (eqb (length image) (image_length d))).0 e).1
 
 -- written out as numbers, they are the same
-pub flat-for : (t : List ℕ) (d : Directory) (image : List ℕ) → directoryIn t ≡ d → Flat t → tablesKept d image ≡ true → FlatFor t image
-flat-for t d image e f k = record { flat = f; long = kept-length d image k ∙ ap imageLength (sym e) }
+pub flat_for : (t : List ℕ) (d : Directory) (image : List ℕ) → directory_in t ≡ d → Flat t → tables_kept d image ≡ true → FlatFor t image
+flat_for t d image e f k = record { flat = f; long = kept-length d image k ∙ ap image_length (sym e) }

@@ -7,25 +7,25 @@ use Prim.Native.Nat.{ℕ, zero, suc, ◌<◌}
 use native.Mathlib.Omega.{arith}
 use lib.ListN.{length, get_or}
 use Rattle.words.specs.Choice.{if◌then◌else◌}
-use Rattle.words.proofs.Choices.{if-true, if-false}
+use Rattle.words.proofs.Choices.{if_true, if_false}
 use Rattle.directory.specs.declared.directory.Directory.{Directory}
-use Rattle.record.specs.Next.{isEnd, step_of}
+use Rattle.record.specs.Next.{is_end, step_of}
 use Rattle.record.specs.declared.reader.LogReader.{LogReader}
 use Rattle.record.specs.declared.reader.Stepped.{Stepped}
 use Rattle.record.specs.declared.reader.Step.{Step}
 use Rattle.record.specs.declared.reader.Step.TheVariants.{Took, Refused}
 use Rattle.effect.specs.Effect.{Written, apply}
-use Rattle.effect.specs.Meaning.{Sized, lastSaid}
+use Rattle.effect.specs.Meaning.{Sized, last_said}
 use Rattle.effect.specs.Order.{Each, Pairs, Other, Spared}
 use Rattle.effect.proofs.Sized.{payload-sized}
-use Rattle.effect.proofs.Bytes.{orElse-getD, length-apply}
+use Rattle.effect.proofs.Bytes.{or_else_get_d, length-apply}
 use Rattle.effect.proofs.Demand2 as effect-2
 use Rattle.effect.proofs.Demand3 as effect-3
-use Rattle.replay.specs.Replay.{Walked, fault, walked, writtenIn, addFirst, by_step, rest_of, recordAt, tablesKept, judged, imageAfter}
-use Rattle.replay.specs.Run.{run_of, wholeRecords, Chain, chain-end, chain_more, applyAll, lastOfAll, Replays}
+use Rattle.replay.specs.Replay.{Walked, fault, walked, written_in, add_first, by_step, rest_of, record_at, tables_kept, judged, image_after}
+use Rattle.replay.specs.Run.{run_of, whole_records, Chain, chain_end, chain_more, apply_all, last_of_all, Replays}
 use Rattle.replay.proofs.Checked.{judged-walked}
 use Rattle.replay.proofs.CutLog.{run-exactly}
-use Rattle.replay.proofs.Opening.{Whole, whole-record}
+use Rattle.replay.proofs.Opening.{Whole, whole_record}
 use Rattle.replay.proofs.Stop.{stop_is}
 
 -- each action of an accepted record has the payload that its bytes say
@@ -41,7 +41,7 @@ rest-sized d log (suc n) r ws end e = go (step_of d log r) refl e (λ k vs. rest
     nothing x [] f = tt
     nothing x (w ∷ vs) f = let p : [] ≡ w ∷ vs = cc in let z : ◌≡◌ {A = ℕ} 0 1 = cc in absurd (omega arith)
 
-    front : (w : Written) (k : LogReader) (g : Walked (List Written)) → rest_of n d log k ≡ g → Sized d w → Next → (ws : List Written) → addFirst w g ≡ walked ws end → Each (Sized d) ws
+    front : (w : Written) (k : LogReader) (g : Walked (List Written)) → rest_of n d log k ≡ g → Sized d w → Next → (ws : List Written) → add_first w g ≡ walked ws end → Each (Sized d) ws
     front w k (fault x) q h ih ws f = let z : ◌≡◌ {A = ℕ} 0 1 = cc in absurd (omega arith)
     front w k (walked vs x) q h ih ws f =
         let p : x ≡ end = cc in
@@ -49,18 +49,18 @@ rest-sized d log (suc n) r ws end e = go (step_of d log r) refl e (λ k vs. rest
         let a : Each (Sized d) (w ∷ vs) = (h, ih k vs (q ∙ ap (walked vs) p)) in
         subst (λ (x : List Written). Each (Sized d) x) l a
 
-    by : (s : Stepped) → step_of d log r ≡ Took s → (t : Bool) → isEnd s.action ≡ t → by_step log (rest_of n d log) (Took s) ≡ walked ws end → Next → Each (Sized d) ws
-    by s q true t f ih = nothing s.reader.position ws (sym (if-true (isEnd s.action) _ _ t) ∙ f)
+    by : (s : Stepped) → step_of d log r ≡ Took s → (t : Bool) → is_end s.action ≡ t → by_step log (rest_of n d log) (Took s) ≡ walked ws end → Next → Each (Sized d) ws
+    by s q true t f ih = nothing s.reader.position ws (sym (if_true (is_end s.action) _ _ t) ∙ f)
     by s q false t f ih =
-        front (writtenIn log s) s.reader (rest_of n d log s.reader) refl (payload-sized d log r s q).sized ih ws (sym (if-false (isEnd s.action) _ _ t) ∙ f)
+        front (written_in log s) s.reader (rest_of n d log s.reader) refl (payload-sized d log r s q).sized ih ws (sym (if_false (is_end s.action) _ _ t) ∙ f)
 
     go : (st : Step) → step_of d log r ≡ st → by_step log (rest_of n d log) st ≡ walked ws end → Next → Each (Sized d) ws
     go (Refused x) q f ih = let z : ◌≡◌ {A = ℕ} 0 1 = cc in absurd (omega arith)
-    go (Took s) q f ih = by s q (isEnd s.action) refl f ih
+    go (Took s) q f ih = by s q (is_end s.action) refl f ih
 
-pub accepted-sized : (d : Directory) (log : List ℕ) (at expected : ℕ) (ws : List Written) (end : ℕ) → recordAt d log at expected ≡ walked ws end → Each (Sized d) ws
+pub accepted-sized : (d : Directory) (log : List ℕ) (at expected : ℕ) (ws : List Written) (end : ℕ) → record_at d log at expected ≡ walked ws end → Each (Sized d) ws
 accepted-sized d log at expected ws end e =
-    let w : Whole d log at expected ws end = whole-record d log at expected ws end e in
+    let w : Whole d log at expected ws end = whole_record d log at expected ws end e in
     rest-sized d log (suc (length log)) w.s.reader ws end w.rest
 
 -- DEMAND 2. "Taken in written order, an accepted record sets exactly the entries its masks name and the values it lists, zeroes the tables it
@@ -68,9 +68,9 @@ accepted-sized d log at expected ws end e =
 -- them that says anything of it says (`says`: no order and no stores in it), and the old byte where none does
 pub demand-2 : (d : Directory) (log : List ℕ) (at expected : ℕ) (image : List ℕ) (ws : List Written) (end : ℕ) → judged d log at expected image ≡ walked ws end
     → (p : ℕ) → p < length image
-    → get_or (imageAfter d image (judged d log at expected image)) p 0 ≡ Option.get_or (lastSaid d ws p) (get_or image p 0)
+    → get_or (image_after d image (judged d log at expected image)) p 0 ≡ Option.get_or (last_said d ws p) (get_or image p 0)
 demand-2 d log at expected image ws end e p h =
-    ap (λ (g : Walked (List Written)). get_or (imageAfter d image g) p 0) e
+    ap (λ (g : Walked (List Written)). get_or (image_after d image g) p 0) e
     ∙ effect-2.demand-2 d ws image p (accepted-sized d log at expected ws end (judged-walked d log at expected image ws end e)) h
 
 -- DEMAND 3. "Take two accepted records with one id, one directory, equal starting tables and the same actions with the same bytes in different
@@ -82,40 +82,40 @@ pub demand-3 : (d : Directory) (id : ℕ) (image : List ℕ)
     → Perm ws₁ ws₂  -- the same actions with the same bytes
     → Pairs Other ws₁  -- no kind, table and index is written twice
     → Pairs Spared ws₁ → Pairs Spared ws₂  -- in neither a table is written after its own drop
-    → (imageAfter d image (judged d log₁ at₁ id image) ≡ imageAfter d image (judged d log₂ at₂ id image))
-    × ((p : ℕ) → p < length image → get_or (imageAfter d image (judged d log₁ at₁ id image)) p 0 ≡ Option.get_or (lastSaid d ws₁ p) (get_or image p 0))
-    × ((p : ℕ) → p < length image → get_or (imageAfter d image (judged d log₂ at₂ id image)) p 0 ≡ Option.get_or (lastSaid d ws₂ p) (get_or image p 0))
+    → (image_after d image (judged d log₁ at₁ id image) ≡ image_after d image (judged d log₂ at₂ id image))
+    × ((p : ℕ) → p < length image → get_or (image_after d image (judged d log₁ at₁ id image)) p 0 ≡ Option.get_or (last_said d ws₁ p) (get_or image p 0))
+    × ((p : ℕ) → p < length image → get_or (image_after d image (judged d log₂ at₂ id image)) p 0 ≡ Option.get_or (last_said d ws₂ p) (get_or image p 0))
 demand-3 d id image log₁ at₁ ws₁ end₁ log₂ at₂ ws₂ end₂ e₁ e₂ p o s₁ s₂ = (
-  ap (imageAfter d image) e₁ ∙ effect-3.demand-3 d ws₁ ws₂ image p o s₁ s₂ ∙ sym (ap (imageAfter d image) e₂),
+  ap (image_after d image) e₁ ∙ effect-3.demand-3 d ws₁ ws₂ image p o s₁ s₂ ∙ sym (ap (image_after d image) e₂),
   demand-2 d log₁ at₁ id image ws₁ end₁ e₁,
   demand-2 d log₂ at₂ id image ws₂ end₂ e₂,
 )
 
 -- ---- demand 2 for each record of a run
 
-chain-bytes : {d : Directory} {log : List ℕ} {at expected : ℕ} {rs : List (List Written)} {end : ℕ} → Chain d log at expected rs end → (image : List ℕ) (p : ℕ) → p < length image
-    → get_or (applyAll d rs image) p 0 ≡ Option.get_or (lastOfAll d rs p) (get_or image p 0)
-unfolding applyAll lastOfAll
-chain-bytes chain-end image p h = refl
-chain-bytes {d} {log} {at} {expected} (chain_more {ws = ws} {mid = mid} {rs = rs} e c) image p h =
-    chain-bytes c (apply d ws image) p (rw length-apply h)
-    ∙ ap (Option.get_or (lastOfAll d rs p)) (effect-2.demand-2 d ws image p (accepted-sized d log at expected ws mid e) h)
-    ∙ sym (orElse-getD (lastOfAll d rs p) (lastSaid d ws p) (get_or image p 0))
+chain_bytes : {d : Directory} {log : List ℕ} {at expected : ℕ} {rs : List (List Written)} {end : ℕ} → Chain d log at expected rs end → (image : List ℕ) (p : ℕ) → p < length image
+    → get_or (apply_all d rs image) p 0 ≡ Option.get_or (last_of_all d rs p) (get_or image p 0)
+unfolding apply_all last_of_all
+chain_bytes chain_end image p h = refl
+chain_bytes {d} {log} {at} {expected} (chain_more {ws = ws} {mid = mid} {rs = rs} e c) image p h =
+    chain_bytes c (apply d ws image) p (rw length-apply h)
+    ∙ ap (Option.get_or (last_of_all d rs p)) (effect-2.demand-2 d ws image p (accepted-sized d log at expected ws mid e) h)
+    ∙ sym (or_else_get_d (last_of_all d rs p) (last_said d ws p) (get_or image p 0))
 
-length-all : (d : Directory) (rs : List (List Written)) (image : List ℕ) → length (applyAll d rs image) ≡ length image
-unfolding applyAll
+length-all : (d : Directory) (rs : List (List Written)) (image : List ℕ) → length (apply_all d rs image) ≡ length image
+unfolding apply_all
 length-all d [] image = refl
 length-all d (ws ∷ rs) image = length-all d rs (apply d ws image) ∙ length-apply d ws image
 
 -- THE RUN
-pub run-replays : (d : Directory) (log : List ℕ) (at first : ℕ) (image : List ℕ) → tablesKept d image ≡ true → Replays d log at first image (run_of d log at first image)
-run-replays d log at first image kept =
-    let rs : List (List Written) = wholeRecords (length log) d log at first in
+pub run_replays : (d : Directory) (log : List ℕ) (at first : ℕ) (image : List ℕ) → tables_kept d image ≡ true → Replays d log at first image (run_of d log at first image)
+run_replays d log at first image kept =
+    let rs : List (List Written) = whole_records (length log) d log at first in
     let l = run-exactly d log at first image kept in
     record {
       records = rs;
       leaves = l;
       stops = stop_is d log first at image kept;
-      bytes = λ p h. ap (λ (i : List ℕ). get_or i p 0) l.tables ∙ chain-bytes l.stand image p h;
+      bytes = λ p h. ap (λ (i : List ℕ). get_or i p 0) l.tables ∙ chain_bytes l.stand image p h;
       long = ap length l.tables ∙ length-all d rs image;
     }

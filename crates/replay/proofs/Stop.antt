@@ -10,36 +10,36 @@ use lib.ListN.{length}
 use borrow.Author.Tests.{eqb-true}
 use Rattle.directory.specs.declared.directory.Directory.{Directory}
 use Rattle.effect.specs.Effect.{Written, apply}
-use Rattle.answer.specs.Answer.{lastRecordId}
-use Rattle.replay.specs.Replay.{Walked, fault, walked, recordAt, tablesKept}
-use Rattle.replay.specs.Run.{byRecord, run_from, run_of, Stops, refuses, used-up}
-use Rattle.replay.proofs.Opening.{record-on}
+use Rattle.answer.specs.Answer.{last_record_id}
+use Rattle.replay.specs.Replay.{Walked, fault, walked, record_at, tables_kept}
+use Rattle.replay.specs.Run.{by_record, run_from, run_of, Stops, refuses, used-up}
+use Rattle.replay.proofs.Opening.{record_on}
 
 module _ (d : Directory) (log : List ℕ) (first : ℕ) where
   run-stops : (n at count : ℕ) (image : List ℕ) → length log - at < n → Stops d log first (run_from n d log at (first + count) count image)
   unfolding run_from
   run-stops zero at count image h = absurd (omega arith)
-  run-stops (suc n) at count image h = go (recordAt d log at (first + count)) refl (run-stops n)
+  run-stops (suc n) at count image h = go (record_at d log at (first + count)) refl (run-stops n)
     where
       Next : Type 0
       Next = (at count : ℕ) (image : List ℕ) → length log - at < n → Stops d log first (run_from n d log at (first + count) count image)
 
-      last : (ws : List Written) (end : ℕ) → recordAt d log at (first + count) ≡ walked ws end → (b : Bool) → eqb (first + count) lastRecordId ≡ b → Next
-          → Stops d log first (byRecord d (run_from n d log) at (first + count) count image (walked ws end))
+      last : (ws : List Written) (end : ℕ) → record_at d log at (first + count) ≡ walked ws end → (b : Bool) → eqb (first + count) last_record_id ≡ b → Next
+          → Stops d log first (by_record d (run_from n d log) at (first + count) count image (walked ws end))
       last ws end e true b ih =
-          let p : first + count ≡ lastRecordId = eqb-true (first + count) lastRecordId b in
+          let p : first + count ≡ last_record_id = eqb-true (first + count) last_record_id b in
           rw b (used-up (omega arith) refl refl)
       last ws end e false b ih =
-          let o = record-on d log at (first + count) ws end e in
+          let o = record_on d log at (first + count) ws end e in
           let z : first + (count + 1) ≡ first + count + 1 = omega arith in
           rw (b, ← z) (ih end (count + 1) (apply d ws image) (omega (arith, o.forward, o.inside)))
 
-      go : (g : Walked (List Written)) → recordAt d log at (first + count) ≡ g → Next → Stops d log first (byRecord d (run_from n d log) at (first + count) count image g)
+      go : (g : Walked (List Written)) → record_at d log at (first + count) ≡ g → Next → Stops d log first (by_record d (run_from n d log) at (first + count) count image g)
       go (fault x) e ih = refuses x e refl refl
-      go (walked ws end) e ih = last ws end e (eqb (first + count) lastRecordId) refl ih
+      go (walked ws end) e ih = last ws end e (eqb (first + count) last_record_id) refl ih
 
   -- THE STOP
-  pub stop_is : (at : ℕ) (image : List ℕ) → tablesKept d image ≡ true → Stops d log first (run_of d log at first image)
+  pub stop_is : (at : ℕ) (image : List ℕ) → tables_kept d image ≡ true → Stops d log first (run_of d log at first image)
   unfolding run_of
   stop_is at image kept =
       let z : first + 0 ≡ first = omega arith in

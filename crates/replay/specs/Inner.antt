@@ -1,16 +1,16 @@
 -- What the inner functions of replay ask for. Nothing here has to be believed: `Replay` and `Run` say what the public calls answer.
 use Rattle.std.specs.Prelude.{Bool, true, false, ◌≡◌, List, ℕ, ◌-◌, ◌≤◌, length, take, drop}
-use Rattle.checksum.specs.Checksum.{allOnes, updated}
-use Rattle.directory.specs.Directory.{imageLength}
-use Rattle.directory.specs.Inner.{directoryIn, Flat}
+use Rattle.checksum.specs.Checksum.{all_ones, updated}
+use Rattle.directory.specs.Directory.{image_length}
+use Rattle.directory.specs.Inner.{directory_in, Flat}
 use Rattle.record.specs.declared.reader.LogReader.{LogReader}
 use Rattle.effect.specs.Effect.{Written}
 use Rattle.replay.specs.Replay.{Walked, fault, walked}
 
 -- a walk that met no fault
-abbrev pub isWalked : Walked (List Written) → Bool
-isWalked (fault x) = false
-isWalked (walked ws end) = true
+abbrev pub is_walked : Walked (List Written) → Bool
+is_walked (fault x) = false
+is_walked (walked ws end) = true
 
 -- a reader inside a record that began at `at`: it validates, and its checksum has taken all the bytes since
 pub record Opened (log : List ℕ) (at : ℕ) (r : LogReader) : Type 0 where
@@ -18,7 +18,7 @@ pub record Opened (log : List ℕ) (at : ℕ) (r : LogReader) : Type 0 where
   pub validates : r.validate ≡ true
   pub behind : at ≤ r.position
   pub within : r.position ≤ length log
-  pub sum : r.crc32 ≡ updated allOnes (take (r.position - at) (drop at log))
+  pub sum : r.crc32 ≡ updated all_ones (take (r.position - at) (drop at log))
 
 -- a reader inside a record that leaves the checksum to whoever takes it over the whole record
 pub record Walker (log : List ℕ) (r : LogReader) : Type 0 where
@@ -33,4 +33,4 @@ moved_to r at = record { position = at; record_id = r.record_id; crc32 = r.crc32
 -- a directory in numbers, and an image that is its
 pub record FlatFor (t image : List ℕ) : Type 0 where
   pub flat : Flat t
-  pub long : length image ≡ imageLength (directoryIn t)
+  pub long : length image ≡ image_length (directory_in t)

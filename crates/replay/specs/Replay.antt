@@ -2,9 +2,9 @@
 -- stand in the bytes"). Added: in parity-db the caller of log.rs does this.
 use Rattle.std.specs.Prelude.{Bool, true, ◌&&◌, List, [], ◌∷◌, ℕ, zero, suc, eqb, length, take, drop}
 use Rattle.words.specs.Choice.{if◌then◌else◌}
-use Rattle.directory.specs.Directory.{directoryKept, imageLength}
+use Rattle.directory.specs.Directory.{directory_kept, image_length}
 use Rattle.directory.specs.declared.directory.Directory.{Directory}
-use Rattle.record.specs.Next.{isEnd, readerAt, step_of}
+use Rattle.record.specs.Next.{is_end, reader_at, step_of}
 use Rattle.answer.specs.Answer.{refusal}
 use Rattle.answer.specs.declared.answer.Answer.TheVariants.{Done, Cut, WrongId, BadState}
 use Rattle.answer.specs.declared.answer.Refusal.{Refusal}
@@ -25,18 +25,18 @@ pub data Walked (A : Type 0) : Type 0 where
   walked : A → (end : ℕ) → Walked A
 
 -- an action that was read, with its payload's bytes
-abbrev pub writtenIn : List ℕ → Stepped → Written
-writtenIn log s = record { action = s.action; payload = take s.length (drop s.start log) }
+abbrev pub written_in : List ℕ → Stepped → Written
+written_in log s = record { action = s.action; payload = take s.length (drop s.start log) }
 
 -- one action in front of what is read behind it
-abbrev pub addFirst : Written → Walked (List Written) → Walked (List Written)
-addFirst w (fault x) = fault x
-addFirst w (walked ws end) = walked (w ∷ ws) end
+abbrev pub add_first : Written → Walked (List Written) → Walked (List Written)
+add_first w (fault x) = fault x
+add_first w (walked ws end) = walked (w ∷ ws) end
 
 -- after a step: the refusal; at the end tag the place behind it; else the action, and on from behind it
 abbrev pub by_step : List ℕ → (LogReader → Walked (List Written)) → Step → Walked (List Written)
 by_step log rest (Refused x) = fault x
-by_step log rest (Took s) = if isEnd s.action then walked [] s.reader.position else addFirst (writtenIn log s) (rest s.reader)
+by_step log rest (Took s) = if is_end s.action then walked [] s.reader.position else add_first (written_in log s) (rest s.reader)
 
 -- the actions from inside a record to its end, in written order, and the place behind it; or the first fault. At most n steps
 unfoldable pub rest_of : ℕ → Directory → List ℕ → LogReader → Walked (List Written)
@@ -44,36 +44,36 @@ rest_of zero d log r = fault (refusal Cut r.position)
 rest_of (suc n) d log r = by_step log (rest_of n d log) (step_of d log r)
 
 -- each action takes a byte or more, so no more steps are due than the log has bytes: the bound is never met (`enough`, proofs/Rest)
-abbrev pub restIn : Directory → List ℕ → LogReader → Walked (List Written)
-restIn d log r = rest_of (suc (length log)) d log r
+abbrev pub rest_in : Directory → List ℕ → LogReader → Walked (List Written)
+rest_in d log r = rest_of (suc (length log)) d log r
 
 -- "Expected id is tested, in replay only, right after the opening"; "For 5 that is the begin tag", where the record starts
-abbrev pub byOpening : ℕ → ℕ → (LogReader → Walked (List Written)) → Step → Walked (List Written)
-byOpening at expected rest (Refused x) = fault x
-byOpening at expected rest (Took s) = if eqb s.reader.record_id expected then rest s.reader else fault (refusal WrongId at)  -- 5
+abbrev pub by_opening : ℕ → ℕ → (LogReader → Walked (List Written)) → Step → Walked (List Written)
+by_opening at expected rest (Refused x) = fault x
+by_opening at expected rest (Took s) = if eqb s.reader.record_id expected then rest s.reader else fault (refusal WrongId at)  -- 5
 
 -- a whole record: "then for reading 14, then faults in byte order"; "replay always validates"
-unfoldable pub recordAt : Directory → List ℕ → ℕ → ℕ → Walked (List Written)
-recordAt d log at expected = byOpening at expected (restIn d log) (step_of d log (readerAt at true))
+unfoldable pub record_at : Directory → List ℕ → ℕ → ℕ → Walked (List Written)
+record_at d log at expected = by_opening at expected (rest_in d log) (step_of d log (reader_at at true))
 
 -- 13: the directory's rules, "or image length differs"
-unfoldable pub tablesKept : Directory → List ℕ → Bool
-tablesKept d image = directoryKept d && eqb (length image) (imageLength d)
+unfoldable pub tables_kept : Directory → List ℕ → Bool
+tables_kept d image = directory_kept d && eqb (length image) (image_length d)
 
 -- the record that `replay` is asked for, behind 13: "for 13 and 14 the position handed in"
 unfoldable pub judged : Directory → List ℕ → ℕ → ℕ → List ℕ → Walked (List Written)
-judged d log at expected image = if tablesKept d image then recordAt d log at expected else fault (refusal BadState at)
+judged d log at expected image = if tables_kept d image then record_at d log at expected else fault (refusal BadState at)
 
 -- what `replay` answers: the position behind the record, or the one handed in; and where the fault is, the position behind the record if
 -- there is none
-abbrev pub replayedAs : ℕ → Walked (List Written) → Replayed
-replayedAs at (fault x) = record { answer = x.answer; position = at; fault_at = x.position }
-replayedAs at (walked ws end) = record { answer = Done; position = end; fault_at = end }
+abbrev pub replayed_as : ℕ → Walked (List Written) → Replayed
+replayed_as at (fault x) = record { answer = x.answer; position = at; fault_at = x.position }
+replayed_as at (walked ws end) = record { answer = Done; position = end; fault_at = end }
 
 -- and the image: the record's effect, or as it was
-abbrev pub imageAfter : Directory → List ℕ → Walked (List Written) → List ℕ
-imageAfter d image (fault x) = image
-imageAfter d image (walked ws end) = apply d ws image
+abbrev pub image_after : Directory → List ℕ → Walked (List Written) → List ℕ
+image_after d image (fault x) = image
+image_after d image (walked ws end) = apply d ws image
 
 -- ---- the same where directory and image were tested already
 
@@ -83,11 +83,11 @@ end_in (fault x) = NotEnded x
 end_in (walked ws end) = Ended end
 
 -- what `check_record_in` answers, whatever the record's id: the reader behind its opening, and the place behind its end
-abbrev pub wholeBy : LogReader → Walked (List Written) → WholeAnswer
-wholeBy r (fault x) = NotWhole x
-wholeBy r (walked ws end) = Whole (record { opened = r; end = end })
+abbrev pub whole_by : LogReader → Walked (List Written) → WholeAnswer
+whole_by r (fault x) = NotWhole x
+whole_by r (walked ws end) = Whole (record { opened = r; end = end })
 
 -- the same from the step at its opening on
 abbrev pub whole_of : (LogReader → Walked (List Written)) → Step → WholeAnswer
 whole_of rest (Refused x) = NotWhole x
-whole_of rest (Took s) = wholeBy s.reader (rest s.reader)
+whole_of rest (Took s) = whole_by s.reader (rest s.reader)

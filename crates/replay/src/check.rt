@@ -1,8 +1,8 @@
 // The first pass over a record: from its opening to its end.
 ghost use Rattle.std.specs.Prelude.{◌≡◌};
-ghost use Rattle.directory.specs.Inner.{directoryIn, Flat};
+ghost use Rattle.directory.specs.Inner.{directory_in, Flat};
 ghost use Rattle.replay.specs.Inner.{Opened, Walker};
-ghost use Rattle.replay.specs.Replay.{restIn, end_in};
+ghost use Rattle.replay.specs.Replay.{rest_in, end_in};
 
 use answer::{Answer, Refusal};
 use record::{ItemAnswer, LogReader};
@@ -17,7 +17,7 @@ pub enum EndAnswer {
 // From inside a record to its end. The walk keeps its place alone: a whole reader would be copied at each action.
 fn end_of(t: &[u64; 81], log: &[u8], r: LogReader) -> EndAnswer
     requires { Flat t.now × Walker log.now r }
-    ensures { result ≡ end_in (restIn (directoryIn t.now) log.now r) }
+    ensures { result ≡ end_in (rest_in (directory_in t.now) log.now r) }
 {
     let mut at = r.position;
     loop {
@@ -38,7 +38,7 @@ fn end_of(t: &[u64; 81], log: &[u8], r: LogReader) -> EndAnswer
 // The first pass behind the opening: the record's end, and its checksum taken over all its bytes at once.
 pub fn checked_rest(t: &[u64; 81], log: &[u8], at: usize, opened: LogReader) -> EndAnswer
     requires { Flat t.now × Opened log.now at opened }
-    ensures { result ≡ end_in (restIn (directoryIn t.now) log.now opened) }
+    ensures { result ≡ end_in (rest_in (directory_in t.now) log.now opened) }
 {
     match end_of(t, log, opened.unvalidated()) {
         EndAnswer::NotEnded(x) => EndAnswer::NotEnded(x),

@@ -1,9 +1,9 @@
 // Records one behind the other.
 ghost use Rattle.std.specs.Prelude.{◌≡◌, true};
-ghost use Rattle.directory.specs.Inner.{directoryIn};
+ghost use Rattle.directory.specs.Inner.{directory_in};
 ghost use Rattle.replay.specs.Inner.{FlatFor};
-ghost use Rattle.replay.specs.Replay.{tablesKept};
-ghost use Rattle.replay.specs.Run.{runIn, run_of};
+ghost use Rattle.replay.specs.Replay.{tables_kept};
+ghost use Rattle.replay.specs.Run.{run_in, run_of};
 
 use super::check::EndAnswer;
 use super::one_record::{replay_in, tables_kept};
@@ -22,7 +22,7 @@ pub struct Ran {
 // A run under a directory in numbers.
 fn run_in(t: &[u64; 81], log: &[u8], at: usize, expected: u64, image: &mut [u8]) -> Ran
     requires { FlatFor t.now image.old }
-    ensures { (result ≡ (runIn (directoryIn t.now) log.now at expected 0 image.old).ran) × (image.new ≡ (runIn (directoryIn t.now) log.now at expected 0 image.old).image) }
+    ensures { (result ≡ (run_in (directory_in t.now) log.now at expected 0 image.old).ran) × (image.new ≡ (run_in (directory_in t.now) log.now at expected 0 image.old).image) }
 {
     let mut position = at;
     let mut id = expected;
@@ -57,8 +57,8 @@ fn run_in(t: &[u64; 81], log: &[u8], at: usize, expected: u64, image: &mut [u8])
 
 // A run under a directory and an image that were tested already.
 pub fn run_kept(d: Directory, log: &[u8], at: usize, expected: u64, image: &mut [u8]) -> Ran
-    requires { tablesKept d image.old ≡ true }
-    ensures { (result ≡ (runIn d log.now at expected 0 image.old).ran) × (image.new ≡ (runIn d log.now at expected 0 image.old).image) }
+    requires { tables_kept d image.old ≡ true }
+    ensures { (result ≡ (run_in d log.now at expected 0 image.old).ran) × (image.new ≡ (run_in d log.now at expected 0 image.old).image) }
 {
     let t = directory::flat(d);
     run_in(&t, log, at, expected, image)

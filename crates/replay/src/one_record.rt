@@ -1,8 +1,8 @@
 // One record, in two passes over its bytes: checked, then applied.
 ghost use Rattle.std.specs.Prelude.{◌≡◌, true};
-ghost use Rattle.directory.specs.Inner.{directoryIn};
+ghost use Rattle.directory.specs.Inner.{directory_in};
 ghost use Rattle.replay.specs.Inner.{Opened, FlatFor};
-ghost use Rattle.replay.specs.Replay.{restIn, recordAt, tablesKept, judged, replayedAs, imageAfter, end_in};
+ghost use Rattle.replay.specs.Replay.{rest_in, record_at, tables_kept, judged, replayed_as, image_after, end_in};
 
 use super::apply::apply_rest;
 use super::check::{EndAnswer, checked_rest};
@@ -27,7 +27,7 @@ fn replay_opened(
     image: &mut [u8],
 ) -> EndAnswer
     requires { FlatFor t.now image.old × Opened log.now at opened }
-    ensures { (result ≡ end_in (restIn (directoryIn t.now) log.now opened)) × (image.new ≡ imageAfter (directoryIn t.now) image.old (restIn (directoryIn t.now) log.now opened)) }
+    ensures { (result ≡ end_in (rest_in (directory_in t.now) log.now opened)) × (image.new ≡ image_after (directory_in t.now) image.old (rest_in (directory_in t.now) log.now opened)) }
 {
     match checked_rest(t, log, at, opened) {
         EndAnswer::NotEnded(x) => EndAnswer::NotEnded(x),
@@ -41,7 +41,7 @@ fn replay_opened(
 // A record under a directory in numbers: a run writes it once.
 pub fn replay_in(t: &[u64; 81], log: &[u8], at: usize, expected: u64, image: &mut [u8]) -> EndAnswer
     requires { FlatFor t.now image.old }
-    ensures { (result ≡ end_in (recordAt (directoryIn t.now) log.now at expected)) × (image.new ≡ imageAfter (directoryIn t.now) image.old (recordAt (directoryIn t.now) log.now at expected)) }
+    ensures { (result ≡ end_in (record_at (directory_in t.now) log.now at expected)) × (image.new ≡ image_after (directory_in t.now) image.old (record_at (directory_in t.now) log.now at expected)) }
 {
     match LogReader::new(at, true).open(log) {
         Step::Refused(x) => EndAnswer::NotEnded(x),
@@ -64,8 +64,8 @@ pub fn replay_kept(
     expected: u64,
     image: &mut [u8],
 ) -> EndAnswer
-    requires { tablesKept d image.old ≡ true }
-    ensures { (result ≡ end_in (recordAt d log.now at expected)) × (image.new ≡ imageAfter d image.old (recordAt d log.now at expected)) }
+    requires { tables_kept d image.old ≡ true }
+    ensures { (result ≡ end_in (record_at d log.now at expected)) × (image.new ≡ image_after d image.old (record_at d log.now at expected)) }
 {
     let t = directory::flat(d);
     replay_in(&t, log, at, expected, image)
@@ -73,7 +73,7 @@ pub fn replay_kept(
 
 // Whether the directory keeps its rules and the image is its.
 pub fn tables_kept(d: Directory, image: &[u8]) -> bool
-    ensures { result ≡ tablesKept d image.now }
+    ensures { result ≡ tables_kept d image.now }
 {
     if d.kept() {
         image.len() == d.image_length()
@@ -84,7 +84,7 @@ pub fn tables_kept(d: Directory, image: &[u8]) -> bool
 
 // Replays the record at a position, if it is whole and acceptable and has the expected id.
 pub fn replay(d: Directory, log: &[u8], at: usize, expected: u64, image: &mut [u8]) -> Replayed
-    ensures { (result ≡ replayedAs at (judged d log.now at expected image.old)) × (image.new ≡ imageAfter d image.old (judged d log.now at expected image.old)) }
+    ensures { (result ≡ replayed_as at (judged d log.now at expected image.old)) × (image.new ≡ image_after d image.old (judged d log.now at expected image.old)) }
 {
     if !tables_kept(d, image) {
         return Replayed {

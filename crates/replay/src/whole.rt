@@ -1,8 +1,8 @@
 // A record checked to its end, whatever its id: what clearing reads again.
 ghost use Rattle.std.specs.Prelude.{◌≡◌, true};
-ghost use Rattle.directory.specs.Inner.{directoryIn, Flat};
-ghost use Rattle.record.specs.Next.{readerAt, step_of};
-ghost use Rattle.replay.specs.Replay.{restIn, whole_of};
+ghost use Rattle.directory.specs.Inner.{directory_in, Flat};
+ghost use Rattle.record.specs.Next.{reader_at, step_of};
+ghost use Rattle.replay.specs.Replay.{rest_in, whole_of};
 
 use super::check::{EndAnswer, checked_rest};
 use answer::Refusal;
@@ -24,7 +24,7 @@ pub enum WholeAnswer {
 // Under a directory in numbers.
 pub fn check_record_in(t: &[u64; 81], log: &[u8], at: usize) -> WholeAnswer
     requires { Flat t.now }
-    ensures { result ≡ whole_of (restIn (directoryIn t.now) log.now) (step_of (directoryIn t.now) log.now (readerAt at true)) }
+    ensures { result ≡ whole_of (rest_in (directory_in t.now) log.now) (step_of (directory_in t.now) log.now (reader_at at true)) }
 {
     match LogReader::new(at, true).open(log) {
         Step::Refused(x) => WholeAnswer::NotWhole(x),

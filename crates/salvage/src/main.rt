@@ -4,7 +4,7 @@ mod printing;
 mod reporting;
 
 ghost use Rattle.std.specs.Prelude.{◌≡◌, ◌≤◌, true, length};
-ghost use Rattle.directory.specs.Directory.{directoryKept};
+ghost use Rattle.directory.specs.Directory.{directory_kept};
 
 use directory::Directory;
 use log_input::ROOM;
@@ -33,7 +33,7 @@ fn salvage_under(
     n: usize,
     window: &mut [u8; ROOM],
 )
-    requires { (directoryKept directory ≡ true) × (n ≤ 4100) }
+    requires { (directory_kept directory ≡ true) × (n ≤ 4100) }
 {
     let all: &[u8] = space;
     let name = &all[0..n];
@@ -47,7 +47,7 @@ fn salvage_under(
 
 // The log is only read: an output that is the log itself would take its place.
 fn salvage_opened(directory: Directory, file: i32, log: &[u8], path: &[u8], window: &mut [u8; ROOM])
-    requires { (directoryKept directory ≡ true) × (length path.now ≤ 4096) }
+    requires { (directory_kept directory ≡ true) × (length path.now ≤ 4096) }
 {
     if leads_to(path, file) {
         tell(

@@ -3,7 +3,7 @@
 // A record looks at nothing behind itself, and its faults are found in byte order: what is seen of a position in the first bytes of a log is what
 // is seen there in all of it, unless the record is open. So the window is moved to the first open record and filled again.
 ghost use Rattle.std.specs.Prelude.{◌≡◌, ◌+◌, ◌≤◌, true, length};
-ghost use Rattle.directory.specs.Directory.{directoryKept};
+ghost use Rattle.directory.specs.Directory.{directory_kept};
 ghost use Rattle.salvage.specs.Bounds.{Covering, Within, Going};
 
 use directory::Directory;
@@ -60,7 +60,7 @@ fn keep_records(
     more: bool,
     before: Lines,
 ) -> Taken
-    requires { (directoryKept directory ≡ true) × (Covering before base) × (base + length bytes.now ≤ 18446744073709551615) }
+    requires { (directory_kept directory ≡ true) × (Covering before base) × (base + length bytes.now ≤ 18446744073709551615) }
     ensures { Within result base (length bytes.now) }
 {
     let mut lines = before;
@@ -99,7 +99,7 @@ fn stopped(lines: Lines, base: u64, end: End) -> Pass
 
 // A window that nothing follows.
 fn last_window(out: i32, directory: Directory, bytes: &[u8], pass: Pass) -> Pass
-    requires { (directoryKept directory ≡ true) × (Covering pass.lines pass.base) × (pass.base + length bytes.now ≤ 18446744073709551615) }
+    requires { (directory_kept directory ≡ true) × (Covering pass.lines pass.base) × (pass.base + length bytes.now ≤ 18446744073709551615) }
     ensures { Going result (pass.base + length bytes.now) }
 {
     let base = pass.base;
@@ -119,7 +119,7 @@ fn last_window(out: i32, directory: Directory, bytes: &[u8], pass: Pass) -> Pass
 
 // A full window with an open record at its front, which passes the window if the file goes on.
 fn full_window(file: i32, out: i32, directory: Directory, bytes: &[u8], pass: Pass) -> Pass
-    requires { (directoryKept directory ≡ true) × (Covering pass.lines pass.base) × (pass.base + length bytes.now ≤ 18446744073709551615) }
+    requires { (directory_kept directory ≡ true) × (Covering pass.lines pass.base) × (pass.base + length bytes.now ≤ 18446744073709551615) }
     ensures { Going result (pass.base + length bytes.now) }
 {
     let lines = pass.lines;
@@ -136,7 +136,7 @@ fn full_window(file: i32, out: i32, directory: Directory, bytes: &[u8], pass: Pa
 
 // A full window: its records written, and what is left of it moved to its front.
 fn further(file: i32, out: i32, directory: Directory, pass: Pass, window: &mut [u8; ROOM]) -> Pass
-    requires { (directoryKept directory ≡ true) × (Going pass 2305843009213693952) }
+    requires { (directory_kept directory ≡ true) × (Going pass 2305843009213693952) }
     ensures { Going result (pass.base + 2097152) }
 {
     let before = pass.lines;
@@ -164,7 +164,7 @@ fn further(file: i32, out: i32, directory: Directory, pass: Pass, window: &mut [
 
 // The window filled, and gone through.
 fn one_turn(file: i32, out: i32, directory: Directory, pass: Pass, window: &mut [u8; ROOM]) -> Pass
-    requires { (directoryKept directory ≡ true) × (Going pass 2305843009213693952) }
+    requires { (directory_kept directory ≡ true) × (Going pass 2305843009213693952) }
     ensures { Going result (pass.base + 2097152) }
 {
     let lines = pass.lines;
@@ -182,7 +182,7 @@ fn one_turn(file: i32, out: i32, directory: Directory, pass: Pass, window: &mut 
 
 // Goes through a log from its front and writes its records to the output.
 pub fn salvage_file(file: i32, out: i32, directory: Directory, window: &mut [u8; ROOM]) -> Pass
-    requires { directoryKept directory ≡ true }
+    requires { directory_kept directory ≡ true }
 {
     let mut pass = Pass {
         lines: Lines::new(),

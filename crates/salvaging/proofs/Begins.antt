@@ -8,7 +8,7 @@ use native.Mathlib.Omega.{arith}
 use lib.ListN.{length, get_or}
 use Rattle.directory.specs.declared.directory.Directory.{Directory}
 use Rattle.record.proofs.Begins.{begun}
-use Rattle.replay.proofs.Opening.{whole-record}
+use Rattle.replay.proofs.Opening.{whole_record}
 use Rattle.salvaging.specs.Salvage.{found_at}
 use Rattle.salvaging.specs.declared.search.Found.{Found}
 use Rattle.salvaging.proofs.Accepted.{found-accepted}
@@ -17,7 +17,7 @@ module _ (d : Directory) (log : List ℕ) (at : ℕ) where
   found-tag : (f : Found) → found_at d log at ≡ some f → get_or log at 0 ≡ 1
   found-tag f e =
       let a = found-accepted d log at f e in
-      let w = whole-record d log at f.id a.actions f.end a.taken in
+      let w = whole_record d log at f.id a.actions f.end a.taken in
       (begun d log at true w.s w.opens).tag
 
   -- another byte, or none

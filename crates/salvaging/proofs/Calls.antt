@@ -8,105 +8,105 @@ use lib.Dec.{eqb, ltb}
 use lib.ListN.{length, take}
 use borrow.Author.Tests.{ltb-true, ltb-false, lt-ltb, le-ltb, eq-eqb, ne_eqb}
 use Rattle.words.specs.Choice.{if◌then◌else◌}
-use Rattle.words.proofs.Choices.{if-true, if-false}
+use Rattle.words.proofs.Choices.{if_true, if_false}
 use Rattle.answer.specs.declared.answer.Answer.TheVariants.{Done, NoRoom, ShortOutput, BadState}
-use Rattle.directory.specs.Directory.{directoryKept}
+use Rattle.directory.specs.Directory.{directory_kept}
 use Rattle.directory.specs.declared.directory.Directory.{Directory}
 use Rattle.output.specs.Put.{put}
-use Rattle.replay.proofs.Opening.{record-on}
-use Rattle.salvaging.specs.Salvage.{Line, linesOf, wordsOfLines, keptBytes, Left, untouched, salvaged, salvageBy, salvageOf, left_of}
-use Rattle.salvaging.specs.Meaning.{Covers, covers-end, covers_kept, covers-lost}
-use Rattle.salvaging.specs.Inner.{linesIn, AllWithin, Lists, refusedWith}
+use Rattle.replay.proofs.Opening.{record_on}
+use Rattle.salvaging.specs.Salvage.{Line, lines_of, words_of_lines, kept_bytes, Left, untouched, salvaged, salvage_by, salvage_of, left_of}
+use Rattle.salvaging.specs.Meaning.{Covers, covers_end, covers_kept, covers_lost}
+use Rattle.salvaging.specs.Inner.{lines_in, AllWithin, Lists, refused_with}
 use Rattle.salvaging.specs.declared.lines.Lines.{Lines}
 use Rattle.salvaging.specs.declared.salvaged.Salvaged.{Salvaged}
 use Rattle.salvaging.proofs.Copied.{lines-read}
-use Rattle.salvaging.proofs.Listed.{lines-cover}
+use Rattle.salvaging.proofs.Listed.{lines_cover}
 
 -- each record kept lies in the log
 covered-within : {d : Directory} {log : List ℕ} {at : ℕ} {ls : List Line} → Covers d log at ls → AllWithin (length log) ls
-covered-within (covers-end e) = tt
-covered-within {d} {log} (covers_kept {at = at} {n = n} {id = id} ws h e c) = ((record-on d log at id ws (at + n) e).inside, covered-within c)
-covered-within (covers-lost h k t c) = covered-within c
+covered-within (covers_end e) = tt
+covered-within {d} {log} (covers_kept {at = at} {n = n} {id = id} ws h e c) = ((record_on d log at id ws (at + n) e).inside, covered-within c)
+covered-within (covers_lost h k t c) = covered-within c
 
-module _ (d : Directory) (log : List ℕ) (l : Lines) (h : Lists log l (linesOf d log)) (out list : List ℕ) where
-  few : l.count ≤ 64 → length (linesOf d log) ≤ 64
-  few c = by (ltb 64 (length (linesOf d log))) refl
+module _ (d : Directory) (log : List ℕ) (l : Lines) (h : Lists log l (lines_of d log)) (out list : List ℕ) where
+  few : l.count ≤ 64 → length (lines_of d log) ≤ 64
+  few c = by (ltb 64 (length (lines_of d log))) refl
     where
-      by : (b : Bool) → ltb 64 (length (linesOf d log)) ≡ b → length (linesOf d log) ≤ 64
-      by true q = absurd (omega (arith, h.over (ltb-true 64 (length (linesOf d log)) q)))
-      by false q = ltb-false 64 (length (linesOf d log)) q
+      by : (b : Bool) → ltb 64 (length (lines_of d log)) ≡ b → length (lines_of d log) ≤ 64
+      by true q = absurd (omega (arith, h.over (ltb-true 64 (length (lines_of d log)) q)))
+      by false q = ltb-false 64 (length (lines_of d log)) q
 
-  many : 64 < l.count → 64 < length (linesOf d log)
-  many c = by (ltb 64 (length (linesOf d log))) refl
+  many : 64 < l.count → 64 < length (lines_of d log)
+  many c = by (ltb 64 (length (lines_of d log))) refl
     where
-      by : (b : Bool) → ltb 64 (length (linesOf d log)) ≡ b → 64 < length (linesOf d log)
-      by true q = ltb-true 64 (length (linesOf d log)) q
-      by false q = let k = ltb-false 64 (length (linesOf d log)) q in absurd (omega (arith, h.all k))
+      by : (b : Bool) → ltb 64 (length (lines_of d log)) ≡ b → 64 < length (lines_of d log)
+      by true q = ltb-true 64 (length (lines_of d log)) q
+      by false q = let k = ltb-false 64 (length (lines_of d log)) q in absurd (omega (arith, h.all k))
 
   -- 9
-  pub over-64 : (r : Salvaged) → 64 < l.count → r ≡ refusedWith NoRoom → left_of r out list ≡ salvageBy log (linesOf d log) out list
-  unfolding left_of salvageBy
+  pub over-64 : (r : Salvaged) → 64 < l.count → r ≡ refused_with NoRoom → left_of r out list ≡ salvage_by log (lines_of d log) out list
+  unfolding left_of salvage_by
   over-64 r c e =
       ap (λ (x : Salvaged). left_of x out list) e
-      ∙ sym (if-true (ltb 64 (length (linesOf d log))) _ _ (lt-ltb 64 (length (linesOf d log)) (many c)))
+      ∙ sym (if_true (ltb 64 (length (lines_of d log))) _ _ (lt-ltb 64 (length (lines_of d log)) (many c)))
 
   module _ (c : l.count ≤ 64) where
-    not-over : ltb 64 (length (linesOf d log)) ≡ false
-    not-over = le-ltb 64 (length (linesOf d log)) (few c)
+    not_over : ltb 64 (length (lines_of d log)) ≡ false
+    not_over = le-ltb 64 (length (lines_of d log)) (few c)
 
-    all-bytes : l.bytes ≡ length (keptBytes log (linesOf d log))
+    all-bytes : l.bytes ≡ length (kept_bytes log (lines_of d log))
     all-bytes = h.bytes (few c)
 
-    read_back : linesIn l.count l.words ≡ linesOf d log
+    read_back : lines_in l.count l.words ≡ lines_of d log
     read_back =
-        ap (λ (n : ℕ). linesIn n l.words) (h.all (few c)) ∙ lines-read (linesOf d log) l.words (4 * length (linesOf d log)) (h.words (few c))
+        ap (λ (n : ℕ). lines_in n l.words) (h.all (few c)) ∙ lines-read (lines_of d log) l.words (4 * length (lines_of d log)) (h.words (few c))
 
     -- 10
-    pub short-output : (r : Salvaged) → length out < l.bytes → r ≡ refusedWith ShortOutput → left_of r out list ≡ salvageBy log (linesOf d log) out list
-    unfolding left_of salvageBy
+    pub short-output : (r : Salvaged) → length out < l.bytes → r ≡ refused_with ShortOutput → left_of r out list ≡ salvage_by log (lines_of d log) out list
+    unfolding left_of salvage_by
     short-output r k e =
         ap (λ (x : Salvaged). left_of x out list) e
-        ∙ sym (if-false (ltb 64 (length (linesOf d log))) _ _ not-over
-        ∙ if-true (ltb (length out) (length (keptBytes log (linesOf d log)))) _ _ (lt-ltb (length out) _ (omega (arith, all-bytes))))
+        ∙ sym (if_false (ltb 64 (length (lines_of d log))) _ _ not_over
+        ∙ if_true (ltb (length out) (length (kept_bytes log (lines_of d log)))) _ _ (lt-ltb (length out) _ (omega (arith, all-bytes))))
 
     -- what is put is known to fit
-    pub all-within : AllWithin (length log) (linesIn l.count l.words)
-    all-within = rw read_back (covered-within (lines-cover d log))
+    pub all-within : AllWithin (length log) (lines_in l.count l.words)
+    all-within = rw read_back (covered-within (lines_cover d log))
 
     module _ (k : l.bytes ≤ length out) where
-      pub all-fits : length (keptBytes log (linesIn l.count l.words)) ≤ length out
+      pub all-fits : length (kept_bytes log (lines_in l.count l.words)) ≤ length out
       all-fits = rw read_back (omega (arith, all-bytes))
 
-      pub all-put : (out' list' : List ℕ) → out' ≡ put out 0 (keptBytes log (linesIn l.count l.words)) → list' ≡ put list 0 (take (4 * l.count) l.words)
-          → left_of (record { answer = Done; lines = l.count; written = l.bytes }) out' list' ≡ salvageBy log (linesOf d log) out list
-      unfolding left_of salvageBy
+      pub all-put : (out' list' : List ℕ) → out' ≡ put out 0 (kept_bytes log (lines_in l.count l.words)) → list' ≡ put list 0 (take (4 * l.count) l.words)
+          → left_of (record { answer = Done; lines = l.count; written = l.bytes }) out' list' ≡ salvage_by log (lines_of d log) out list
+      unfolding left_of salvage_by
       all-put out' list' p q =
           same
-          ∙ sym (if-false (ltb 64 (length (linesOf d log))) _ _ not-over
-          ∙ if-false (ltb (length out) (length (keptBytes log (linesOf d log)))) _ _ (le-ltb (length out) _ (omega (arith, all-bytes))))
+          ∙ sym (if_false (ltb 64 (length (lines_of d log))) _ _ not_over
+          ∙ if_false (ltb (length out) (length (kept_bytes log (lines_of d log)))) _ _ (le-ltb (length out) _ (omega (arith, all-bytes))))
         where
-          words : list' ≡ put list 0 (wordsOfLines (linesOf d log))
+          words : list' ≡ put list 0 (words_of_lines (lines_of d log))
           words = q ∙ ap (λ (n : ℕ). put list 0 (take (4 * n) l.words)) (h.all (few c)) ∙ ap (put list 0) (h.words (few c))
 
-          bytes : out' ≡ put out 0 (keptBytes log (linesOf d log))
-          bytes = p ∙ ap (λ (ls : List Line). put out 0 (keptBytes log ls)) read_back
+          bytes : out' ≡ put out 0 (kept_bytes log (lines_of d log))
+          bytes = p ∙ ap (λ (ls : List Line). put out 0 (kept_bytes log ls)) read_back
 
-          same : record { answer = Done; lines = l.count; written = l.bytes; out = out'; list = list' } ≡ salvaged log (linesOf d log) out list
+          same : record { answer = Done; lines = l.count; written = l.bytes; out = out'; list = list' } ≡ salvaged log (lines_of d log) out list
           same = rw (words, bytes, h.all (few c), all-bytes)
 
 -- ---- 13
 
 module _ (d : Directory) (log out list : List ℕ) (r : Salvaged) where
-  pub bad-directory : directoryKept d ≡ false → r ≡ refusedWith BadState → left_of r out list ≡ salvageOf d log out list
-  unfolding left_of salvageOf
-  bad-directory k e = ap (λ (x : Salvaged). left_of x out list) e ∙ sym (rw k)
+  pub bad_directory : directory_kept d ≡ false → r ≡ refused_with BadState → left_of r out list ≡ salvage_of d log out list
+  unfolding left_of salvage_of
+  bad_directory k e = ap (λ (x : Salvaged). left_of x out list) e ∙ sym (rw k)
 
-  module _ (k : directoryKept d ≡ true) where
-    pub bad-memory : (length list ≡ 256 → ⊥) → r ≡ refusedWith BadState → left_of r out list ≡ salvageOf d log out list
-    unfolding left_of salvageOf
-    bad-memory n e = ap (λ (x : Salvaged). left_of x out list) e ∙ sym (rw (k, ne_eqb (length list) 256 n))
+  module _ (k : directory_kept d ≡ true) where
+    pub bad_memory : (length list ≡ 256 → ⊥) → r ≡ refused_with BadState → left_of r out list ≡ salvage_of d log out list
+    unfolding left_of salvage_of
+    bad_memory n e = ap (λ (x : Salvaged). left_of x out list) e ∙ sym (rw (k, ne_eqb (length list) 256 n))
 
     -- behind the test the kept form
-    pub door : length list ≡ 256 → salvageBy log (linesOf d log) out list ≡ salvageOf d log out list
-    unfolding salvageOf
+    pub door : length list ≡ 256 → salvage_by log (lines_of d log) out list ≡ salvage_of d log out list
+    unfolding salvage_of
     door n = sym (rw (k, eq-eqb (length list) 256 n))

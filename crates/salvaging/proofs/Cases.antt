@@ -2,23 +2,23 @@
 use mathlib.Core.Path.{◌≡◌, refl}
 use mathlib.Core.List.{List, [], ◌∷◌, ◌++◌}
 use Prim.Native.Nat.{ℕ}
-use Rattle.checksum.specs.Checksum.{finished, updated, bitsIn, shift}
+use Rattle.checksum.specs.Checksum.{finished, updated, bits_in_of, shift}
 use Rattle.directory.specs.declared.directory.Directory.{Directory}
-use Rattle.record.specs.Format.{readAt}
-use Rattle.record.specs.Next.{forwardTo, readerAfter, step_of}
-use Rattle.record.specs.Record.{opening, openingBy, begunId, inside, insideBy, endedItem, sumHolds}
+use Rattle.record.specs.Format.{read_at}
+use Rattle.record.specs.Next.{forward_to, reader_after, step_of}
+use Rattle.record.specs.Record.{opening, opening_by, begun_id, inside, inside_by, ended_item, sum_holds}
 use Rattle.words.specs.Words.{little}
 use Rattle.replay.specs.Replay.{rest_of}
-use Rattle.salvaging.specs.Salvage.{found_at, found_from, kept, lost, lines_between, linesOf}
-use Rattle.salvaging.specs.Meaning.{emptySeven}
+use Rattle.salvaging.specs.Salvage.{found_at, found_from, kept, lost, lines_between, lines_of}
+use Rattle.salvaging.specs.Meaning.{empty_seven}
 
 module _ (d : Directory) where
   -- "a log of one empty record with id 7 prints `kept 0 14 7` and nothing else"
-  pub one-record : linesOf d emptySeven ≡ kept 0 14 7 ∷ []
-  unfolding linesOf lines_between found_from found_at step_of opening openingBy begunId readAt forwardTo readerAfter rest_of inside insideBy endedItem sumHolds little finished updated bitsIn shift
-  one-record = refl
+  pub one_record : lines_of d empty_seven ≡ kept 0 14 7 ∷ []
+  unfolding lines_of lines_between found_from found_at step_of opening opening_by begun_id read_at forward_to reader_after rest_of inside inside_by ended_item sum_holds little finished updated bits_in_of shift
+  one_record = refl
 
   -- "a stretch of five bytes at 14 prints `lost 14 5`"
-  pub five-bytes : linesOf d (emptySeven ++ (9 ∷ 9 ∷ 9 ∷ 9 ∷ 9 ∷ [])) ≡ kept 0 14 7 ∷ lost 14 5 ∷ []
-  unfolding linesOf lines_between found_from found_at step_of opening openingBy begunId readAt forwardTo readerAfter rest_of inside insideBy endedItem sumHolds little finished updated bitsIn shift
+  pub five-bytes : lines_of d (empty_seven ++ (9 ∷ 9 ∷ 9 ∷ 9 ∷ 9 ∷ [])) ≡ kept 0 14 7 ∷ lost 14 5 ∷ []
+  unfolding lines_of lines_between found_from found_at step_of opening opening_by begun_id read_at forward_to reader_after rest_of inside inside_by ended_item sum_holds little finished updated bits_in_of shift
   five-bytes = refl

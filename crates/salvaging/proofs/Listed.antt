@@ -10,12 +10,12 @@ use lib.Dec.{ltb}
 use lib.ListN.{length}
 use borrow.Author.Tests.{ltb-true, ltb-false}
 use Rattle.words.specs.Choice.{if◌then◌else◌}
-use Rattle.words.proofs.Choices.{if-true, if-false}
+use Rattle.words.proofs.Choices.{if_true, if_false}
 use Rattle.directory.specs.declared.directory.Directory.{Directory}
 use Rattle.effect.specs.Effect.{Written}
-use Rattle.replay.specs.Replay.{walked, recordAt}
-use Rattle.salvaging.specs.Salvage.{found_at, byFound, found_from, foundOn, Line, kept, lost, leftOut, lines_between, linesOf}
-use Rattle.salvaging.specs.Meaning.{NoneBegins, NotLost, Covers, covers-end, covers_kept, covers-lost}
+use Rattle.replay.specs.Replay.{walked, record_at}
+use Rattle.salvaging.specs.Salvage.{found_at, by_found, found_from, found_on, Line, kept, lost, left_out, lines_between, lines_of}
+use Rattle.salvaging.specs.Meaning.{NoneBegins, NotLost, Covers, covers_end, covers_kept, covers_lost}
 use Rattle.salvaging.specs.declared.search.Found.{Found}
 use Rattle.salvaging.proofs.Accepted.{Accepted, found-accepted, none-accepted}
 use Rattle.salvaging.proofs.Records.{past}
@@ -32,14 +32,14 @@ module _ (d : Directory) (log : List ℕ) where
           none-accepted d log (at + n) e id ws end (rw s at r)
 
   -- what was passed from `from` up to a place, in front of what follows there
-  passed : (from at : ℕ) (ls : List Line) → from ≤ at → NoneBegins d log from (at - from) → NotLost ls → Covers d log at ls → Covers d log from (leftOut from at ls)
+  passed : (from at : ℕ) (ls : List Line) → from ≤ at → NoneBegins d log from (at - from) → NotLost ls → Covers d log at ls → Covers d log from (left_out from at ls)
   passed from at ls l h t c = by (ltb from at) refl
     where
-      by : (b : Bool) → ltb from at ≡ b → Covers d log from (leftOut from at ls)
+      by : (b : Bool) → ltb from at ≡ b → Covers d log from (left_out from at ls)
       by true q =
           let k : from < at = ltb-true from at q in
           let e : from + (at - from) ≡ at = omega arith in
-          rw q (covers-lost {n = at - from} {ls = ls} (omega arith) h t (rw e c))
+          rw q (covers_lost {n = at - from} {ls = ls} (omega arith) h t (rw e c))
       by false q =
           let e : from ≡ at = omega (arith, ltb-false from at q) in
           rw q (rw e c)
@@ -51,7 +51,7 @@ module _ (d : Directory) (log : List ℕ) where
   from-here (suc n) from at l k m h = by (found_at d log at) refl (from-here n from (at + 1)) (λ x. from-here n x x)
     where
       Goal : Option Found → Type 0
-      Goal o = Covers d log from (lines_between from (byFound (found_from n d log) at o) (length log))
+      Goal o = Covers d log from (lines_between from (by_found (found_from n d log) at o) (length log))
 
       nothing : (b : Bool) → ltb at (length log) ≡ b → found_at d log at ≡ none
           → (from ≤ at + 1 → at + 1 ≤ length log → length log - (at + 1) < n → NoneBegins d log from (at + 1 - from) → Covers d log from (lines_between from (found_from n d log (at + 1)) (length log)))
@@ -63,7 +63,7 @@ module _ (d : Directory) (log : List ℕ) where
           ih (omega arith) (omega arith) (omega arith) (rw z at (one_more from (at - from) h (rw s e)))
       nothing false q e ih =
           let z : at ≡ length log = omega (arith, ltb-false at (length log) q) in
-          rw (past d log n (at + 1) (omega arith)) (passed from (length log) [] (omega arith) (rw z at h) tt (covers-end refl))
+          rw (past d log n (at + 1) (omega arith)) (passed from (length log) [] (omega arith) (rw z at h) tt (covers_end refl))
 
       by : (o : Option Found) → found_at d log at ≡ o
           → (from ≤ at + 1 → at + 1 ≤ length log → length log - (at + 1) < n → NoneBegins d log from (at + 1 - from) → Covers d log from (lines_between from (found_from n d log (at + 1)) (length log)))
@@ -80,6 +80,6 @@ module _ (d : Directory) (log : List ℕ) where
           (covers_kept {n = f.end - at} a.actions (omega (arith, a.forward)) (rw s a.taken) (rw s r)))
 
   -- THE LIST
-  pub lines-cover : Covers d log 0 (linesOf d log)
-  unfolding linesOf
-  lines-cover = from-here (suc (length log)) 0 0 (omega arith) (omega arith) (omega arith) (λ p id ws end l k r. omega arith)
+  pub lines_cover : Covers d log 0 (lines_of d log)
+  unfolding lines_of
+  lines_cover = from-here (suc (length log)) 0 0 (omega arith) (omega arith) (omega arith) (λ p id ws end l k r. omega arith)

@@ -13,40 +13,40 @@ use borrow.Author.Tests.{ltb-false}
 use Rattle.words.specs.Choice.{if◌then◌else◌}
 use Rattle.answer.specs.Answer.{number_of}
 use Rattle.answer.specs.declared.answer.Answer.TheVariants.{NoRoom, ShortOutput, BadState}
-use Rattle.directory.specs.Directory.{directoryKept}
+use Rattle.directory.specs.Directory.{directory_kept}
 use Rattle.directory.specs.declared.directory.Directory.{Directory}
 use Rattle.output.specs.Put.{put}
-use Rattle.replay.proofs.Opening.{record-on}
-use Rattle.salvaging.specs.Salvage.{Line, kept, lost, linesOf, wordsOfLines, keptBytes, Left, untouched, salvaged, salvageBy, salvageOf}
-use Rattle.salvaging.specs.Meaning.{Covers, covers-end, covers_kept, covers-lost, InTurn, turn_end, turn-lost, turn-kept, Salvages}
-use Rattle.salvaging.proofs.Listed.{lines-cover}
-use Rattle.salvaging.proofs.Moved.{record-stands}
+use Rattle.replay.proofs.Opening.{record_on}
+use Rattle.salvaging.specs.Salvage.{Line, kept, lost, lines_of, words_of_lines, kept_bytes, Left, untouched, salvaged, salvage_by, salvage_of}
+use Rattle.salvaging.specs.Meaning.{Covers, covers_end, covers_kept, covers_lost, InTurn, turn_end, turn-lost, turn-kept, Salvages}
+use Rattle.salvaging.proofs.Listed.{lines_cover}
+use Rattle.salvaging.proofs.Moved.{record_stands}
 
 -- ---- the records kept, one behind the other in other bytes
 
-in-turn : {d : Directory} {log : List ℕ} {at : ℕ} {ls : List Line} → Covers d log at ls → (before behind : List ℕ) (p : ℕ) → length before ≡ p
-    → InTurn d log (before ++ (keptBytes log ls ++ behind)) p ls (p + length (keptBytes log ls))
-unfolding keptBytes
-in-turn (covers-end e) before behind p q = turn_end (sym (add-zero p))
-in-turn {d} {log} (covers_kept {at = at} {n = n} {id = id} {ls = ls} ws h e c) before behind p q =
+in_turn : {d : Directory} {log : List ℕ} {at : ℕ} {ls : List Line} → Covers d log at ls → (before behind : List ℕ) (p : ℕ) → length before ≡ p
+    → InTurn d log (before ++ (kept_bytes log ls ++ behind)) p ls (p + length (kept_bytes log ls))
+unfolding kept_bytes
+in_turn (covers_end e) before behind p q = turn_end (sym (add-zero p))
+in_turn {d} {log} (covers_kept {at = at} {n = n} {id = id} {ls = ls} ws h e c) before behind p q =
     let bs : List ℕ = take n (drop at log) in
-    let o = record-on d log at id ws (at + n) e in
+    let o = record_on d log at id ws (at + n) e in
     let l : length bs ≡ n = length-take-le n (drop at log) (rw length-drop (omega (arith, o.inside))) in
-    let s : before ++ (bs ++ keptBytes log ls ++ behind) ≡ before ++ bs ++ (keptBytes log ls ++ behind) =
-    ap (λ (x : List ℕ). before ++ x) (append_assoc bs (keptBytes log ls) behind) ∙ sym (append_assoc before bs (keptBytes log ls ++ behind)) in
-    let z : p + n + length (keptBytes log ls) ≡ p + length (bs ++ keptBytes log ls) = simp length-append (omega (arith, l)) in
-    let r = in-turn c (before ++ bs) behind (p + n) (simp length-append (omega (arith, l, q))) in
-    let t = record-stands d log at n id ws e before (keptBytes log ls ++ behind) in
-    turn-kept {at = p} {end = p + length (bs ++ keptBytes log ls)} {n = n} {id = id} {ls = ls} ws e (rw (append_assoc bs (keptBytes log ls) behind) (rw q at t)) (rw (s, ← z) r)
-in-turn (covers-lost h k t c) before behind p q = turn-lost (in-turn c before behind p q)
+    let s : before ++ (bs ++ kept_bytes log ls ++ behind) ≡ before ++ bs ++ (kept_bytes log ls ++ behind) =
+    ap (λ (x : List ℕ). before ++ x) (append_assoc bs (kept_bytes log ls) behind) ∙ sym (append_assoc before bs (kept_bytes log ls ++ behind)) in
+    let z : p + n + length (kept_bytes log ls) ≡ p + length (bs ++ kept_bytes log ls) = simp length-append (omega (arith, l)) in
+    let r = in_turn c (before ++ bs) behind (p + n) (simp length-append (omega (arith, l, q))) in
+    let t = record_stands d log at n id ws e before (kept_bytes log ls ++ behind) in
+    turn-kept {at = p} {end = p + length (bs ++ kept_bytes log ls)} {n = n} {id = id} {ls = ls} ws e (rw (append_assoc bs (kept_bytes log ls) behind) (rw q at t)) (rw (s, ← z) r)
+in_turn (covers_lost h k t c) before behind p q = turn-lost (in_turn c before behind p q)
 
 ends_at : {d : Directory} {log bytes : List ℕ} {at m n : ℕ} {ls : List Line} → m ≡ n → InTurn d log bytes at ls m → InTurn d log bytes at ls n
 ends_at e t = rw e at t
 
 -- ---- a list's words
 
-four-each : (ls : List Line) → length (wordsOfLines ls) ≡ 4 * length ls
-unfolding wordsOfLines
+four-each : (ls : List Line) → length (words_of_lines ls) ≡ 4 * length ls
+unfolding words_of_lines
 four-each [] = refl
 four-each (kept p n id ∷ ls) = omega (arith, four-each ls)
 four-each (lost p n ∷ ls) = omega (arith, four-each ls)
@@ -59,23 +59,23 @@ put_front old bs n e = (take_at bs (drop (0 + length bs) old) n e, drop_at bs (d
 
 module _ (d : Directory) (log out list : List ℕ) where
   abbrev ls : List Line
-  ls = linesOf d log
+  ls = lines_of d log
 
-  kept-in-turn : InTurn d log (put out 0 (keptBytes log ls)) 0 ls (length (keptBytes log ls))
+  kept_in_turn : InTurn d log (put out 0 (kept_bytes log ls)) 0 ls (length (kept_bytes log ls))
   unfolding put
-  kept-in-turn = ends_at (zero-add (length (keptBytes log ls))) (in-turn (lines-cover d log) [] (drop (0 + length (keptBytes log ls)) out) 0 refl)
+  kept_in_turn = ends_at (zero-add (length (kept_bytes log ls))) (in_turn (lines_cover d log) [] (drop (0 + length (kept_bytes log ls)) out) 0 refl)
 
   -- by the three tests
   abbrev judge : Bool → Bool → Bool → Left
   judge a b c = if a then (if b then untouched NoRoom out list else if c then untouched ShortOutput out list else salvaged log ls out list) else untouched BadState out list
 
-  is-judge : salvageOf d log out list ≡ judge (directoryKept d && eqb (length list) 256) (ltb 64 (length ls)) (ltb (length out) (length (keptBytes log ls)))
-  unfolding salvageOf salvageBy
+  is-judge : salvage_of d log out list ≡ judge (directory_kept d && eqb (length list) 256) (ltb 64 (length ls)) (ltb (length out) (length (kept_bytes log ls)))
+  unfolding salvage_of salvage_by
   is-judge = refl
 
   -- "A refused call changes no .. output byte"
-  pub salvage-refused : 0 < number_of (salvageOf d log out list).answer → ((salvageOf d log out list).out ≡ out) × ((salvageOf d log out list).list ≡ list)
-  salvage-refused = rw is-judge (by (directoryKept d && eqb (length list) 256) (ltb 64 (length ls)) (ltb (length out) (length (keptBytes log ls))))
+  pub salvage_refused : 0 < number_of (salvage_of d log out list).answer → ((salvage_of d log out list).out ≡ out) × ((salvage_of d log out list).list ≡ list)
+  salvage_refused = rw is-judge (by (directory_kept d && eqb (length list) 256) (ltb 64 (length ls)) (ltb (length out) (length (kept_bytes log ls))))
     where
       by : (a b c : Bool) → 0 < number_of (judge a b c).answer → ((judge a b c).out ≡ out) × ((judge a b c).list ≡ list)
       by false b c h = (refl, refl)
@@ -84,24 +84,24 @@ module _ (d : Directory) (log out list : List ℕ) where
       by true false false h = absurd (omega arith)
 
   -- THE OUTPUT AND THE LIST
-  pub salvage-done : number_of (salvageOf d log out list).answer ≡ 0 → Salvages d log out list (salvageOf d log out list)
-  salvage-done = rw is-judge (by (directoryKept d && eqb (length list) 256) (ltb 64 (length ls)) refl (ltb (length out) (length (keptBytes log ls))) refl)
+  pub salvage_done : number_of (salvage_of d log out list).answer ≡ 0 → Salvages d log out list (salvage_of d log out list)
+  salvage_done = rw is-judge (by (directory_kept d && eqb (length list) 256) (ltb 64 (length ls)) refl (ltb (length out) (length (kept_bytes log ls))) refl)
     where
-      by : (a b : Bool) → ltb 64 (length ls) ≡ b → (c : Bool) → ltb (length out) (length (keptBytes log ls)) ≡ c → number_of (judge a b c).answer ≡ 0 → Salvages d log out list (judge a b c)
+      by : (a b : Bool) → ltb 64 (length ls) ≡ b → (c : Bool) → ltb (length out) (length (kept_bytes log ls)) ≡ c → number_of (judge a b c).answer ≡ 0 → Salvages d log out list (judge a b c)
       by false b q c r h = absurd (omega arith)
       by true true q c r h = absurd (omega arith)
       by true false q true r h = absurd (omega arith)
       by true false q false r h =
-          let o = put_front out (keptBytes log ls) (length (keptBytes log ls)) refl in
-          let w = put_front list (wordsOfLines ls) (4 * length ls) (four-each ls) in
+          let o = put_front out (kept_bytes log ls) (length (kept_bytes log ls)) refl in
+          let w = put_front list (words_of_lines ls) (4 * length ls) (four-each ls) in
           record {
             lines = refl;
             few = ltb-false 64 (length ls) q;
             written = refl;
-            room = ltb-false (length out) (length (keptBytes log ls)) r;
+            room = ltb-false (length out) (length (kept_bytes log ls)) r;
             front = o.0;
             behind = o.1;
             listed = w.0;
             unlisted = w.1;
-            in-turn = kept-in-turn;
+            in_turn = kept_in_turn;
           }

@@ -9,7 +9,7 @@ use lib.Dec.{ltb}
 use lib.ListN.{length}
 use borrow.Author.Tests.{ltb-true, ltb-false}
 use Rattle.directory.specs.declared.directory.Directory.{Directory}
-use Rattle.salvaging.specs.Salvage.{found_at, byFound, found_from, foundOn}
+use Rattle.salvaging.specs.Salvage.{found_at, by_found, found_from, found_on}
 use Rattle.salvaging.specs.declared.search.Found.{Found}
 use Rattle.salvaging.proofs.Accepted.{found-accepted}
 use Rattle.salvaging.proofs.Begins.{past-none}
@@ -19,9 +19,9 @@ module _ (d : Directory) (log : List ℕ) where
   pub past : (n at : ℕ) → length log ≤ at → found_from n d log at ≡ []
   unfolding found_from
   past zero at h = refl
-  past (suc n) at h = ap (byFound (found_from n d log) at) (past-none d log at h) ∙ past n (at + 1) (omega arith)
+  past (suc n) at h = ap (by_found (found_from n d log) at) (past-none d log at h) ∙ past n (at + 1) (omega arith)
 
-  by-same : (f g : ℕ → List Found) (at : ℕ) (o : Option Found) → f (at + 1) ≡ g (at + 1) → ((x : Found) → o ≡ some x → f x.end ≡ g x.end) → byFound f at o ≡ byFound g at o
+  by-same : (f g : ℕ → List Found) (at : ℕ) (o : Option Found) → f (at + 1) ≡ g (at + 1) → ((x : Found) → o ≡ some x → f x.end ≡ g x.end) → by_found f at o ≡ by_found g at o
   by-same f g at none p q = p
   by-same f g at (some x) p q = ap (λ (l : List Found). x ∷ l) (q x refl)
 
@@ -45,16 +45,16 @@ module _ (d : Directory) (log : List ℕ) where
 
   module _ (at : ℕ) where
     -- nothing here: on with the next byte
-    pub records-skip : found_at d log at ≡ none → foundOn d log at ≡ foundOn d log (at + 1)
+    pub records-skip : found_at d log at ≡ none → found_on d log at ≡ found_on d log (at + 1)
     unfolding found_from
     records-skip e =
-        ap (byFound (found_from (length log) d log) at) e
+        ap (by_found (found_from (length log) d log) at) e
         ∙ next-byte (length log) (suc (length log)) at (omega arith) (omega arith) (λ p q. enough (length log) (suc (length log)) (at + 1) p q)
 
     -- a record: it, and on behind it
-    pub records-take : (f : Found) → found_at d log at ≡ some f → foundOn d log at ≡ f ∷ foundOn d log f.end
+    pub records_take : (f : Found) → found_at d log at ≡ some f → found_on d log at ≡ f ∷ found_on d log f.end
     unfolding found_from
-    records-take f e =
+    records_take f e =
         let a = found-accepted d log at f e in
-        ap (byFound (found_from (length log) d log) at) e
+        ap (by_found (found_from (length log) d log) at) e
         ∙ ap (λ (l : List Found). f ∷ l) (enough (length log) (suc (length log)) f.end (omega (arith, a.forward, a.inside)) (omega (arith, a.forward, a.inside)))

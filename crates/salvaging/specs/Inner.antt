@@ -5,12 +5,12 @@ use Rattle.answer.specs.Answer.{number_of}
 use Rattle.answer.specs.declared.answer.Answer.{Answer}
 use Rattle.answer.specs.declared.answer.Refusal.{Refusal}
 use Rattle.directory.specs.declared.directory.Directory.{Directory}
-use Rattle.record.specs.Next.{readerAt, step_of}
-use Rattle.replay.specs.Replay.{restIn, whole_of}
+use Rattle.record.specs.Next.{reader_at, step_of}
+use Rattle.replay.specs.Replay.{rest_in, whole_of}
 use Rattle.replay.specs.declared.whole.WholeAnswer.{WholeAnswer}
 use Rattle.replay.specs.declared.whole.WholeAnswer.TheVariants.{Whole, NotWhole}
 use Rattle.output.specs.Put.{put}
-use Rattle.salvaging.specs.Salvage.{Line, kept, lost, wordsOfLines, keptBytes}
+use Rattle.salvaging.specs.Salvage.{Line, kept, lost, words_of_lines, kept_bytes}
 use Rattle.salvaging.specs.declared.lines.Lines.{Lines}
 use Rattle.salvaging.specs.declared.salvaged.Salvaged.{Salvaged}
 use Rattle.salvaging.specs.declared.search.Found.{Found}
@@ -35,20 +35,20 @@ seen more at rest (Whole w) = Record (record { position = at; id = w.opened.reco
 seen more at rest (NotWhole x) = if undecided more x then Open at else rest
 
 -- the first record from a position on; at most n positions are tried
-unfoldable pub searchFrom : ℕ → Bool → Directory → List ℕ → ℕ → Search
-searchFrom zero more d log at = Nothing
-searchFrom (suc n) more d log at =
-    if eqb (get_or log at 0) 1 then seen more at (searchFrom n more d log (at + 1)) (whole_of (restIn d log) (step_of d log (readerAt at true))) else
-    searchFrom n more d log (at + 1)
+unfoldable pub search_from : ℕ → Bool → Directory → List ℕ → ℕ → Search
+search_from zero more d log at = Nothing
+search_from (suc n) more d log at =
+    if eqb (get_or log at 0) 1 then seen more at (search_from n more d log (at + 1)) (whole_of (rest_in d log) (step_of d log (reader_at at true))) else
+    search_from n more d log (at + 1)
 
 -- more tries than the log has bytes change nothing
-abbrev pub searchIn : Bool → Directory → List ℕ → ℕ → Search
-searchIn more d log at = searchFrom (suc (length log)) more d log at
+abbrev pub search_in : Bool → Directory → List ℕ → ℕ → Search
+search_in more d log at = search_from (suc (length log)) more d log at
 
 -- the first of a list
-abbrev pub firstFound : List Found → Search
-firstFound [] = Nothing
-firstFound (f ∷ fs) = Record f
+abbrev pub first_found_of : List Found → Search
+first_found_of [] = Nothing
+first_found_of (f ∷ fs) = Record f
 
 -- what is seen lies behind the position where the search began, and in the log
 abbrev pub Inside : Search → ℕ → ℕ → Type 0
@@ -59,8 +59,8 @@ Inside Nothing from room = Unit {0}
 -- ---- the lines by value
 
 -- no lines, from a position on
-abbrev pub noLines : ℕ → List ℕ → Lines
-noLines at words = record { words = words; count = 0; end = at; bytes = 0 }
+abbrev pub no_lines : ℕ → List ℕ → Lines
+no_lines at words = record { words = words; count = 0; end = at; bytes = 0 }
 
 -- one line more, in its words; 65 of them where there is no room for it
 abbrev pub with_words : Lines → List ℕ → Lines
@@ -77,8 +77,8 @@ abbrev pub covering : Lines → ℕ → ℕ → Lines
 covering l end n = record { words = l.words; count = l.count; end = end; bytes = l.bytes + n }
 
 -- a record, with what was left out before it
-abbrev pub withRecord : Lines → ℕ → ℕ → ℕ → Lines
-withRecord l from end id = covering (with_words (up_to l from) (1 ∷ from ∷ (end - from) ∷ id ∷ [])) end (end - from)
+abbrev pub with_record : Lines → ℕ → ℕ → ℕ → Lines
+with_record l from end id = covering (with_words (up_to l from) (1 ∷ from ∷ (end - from) ∷ id ∷ [])) end (end - from)
 
 -- what may be added to: no more bytes are kept than were passed
 abbrev pub Ruled : Lines → Type 0
@@ -91,9 +91,9 @@ abbrev pub line_of : List ℕ → Line
 line_of ws = if eqb (get_or ws 0 0) 0 then lost (get_or ws 1 0) (get_or ws 2 0) else kept (get_or ws 1 0) (get_or ws 2 0) (get_or ws 3 0)
 
 -- the first n of them
-unfoldable pub linesIn : ℕ → List ℕ → List Line
-linesIn zero ws = []
-linesIn (suc n) ws = line_of ws ∷ linesIn n (drop 4 ws)
+unfoldable pub lines_in : ℕ → List ℕ → List Line
+lines_in zero ws = []
+lines_in (suc n) ws = line_of ws ∷ lines_in n (drop 4 ws)
 
 -- each record that is kept lies within so many bytes
 abbrev pub AllWithin : ℕ → List Line → Type 0
@@ -105,9 +105,9 @@ AllWithin room (lost p n ∷ ls) = AllWithin room ls
 pub record Lists (log : List ℕ) (l : Lines) (ls : List Line) : Type 0 where
   pub over : 64 < length ls → 64 < l.count
   pub all : length ls ≤ 64 → l.count ≡ length ls
-  pub words : length ls ≤ 64 → take (4 * length ls) l.words ≡ wordsOfLines ls
-  pub bytes : length ls ≤ 64 → l.bytes ≡ length (keptBytes log ls)
+  pub words : length ls ≤ 64 → take (4 * length ls) l.words ≡ words_of_lines ls
+  pub bytes : length ls ≤ 64 → l.bytes ≡ length (kept_bytes log ls)
 
 -- a refusal, as it is handed back
-abbrev pub refusedWith : Answer → Salvaged
-refusedWith answer = record { answer = answer; lines = 0; written = 0 }
+abbrev pub refused_with : Answer → Salvaged
+refused_with answer = record { answer = answer; lines = 0; written = 0 }

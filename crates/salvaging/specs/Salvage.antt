@@ -4,10 +4,10 @@ use Rattle.std.proofs.Math.Option.{Option, none, some}
 use Rattle.words.specs.Choice.{if◌then◌else◌}
 use Rattle.answer.specs.declared.answer.Answer.{Answer}
 use Rattle.answer.specs.declared.answer.Answer.TheVariants.{Done, NoRoom, ShortOutput, BadState}
-use Rattle.directory.specs.Directory.{directoryKept}
+use Rattle.directory.specs.Directory.{directory_kept}
 use Rattle.directory.specs.declared.directory.Directory.{Directory}
-use Rattle.record.specs.Next.{readerAt, step_of}
-use Rattle.replay.specs.Replay.{restIn, whole_of}
+use Rattle.record.specs.Next.{reader_at, step_of}
+use Rattle.replay.specs.Replay.{rest_in, whole_of}
 use Rattle.replay.specs.declared.whole.WholeAnswer.{WholeAnswer}
 use Rattle.replay.specs.declared.whole.WholeAnswer.TheVariants.{Whole, NotWhole}
 use Rattle.output.specs.Put.{put}
@@ -17,28 +17,28 @@ use Rattle.salvaging.specs.declared.search.Found.{Found}
 -- ---- the records
 
 -- what the check of a position found there: the record's id and the place behind it, or none
-abbrev pub foundBy : ℕ → WholeAnswer → Option Found
-foundBy at (NotWhole x) = none
-foundBy at (Whole w) = some (record { position = at; id = w.opened.record_id; end = w.end })
+abbrev pub found_by : ℕ → WholeAnswer → Option Found
+found_by at (NotWhole x) = none
+found_by at (Whole w) = some (record { position = at; id = w.opened.record_id; end = w.end })
 
 -- "a whole record acceptable under the directory begins, with any id": as replay reads it, the test of the id left out. So it is what replay
 -- takes under some id (`found-accepted`, `accepted-found`, proofs/Accepted)
 unfoldable pub found_at : Directory → List ℕ → ℕ → Option Found
-found_at d log at = foundBy at (whole_of (restIn d log) (step_of d log (readerAt at true)))
+found_at d log at = found_by at (whole_of (rest_in d log) (step_of d log (reader_at at true)))
 
 -- "after one is found it continues behind it", else at the next byte
-abbrev pub byFound : (ℕ → List Found) → ℕ → Option Found → List Found
-byFound on at none = on (at + 1)
-byFound on at (some f) = f ∷ on f.end
+abbrev pub by_found : (ℕ → List Found) → ℕ → Option Found → List Found
+by_found on at none = on (at + 1)
+by_found on at (some f) = f ∷ on f.end
 
 -- "finds, from the left, each position where a whole record acceptable under the directory begins"; at most n positions are tried
 unfoldable pub found_from : ℕ → Directory → List ℕ → ℕ → List Found
 found_from zero d log at = []
-found_from (suc n) d log at = byFound (found_from n d log) at (found_at d log at)
+found_from (suc n) d log at = by_found (found_from n d log) at (found_at d log at)
 
 -- each try goes on by a byte or more, so no more are due than the log has bytes: the bound is never met (`enough`, proofs/Records)
-abbrev pub foundOn : Directory → List ℕ → ℕ → List Found
-foundOn d log at = found_from (suc (length log)) d log at
+abbrev pub found_on : Directory → List ℕ → ℕ → List Found
+found_on d log at = found_from (suc (length log)) d log at
 
 -- ---- the list
 
@@ -48,17 +48,17 @@ pub data Line : Type 0 where
   lost : (position length : ℕ) → Line
 
 -- a stretch left out, from a position up to another: "none empty"
-abbrev pub leftOut : ℕ → ℕ → List Line → List Line
-leftOut at to ls = if ltb at to then lost at (to - at) ∷ ls else ls
+abbrev pub left_out : ℕ → ℕ → List Line → List Line
+left_out at to ls = if ltb at to then lost at (to - at) ∷ ls else ls
 
 -- the records from a position on, and what lies before each and behind the last, up to the log's end
 unfoldable pub lines_between : ℕ → List Found → ℕ → List Line
-lines_between at [] end = leftOut at end []
-lines_between at (f ∷ fs) end = leftOut at f.position (kept f.position (f.end - f.position) f.id ∷ lines_between f.end fs end)
+lines_between at [] end = left_out at end []
+lines_between at (f ∷ fs) end = left_out at f.position (kept f.position (f.end - f.position) f.id ∷ lines_between f.end fs end)
 
 -- the list of a log
-unfoldable pub linesOf : Directory → List ℕ → List Line
-linesOf d log = lines_between 0 (foundOn d log 0) (length log)
+unfoldable pub lines_of : Directory → List ℕ → List Line
+lines_of d log = lines_between 0 (found_on d log 0) (length log)
 
 -- a line in four words: 1 for kept, 0 for lost; position, length; the id, 0 where it is lost
 abbrev pub words_of : Line → List ℕ
@@ -66,21 +66,21 @@ words_of (kept p n id) = 1 ∷ p ∷ n ∷ id ∷ []
 words_of (lost p n) = 0 ∷ p ∷ n ∷ 0 ∷ []
 
 -- the list in words
-unfoldable pub wordsOfLines : List Line → List ℕ
-wordsOfLines [] = []
-wordsOfLines (l ∷ ls) = words_of l ++ wordsOfLines ls
+unfoldable pub words_of_lines : List Line → List ℕ
+words_of_lines [] = []
+words_of_lines (l ∷ ls) = words_of l ++ words_of_lines ls
 
 -- ---- the output
 
 -- the bytes of a record that is kept
-abbrev pub lineBytes : List ℕ → Line → List ℕ
-lineBytes log (kept p n id) = take n (drop p log)
-lineBytes log (lost p n) = []
+abbrev pub line_bytes : List ℕ → Line → List ℕ
+line_bytes log (kept p n id) = take n (drop p log)
+line_bytes log (lost p n) = []
 
 -- "It copies those records into an output in order"
-unfoldable pub keptBytes : List ℕ → List Line → List ℕ
-keptBytes log [] = []
-keptBytes log (l ∷ ls) = lineBytes log l ++ keptBytes log ls
+unfoldable pub kept_bytes : List ℕ → List Line → List ℕ
+kept_bytes log [] = []
+kept_bytes log (l ∷ ls) = line_bytes log l ++ kept_bytes log ls
 
 -- ---- the call
 
@@ -101,22 +101,22 @@ abbrev pub salvaged : List ℕ → List Line → List ℕ → List ℕ → Left
 salvaged log ls out list = record {
   answer = Done;
   lines = length ls;
-  written = length (keptBytes log ls);
-  out = put out 0 (keptBytes log ls);
-  list = put list 0 (wordsOfLines ls);
+  written = length (kept_bytes log ls);
+  out = put out 0 (kept_bytes log ls);
+  list = put list 0 (words_of_lines ls);
 }
 
 -- "At most 64 lines; more gives 9, a short output 10, 9 first"
-unfoldable pub salvageBy : List ℕ → List Line → List ℕ → List ℕ → Left
-salvageBy log ls out list =
+unfoldable pub salvage_by : List ℕ → List Line → List ℕ → List ℕ → Left
+salvage_by log ls out list =
     if ltb 64 (length ls) then untouched NoRoom out list else  -- 9
-    if ltb (length out) (length (keptBytes log ls)) then untouched ShortOutput out list else  -- 10
+    if ltb (length out) (length (kept_bytes log ls)) then untouched ShortOutput out list else  -- 10
     salvaged log ls out list
 
 -- 13 first: the directory's rules, and memory that isn't for 64 lines
-unfoldable pub salvageOf : Directory → List ℕ → List ℕ → List ℕ → Left
-salvageOf d log out list =
-    if directoryKept d && eqb (length list) 256 then salvageBy log (linesOf d log) out list else untouched BadState out list  -- 13
+unfoldable pub salvage_of : Directory → List ℕ → List ℕ → List ℕ → Left
+salvage_of d log out list =
+    if directory_kept d && eqb (length list) 256 then salvage_by log (lines_of d log) out list else untouched BadState out list  -- 13
 
 -- the same from what the call hands back and the two memories as it leaves them
 unfoldable pub left_of : Salvaged → List ℕ → List ℕ → Left

@@ -1,6 +1,6 @@
 // The lines of a list by value, as the words of its memory.
 ghost use Rattle.std.specs.Prelude.{◌≡◌, [], ◌∷◌, ◌≤◌, replicate};
-ghost use Rattle.salvaging.specs.Inner.{noLines, with_words, up_to, withRecord, Ruled};
+ghost use Rattle.salvaging.specs.Inner.{no_lines, with_words, up_to, with_record, Ruled};
 
 // How many lines there are, 65 where one found no room; where the last one ends; and how many bytes the records kept have.
 #[derive(Drop)]
@@ -14,7 +14,7 @@ pub struct Lines {
 impl Lines {
     // None, from the front of a log on.
     pub fn new() -> Lines
-        ensures { result ≡ noLines 0 (replicate 256 0) }
+        ensures { result ≡ no_lines 0 (replicate 256 0) }
     {
         Lines {
             words: [0u64; 256],
@@ -59,7 +59,7 @@ impl Lines {
     // A record is kept.
     pub fn with_record(self, position: u64, end: u64, id: u64) -> Lines
         requires { (Ruled self) × (self.end ≤ position) × (position ≤ end) }
-        ensures { (result ≡ withRecord self position end id) × (result.end ≡ end) × Ruled result }
+        ensures { (result ≡ with_record self position end id) × (result.end ≡ end) × Ruled result }
     {
         let length = end - position;
         let mut after = self.up_to(position).with(1, position, length, id);

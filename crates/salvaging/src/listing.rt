@@ -1,8 +1,8 @@
 // The list of a log.
 ghost use Rattle.std.specs.Prelude.{◌≡◌};
-ghost use Rattle.directory.specs.Inner.{directoryIn, Flat};
+ghost use Rattle.directory.specs.Inner.{directory_in, Flat};
 ghost use Rattle.salvaging.specs.Inner.{Lists};
-ghost use Rattle.salvaging.specs.Salvage.{linesOf};
+ghost use Rattle.salvaging.specs.Salvage.{lines_of};
 
 use super::lines::Lines;
 use super::search::{Search, search_in};
@@ -10,7 +10,7 @@ use super::search::{Search, search_in};
 // It stops at a line that finds no room: the rest can't change the answer.
 pub fn lines_of(t: &[u64; 81], log: &[u8]) -> Lines
     requires { Flat t.now }
-    ensures { Lists log.now result (linesOf (directoryIn t.now) log.now) }
+    ensures { Lists log.now result (lines_of (directory_in t.now) log.now) }
 {
     let mut lines = Lines::new();
     let mut at = 0;

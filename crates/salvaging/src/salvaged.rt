@@ -1,9 +1,9 @@
 // The call: nothing is written before the list is whole and the output is known to be long enough.
 ghost use Rattle.std.specs.Prelude.{◌≡◌, true, ◌*◌, ◌≤◌, length, take};
-ghost use Rattle.directory.specs.Directory.{directoryKept};
+ghost use Rattle.directory.specs.Directory.{directory_kept};
 ghost use Rattle.output.specs.Put.{put};
-ghost use Rattle.salvaging.specs.Inner.{linesIn, AllWithin, refusedWith};
-ghost use Rattle.salvaging.specs.Salvage.{keptBytes, linesOf, salvageBy, salvageOf, left_of};
+ghost use Rattle.salvaging.specs.Inner.{lines_in, AllWithin, refused_with};
+ghost use Rattle.salvaging.specs.Salvage.{kept_bytes, lines_of, salvage_by, salvage_of, left_of};
 
 use super::copying::put_records;
 use super::lines::Lines;
@@ -20,7 +20,7 @@ pub struct Salvaged {
 }
 
 fn refused(answer: Answer) -> Salvaged
-    ensures { result ≡ refusedWith answer }
+    ensures { result ≡ refused_with answer }
 {
     Salvaged {
         answer: answer,
@@ -31,9 +31,9 @@ fn refused(answer: Answer) -> Salvaged
 
 fn put_all(lines: Lines, log: &[u8], out: &mut [u8], list: &mut [u64])
     requires { (lines.count ≤ 64) × (length list.old ≡ 256)
-        × (AllWithin (length log.now) (linesIn lines.count lines.words))
-        × (length (keptBytes log.now (linesIn lines.count lines.words)) ≤ length out.old) }
-    ensures { (out.new ≡ put out.old 0 (keptBytes log.now (linesIn lines.count lines.words)))
+        × (AllWithin (length log.now) (lines_in lines.count lines.words))
+        × (length (kept_bytes log.now (lines_in lines.count lines.words)) ≤ length out.old) }
+    ensures { (out.new ≡ put out.old 0 (kept_bytes log.now (lines_in lines.count lines.words)))
         × (list.new ≡ put list.old 0 (take (4 * lines.count) lines.words)) }
 {
     let words = lines.words;
@@ -44,8 +44,8 @@ fn put_all(lines: Lines, log: &[u8], out: &mut [u8], list: &mut [u64])
 
 // Under a directory that was tested already, and memory for 64 lines.
 pub fn salvage_kept(d: Directory, log: &[u8], out: &mut [u8], list: &mut [u64]) -> Salvaged
-    requires { (directoryKept d ≡ true) × (length list.old ≡ 256) }
-    ensures { left_of result out.new list.new ≡ salvageBy log.now (linesOf d log.now) out.old list.old }
+    requires { (directory_kept d ≡ true) × (length list.old ≡ 256) }
+    ensures { left_of result out.new list.new ≡ salvage_by log.now (lines_of d log.now) out.old list.old }
 {
     let t = directory::flat(d);
     let lines = lines_of(&t, log);
@@ -67,7 +67,7 @@ pub fn salvage_kept(d: Directory, log: &[u8], out: &mut [u8], list: &mut [u64]) 
 
 // Finds the whole records of a log, copies them to the output's front, and lists them and what lies between.
 pub fn salvage(d: Directory, log: &[u8], out: &mut [u8], list: &mut [u64]) -> Salvaged
-    ensures { left_of result out.new list.new ≡ salvageOf d log.now out.old list.old }
+    ensures { left_of result out.new list.new ≡ salvage_of d log.now out.old list.old }
 {
     if !d.kept() {
         return refused(Answer::BadState);

@@ -1,8 +1,8 @@
 // The next whole record, from a position of a log on.
 ghost use Rattle.std.specs.Prelude.{◌≡◌, true, length};
-ghost use Rattle.directory.specs.Directory.{directoryKept};
-ghost use Rattle.directory.specs.Inner.{directoryIn, Flat};
-ghost use Rattle.salvaging.specs.Inner.{NextBegin, undecided, searchIn, Inside};
+ghost use Rattle.directory.specs.Directory.{directory_kept};
+ghost use Rattle.directory.specs.Inner.{directory_in, Flat};
+ghost use Rattle.salvaging.specs.Inner.{NextBegin, undecided, search_in, Inside};
 
 use answer::Refusal;
 use directory::Directory;
@@ -48,7 +48,7 @@ fn is_open(more: bool, x: Refusal) -> bool
 // Where more bytes may follow, a record that they could make whole isn't passed over.
 pub fn search_in(t: &[u64; 81], log: &[u8], from: usize, more: bool) -> Search
     requires { Flat t.now }
-    ensures { (result ≡ searchIn more (directoryIn t.now) log.now from) × Inside result from (length log.now) }
+    ensures { (result ≡ search_in more (directory_in t.now) log.now from) × Inside result from (length log.now) }
 {
     let mut at = next_begin(log, from);
     while at < log.len() {
@@ -74,8 +74,8 @@ pub fn search_in(t: &[u64; 81], log: &[u8], from: usize, more: bool) -> Search
 
 // Under a directory that was tested already.
 pub fn search_kept(d: Directory, log: &[u8], from: usize, more: bool) -> Search
-    requires { directoryKept d ≡ true }
-    ensures { (result ≡ searchIn more d log.now from) × Inside result from (length log.now) }
+    requires { directory_kept d ≡ true }
+    ensures { (result ≡ search_in more d log.now from) × Inside result from (length log.now) }
 {
     let t = directory::flat(d);
     search_in(&t, log, from, more)

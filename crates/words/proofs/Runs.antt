@@ -52,9 +52,9 @@ module _ (z o x : ℕ) where
       (omega (arith, c.0, s.0), rw e at s.1)
 
   -- and has that many set bits
-  pub run-ones : ones ((x * 2 ^ o + (2 ^ o - 1)) * 2 ^ z) ≡ o + ones x
+  pub run_ones : ones ((x * 2 ^ o + (2 ^ o - 1)) * 2 ^ z) ≡ o + ones x
   unfolding ones
-  run-ones =
+  run_ones =
       let a : ones ((x * 2 ^ o + (2 ^ o - 1)) * 2 ^ z) ≡ ones (x * 2 ^ o + (2 ^ o - 1)) + ones 0 = rw (add-zero ((x * 2 ^ o + (2 ^ o - 1)) * 2 ^ z)) at (ones_cat z (x * 2 ^ o + (2 ^ o - 1)) 0 (pow_pos z)) in
       omega (arith, a, ones_cat o x (2 ^ o - 1) (ones_lt o), ones-ones o)
 
@@ -75,7 +75,7 @@ turn slot m z o x s h e p =
       slots = k;
       below = rw q at r.1;
       wide = λ w. rw (← add-mul) (mul-le-mul_right w k);
-      entries = λ w. rw (e, run-ones z o x) (add-mul o (ones x) w);
+      entries = λ w. rw (e, run_ones z o x) (add-mul o (ones x) w);
     }
 
 -- ---- the count of trailing zeros finds them

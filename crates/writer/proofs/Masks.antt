@@ -12,12 +12,12 @@ use Rattle.directory.specs.declared.table.TableKind.{TableKind}
 use Rattle.change.specs.Change.{Change}
 use Rattle.output.specs.Put.{put, Wrote}
 use Rattle.output.proofs.Laws.{rest, room, none_left, length-le}
-use Rattle.writer.specs.Bytes.{setSlots, maskedBytes, payloadOf, entryBytes, body, recordOf}
-use Rattle.writer.specs.Inner.{changesOf}
+use Rattle.writer.specs.Bytes.{set_slots, masked_bytes, payload_of, entry_bytes, body, record_of}
+use Rattle.writer.specs.Inner.{changes_of}
 
 -- z clear bits: so many slots are passed
-slots-clear : (z n w x : ℕ) (chunk : List ℕ) → z ≤ n → setSlots n w (x * 2 ^ z) chunk ≡ setSlots (n - z) w x (drop (z * w) chunk)
-unfolding setSlots
+slots-clear : (z n w x : ℕ) (chunk : List ℕ) → z ≤ n → set_slots n w (x * 2 ^ z) chunk ≡ set_slots (n - z) w x (drop (z * w) chunk)
+unfolding set_slots
 slots-clear zero n w x chunk h = simp (mul-one, sub-zero, zero-mul)
 slots-clear (suc z) zero w x chunk h = absurd (omega arith)
 slots-clear (suc z) (suc n) w x chunk h =
@@ -26,8 +26,8 @@ slots-clear (suc z) (suc n) w x chunk h =
 
 -- o set bits: as many slots, one behind the other
 slots_set : (o n w x : ℕ) (chunk : List ℕ) → o ≤ n
-    → setSlots n w (x * 2 ^ o + (2 ^ o - 1)) chunk ≡ take (o * w) chunk ++ setSlots (n - o) w x (drop (o * w) chunk)
-unfolding setSlots
+    → set_slots n w (x * 2 ^ o + (2 ^ o - 1)) chunk ≡ take (o * w) chunk ++ set_slots (n - o) w x (drop (o * w) chunk)
+unfolding set_slots
 slots_set zero n w x chunk h = simp (mul-one, add-zero, sub-zero, zero-mul)
 slots_set (suc o) zero w x chunk h = absurd (omega arith)
 slots_set (suc o) (suc n) w x chunk h =
@@ -35,8 +35,8 @@ slots_set (suc o) (suc n) w x chunk h =
     rw (set-odd o x, set-half o x, suc-sub-suc, b, ← drop-drop (o * w) w chunk, take-add w (o * w) chunk, append_assoc)
     (ap (λ (l : List ℕ). take w chunk ++ l) (slots_set o n w x (drop w chunk) (omega arith)))
 
-slots-none : (n w : ℕ) (chunk : List ℕ) → setSlots n w 0 chunk ≡ []
-unfolding setSlots
+slots-none : (n w : ℕ) (chunk : List ℕ) → set_slots n w 0 chunk ≡ []
+unfolding set_slots
 slots-none zero w chunk = refl
 slots-none (suc n) w chunk = slots-none n w (drop w chunk)
 
@@ -46,7 +46,7 @@ run w chunk a e = take (e * w - a * w) (drop (a * w) chunk)
 
 -- a turn of the walk: from a slot on to behind the next run
 module _ (w : ℕ) (chunk : List ℕ) (slot m z o x : ℕ) (whole : m ≡ (x * 2 ^ o + (2 ^ o - 1)) * 2 ^ z) (fits : slot + z + o ≤ 64) where
-  slots-run : setSlots (64 - slot) w m (drop (slot * w) chunk) ≡ run w chunk (slot + z) (slot + z + o) ++ setSlots (64 - (slot + z + o)) w x (drop ((slot + z + o) * w) chunk)
+  slots-run : set_slots (64 - slot) w m (drop (slot * w) chunk) ≡ run w chunk (slot + z) (slot + z + o) ++ set_slots (64 - (slot + z + o)) w x (drop ((slot + z + o) * w) chunk)
   slots-run =
       let a : 64 - (slot + z + o) ≡ 64 - slot - z - o = omega arith in
       let b : (slot + z + o) * w - (slot + z) * w ≡ o * w = omega arith in
@@ -56,26 +56,26 @@ module _ (w : ℕ) (chunk : List ℕ) (slot m z o x : ℕ) (whole : m ≡ (x * 2
       let s = slots_set o (64 - slot - z) w x (drop (z * w) (drop (slot * w) chunk)) (omega arith) in
       rw (a, b, c, d, whole, ← drop-drop (o * w) (slot * w + z * w) chunk, ← drop-drop (z * w) (slot * w) chunk, t) s
 
-  module _ {out : List ℕ} {at : ℕ} {f : List ℕ} {e : ℕ} (left : Wrote out at (setSlots (64 - slot) w m (drop (slot * w) chunk)) f e) where
+  module _ {out : List ℕ} {at : ℕ} {f : List ℕ} {e : ℕ} (left : Wrote out at (set_slots (64 - slot) w m (drop (slot * w) chunk)) f e) where
     pub slots-room : at + length (run w chunk (slot + z) (slot + z + o)) ≤ e
-    slots-room = room (run w chunk (slot + z) (slot + z + o)) (setSlots (64 - (slot + z + o)) w x (drop ((slot + z + o) * w) chunk)) (rw slots-run at left)
+    slots-room = room (run w chunk (slot + z) (slot + z + o)) (set_slots (64 - (slot + z + o)) w x (drop ((slot + z + o) * w) chunk)) (rw slots-run at left)
 
-    pub slots-rest : {n : List ℕ} {r : ℕ} → Wrote out at (run w chunk (slot + z) (slot + z + o)) n r → Wrote n r (setSlots (64 - (slot + z + o)) w x (drop ((slot + z + o) * w) chunk)) f e
+    pub slots-rest : {n : List ℕ} {r : ℕ} → Wrote out at (run w chunk (slot + z) (slot + z + o)) n r → Wrote n r (set_slots (64 - (slot + z + o)) w x (drop ((slot + z + o) * w) chunk)) f e
     slots-rest x = rest (rw slots-run at left) x
 
-pub slots-done : (k w m : ℕ) (chunk : List ℕ) {l : List ℕ} {at : ℕ} {bs n : List ℕ} {r : ℕ} → m ≤ 0 → Wrote n r (setSlots k w m chunk) (put l at bs) (at + length bs) → Wrote l at bs n r
+pub slots-done : (k w m : ℕ) (chunk : List ℕ) {l : List ℕ} {at : ℕ} {bs n : List ℕ} {r : ℕ} → m ≤ 0 → Wrote n r (set_slots k w m chunk) (put l at bs) (at + length bs) → Wrote l at bs n r
 slots-done k w m chunk h left =
     let e : m ≡ 0 = omega arith in
     none_left (rw (e, slots-none k w chunk) at left)
 
-pub length-masked : (w mask : ℕ) (chunk : List ℕ) → length (maskedBytes w mask chunk) ≡ 8 + length (setSlots 64 w mask chunk)
-unfolding maskedBytes
-length-masked w mask chunk = simp (length-append, length-le)
+pub length_masked : (w mask : ℕ) (chunk : List ℕ) → length (masked_bytes w mask chunk) ≡ 8 + length (set_slots 64 w mask chunk)
+unfolding masked_bytes
+length_masked w mask chunk = simp (length-append, length-le)
 
-pub length-entry : (kind : TableKind) (table index mark : ℕ) (bytes : List ℕ) → length (entryBytes kind table index mark bytes) ≡ 11 + length (payloadOf kind mark bytes)
-unfolding entryBytes
+pub length-entry : (kind : TableKind) (table index mark : ℕ) (bytes : List ℕ) → length (entry_bytes kind table index mark bytes) ≡ 11 + length (payload_of kind mark bytes)
+unfolding entry_bytes
 length-entry kind table index mark bytes = simp (length-append, length-le)
 
-pub length-record-of : (l : Change) → length (recordOf l) ≡ length (changesOf l) + 5
-unfolding recordOf body
-length-record-of l = simp (length-append, length-le) (omega arith)
+pub length_record_of : (l : Change) → length (record_of l) ≡ length (changes_of l) + 5
+unfolding record_of body
+length_record_of l = simp (length-append, length-le) (omega arith)

@@ -5,11 +5,11 @@ use Rattle.words.specs.Choice.{if◌then◌else◌}
 use Rattle.answer.specs.declared.answer.Answer.{Answer}
 use Rattle.answer.specs.declared.answer.Answer.TheVariants.{ShortOutput, BadState}
 use Rattle.directory.specs.declared.directory.Directory.{Directory}
-use Rattle.change.specs.Change.{Change, changeKept}
-use Rattle.change.specs.Size.{recordSize, sizedKept}
+use Rattle.change.specs.Change.{Change, change_kept}
+use Rattle.change.specs.Size.{record_size, sized_kept}
 use Rattle.change.specs.declared.size.Sized.{Sized}
 use Rattle.output.specs.Put.{put}
-use Rattle.writer.specs.Bytes.{recordOf}
+use Rattle.writer.specs.Bytes.{record_of}
 
 -- what the call comes to: its answer with the record's length (`FlushedLog::bytes`, line 446), and the output afterwards
 pub record FlushedLog : Type 0 where
@@ -17,19 +17,19 @@ pub record FlushedLog : Type 0 where
   pub output : List ℕ
 
 -- as the call hands it back
-abbrev pub flushedOf : Sized → List ℕ → FlushedLog
-flushedOf r out = record { sized = r; output = out }
+abbrev pub flushed_of : Sized → List ℕ → FlushedLog
+flushed_of r out = record { sized = r; output = out }
 
 -- a refusal leaves the output as it was
 abbrev pub unwritten : Answer → List ℕ → FlushedLog
-unwritten answer out = flushedOf (record { answer = answer; length = 0 }) out
+unwritten answer out = flushed_of (record { answer = answer; length = 0 }) out
 
 -- at a list that keeps its rules: 10, compared before a byte is written; else the record at the front
-unfoldable pub flushToFileKept : Change → List ℕ → FlushedLog
-flushToFileKept l out =
-    if ltb (length out) (recordSize l) then unwritten ShortOutput out else  -- 10: "output too short"
-    flushedOf (sizedKept l) (put out 0 (recordOf l))
+unfoldable pub flush_to_file_kept : Change → List ℕ → FlushedLog
+flush_to_file_kept l out =
+    if ltb (length out) (record_size l) then unwritten ShortOutput out else  -- 10: "output too short"
+    flushed_of (sized_kept l) (put out 0 (record_of l))
 
 -- "Order in every call: 13", then as above
-unfoldable pub flushToFile : Directory → Change → List ℕ → FlushedLog
-flushToFile d l out = if changeKept d l then flushToFileKept l out else unwritten BadState out  -- 13
+unfoldable pub flush_to_file : Directory → Change → List ℕ → FlushedLog
+flush_to_file d l out = if change_kept d l then flush_to_file_kept l out else unwritten BadState out  -- 13

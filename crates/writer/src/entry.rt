@@ -3,7 +3,7 @@ ghost use Rattle.std.specs.Prelude.{◌≡◌, [], ◌+◌, ◌≤◌, length};
 ghost use Rattle.directory.specs.Table.{unit_of};
 ghost use Rattle.overlay.specs.Rules.{lists_of};
 ghost use Rattle.output.specs.Put.{Wrote};
-ghost use Rattle.writer.specs.Bytes.{insertTag, payloadOf, entryBytes, entryBytesAt};
+ghost use Rattle.writer.specs.Bytes.{insert_tag, payload_of, entry_bytes, entry_bytes_at};
 ghost use Rattle.writer.specs.Inner.{Writable};
 
 use super::slots::put_masked;
@@ -11,7 +11,7 @@ use answer::Tag;
 use directory::TableKind;
 
 fn insert_tag(kind: TableKind) -> Tag
-    ensures { result.0 ≡ insertTag kind }
+    ensures { result.0 ≡ insert_tag kind }
 {
     match kind {
         TableKind::Index => Tag::INSERT_INDEX,
@@ -21,8 +21,8 @@ fn insert_tag(kind: TableKind) -> Tag
 }
 
 fn put_payload(out: &mut [u8], at: usize, kind: TableKind, mark: u64, bytes: &[u8]) -> usize
-    requires { (unit_of kind mark ≤ length bytes.now) × (at + length (payloadOf kind mark bytes.now) ≤ length out.old) }
-    ensures { Wrote out.old at (payloadOf kind mark bytes.now) out.new result }
+    requires { (unit_of kind mark ≤ length bytes.now) × (at + length (payload_of kind mark bytes.now) ≤ length out.old) }
+    ensures { Wrote out.old at (payload_of kind mark bytes.now) out.new result }
 {
     match kind {
         TableKind::Index => put_masked(out, at, 8, mark, bytes),
@@ -43,8 +43,8 @@ fn put_entry(
     mark: u64,
     bytes: &[u8],
 ) -> usize
-    requires { (unit_of kind mark ≤ length bytes.now) × (at + length (entryBytes kind table index mark bytes.now) ≤ length out.old) }
-    ensures { Wrote out.old at (entryBytes kind table index mark bytes.now) out.new result }
+    requires { (unit_of kind mark ≤ length bytes.now) × (at + length (entry_bytes kind table index mark bytes.now) ≤ length out.old) }
+    ensures { Wrote out.old at (entry_bytes kind table index mark bytes.now) out.new result }
 {
     let tag = insert_tag(kind);
     let a = output::put_u8(out, at, tag.0);
@@ -62,8 +62,8 @@ pub(crate) fn put_key(
     p: usize,
     bytes: &[u8],
 ) -> usize
-    requires { Writable kind rows.now bytes.now p × (at + length (entryBytesAt kind (lists_of rows.now [] bytes.now 0) p) ≤ length out.old) }
-    ensures { Wrote out.old at (entryBytesAt kind (lists_of rows.now [] bytes.now 0) p) out.new result }
+    requires { Writable kind rows.now bytes.now p × (at + length (entry_bytes_at kind (lists_of rows.now [] bytes.now 0) p) ≤ length out.old) }
+    ensures { Wrote out.old at (entry_bytes_at kind (lists_of rows.now [] bytes.now 0) p) out.new result }
 {
     let s = overlay::slot_size(kind) * p;
     let table = rows[4 * p] as u16;

@@ -1,10 +1,10 @@
 // `flush_to_file`: log.rs lines 380 to 454.
 ghost use Rattle.std.specs.Prelude.{◌≡◌, true, ◌≤◌, length};
-ghost use Rattle.change.specs.Change.{changeOf, changeRuled};
+ghost use Rattle.change.specs.Change.{change_of, change_ruled};
 ghost use Rattle.output.specs.Put.{Wrote, put};
-ghost use Rattle.writer.specs.Bytes.{recordOf};
-ghost use Rattle.writer.specs.Flush.{flushedOf, flushToFileKept, flushToFile};
-ghost use Rattle.writer.specs.Inner.{insertsOf, changesOf};
+ghost use Rattle.writer.specs.Bytes.{record_of};
+ghost use Rattle.writer.specs.Flush.{flushed_of, flush_to_file_kept, flush_to_file};
+ghost use Rattle.writer.specs.Inner.{inserts_of, changes_of};
 
 use super::drops::put_drops;
 use super::kinds::put_kind;
@@ -14,8 +14,8 @@ use directory::{Directory, TableKind};
 
 // From the begin tag to the last reference count.
 fn put_inserts(out: &mut [u8], list: LogChange, words: &[u64], bytes: &[u8]) -> usize
-    requires { (changeRuled (changeOf list words.now bytes.now) ≡ true) × (length (insertsOf (changeOf list words.now bytes.now)) ≤ length out.old) }
-    ensures { Wrote out.old 0 (insertsOf (changeOf list words.now bytes.now)) out.new result }
+    requires { (change_ruled (change_of list words.now bytes.now) ≡ true) × (length (inserts_of (change_of list words.now bytes.now)) ≤ length out.old) }
+    ensures { Wrote out.old 0 (inserts_of (change_of list words.now bytes.now)) out.new result }
 {
     let counts = list.counts;
     let tag = Tag::BEGIN_RECORD;
@@ -28,8 +28,8 @@ fn put_inserts(out: &mut [u8], list: LogChange, words: &[u64], bytes: &[u8]) -> 
 
 // To the last drop.
 fn put_changes(out: &mut [u8], list: LogChange, words: &[u64], bytes: &[u8]) -> usize
-    requires { (changeRuled (changeOf list words.now bytes.now) ≡ true) × (length (changesOf (changeOf list words.now bytes.now)) ≤ length out.old) }
-    ensures { Wrote out.old 0 (changesOf (changeOf list words.now bytes.now)) out.new result }
+    requires { (change_ruled (change_of list words.now bytes.now) ≡ true) × (length (changes_of (change_of list words.now bytes.now)) ≤ length out.old) }
+    ensures { Wrote out.old 0 (changes_of (change_of list words.now bytes.now)) out.new result }
 {
     let drops = list.dropped_tables;
     let count_drops = list.dropped_ref_count_tables;
@@ -40,8 +40,8 @@ fn put_changes(out: &mut [u8], list: LogChange, words: &[u64], bytes: &[u8]) -> 
 
 // The checksum is taken once, over all that was written.
 fn put_record(out: &mut [u8], list: LogChange, words: &[u64], bytes: &[u8])
-    requires { (changeRuled (changeOf list words.now bytes.now) ≡ true) × (length (recordOf (changeOf list words.now bytes.now)) ≤ length out.old) }
-    ensures { out.new ≡ put out.old 0 (recordOf (changeOf list words.now bytes.now)) }
+    requires { (change_ruled (change_of list words.now bytes.now) ≡ true) × (length (record_of (change_of list words.now bytes.now)) ≤ length out.old) }
+    ensures { out.new ≡ put out.old 0 (record_of (change_of list words.now bytes.now)) }
 {
     let tag = Tag::END_RECORD;
     let a = put_changes(out, list, words, bytes);
@@ -52,8 +52,8 @@ fn put_record(out: &mut [u8], list: LogChange, words: &[u64], bytes: &[u8])
 
 // Behind 13: the length is compared before a byte is written.
 pub fn flush_to_file_kept(list: LogChange, words: &[u64], bytes: &[u8], out: &mut [u8]) -> Sized
-    requires { changeRuled (changeOf list words.now bytes.now) ≡ true }
-    ensures { flushedOf result out.new ≡ flushToFileKept (changeOf list words.now bytes.now) out.old }
+    requires { change_ruled (change_of list words.now bytes.now) ≡ true }
+    ensures { flushed_of result out.new ≡ flush_to_file_kept (change_of list words.now bytes.now) out.old }
 {
     let size = list.record_size_kept(words, bytes);
     if out.len() < size.length {
@@ -74,7 +74,7 @@ pub fn flush_to_file(
     bytes: &[u8],
     out: &mut [u8],
 ) -> Sized
-    ensures { flushedOf result out.new ≡ flushToFile directory (changeOf list words.now bytes.now) out.old }
+    ensures { flushed_of result out.new ≡ flush_to_file directory (change_of list words.now bytes.now) out.old }
 {
     if !list.kept(directory, words, bytes) {
         return Sized {

@@ -1,7 +1,7 @@
 // The entries of a kind, as the order of its keys has them. log.rs lines 394 to 432.
 ghost use Rattle.std.specs.Prelude.{◌≡◌, true, ◌+◌, ◌≤◌, length};
-ghost use Rattle.overlay.specs.Rules.{lists_of, overlayOf, overlayKept};
-ghost use Rattle.memory.specs.Parts.{part_of, parts_of, partsKept};
+ghost use Rattle.overlay.specs.Rules.{lists_of, overlay_of, overlay_kept};
+ghost use Rattle.memory.specs.Parts.{part_of, parts_of, parts_kept};
 ghost use Rattle.memory.specs.declared.span.Holder.TheVariants.{List};
 ghost use Rattle.output.specs.Put.{Wrote};
 ghost use Rattle.writer.specs.Bytes.{entries};
@@ -20,7 +20,7 @@ fn put_places<'a>(
     bytes: &[u8],
     n: usize,
 ) -> usize
-    requires { (room ≤ 256) × (overlayKept kind room (lists_of rows.now order.now bytes.now n) ≡ true)
+    requires { (room ≤ 256) × (overlay_kept kind room (lists_of rows.now order.now bytes.now n) ≡ true)
         × (at + length (entries kind (lists_of rows.now order.now bytes.now n)) ≤ length out.old) }
     ensures { Wrote out.old at (entries kind (lists_of rows.now order.now bytes.now n)) out.new result }
 {
@@ -44,9 +44,9 @@ fn put_entries(
     bytes: &[u8],
     n: usize,
 ) -> usize
-    requires { (room ≤ 256) × (overlayKept kind room (overlayOf room words.now bytes.now n) ≡ true)
-        × (at + length (entries kind (overlayOf room words.now bytes.now n)) ≤ length out.old) }
-    ensures { Wrote out.old at (entries kind (overlayOf room words.now bytes.now n)) out.new result }
+    requires { (room ≤ 256) × (overlay_kept kind room (overlay_of room words.now bytes.now n) ≡ true)
+        × (at + length (entries kind (overlay_of room words.now bytes.now n)) ≤ length out.old) }
+    ensures { Wrote out.old at (entries kind (overlay_of room words.now bytes.now n)) out.new result }
 {
     let cut = 4 * room;
     put_places(out, at, kind, room, &words[..cut], &words[cut..], bytes, n)
@@ -61,7 +61,7 @@ pub(crate) fn put_kind(
     words: &[u64],
     bytes: &[u8],
 ) -> usize
-    requires { (partsKept List (parts_of List counts words.now bytes.now) ≡ true)
+    requires { (parts_kept List (parts_of List counts words.now bytes.now) ≡ true)
         × (at + length (entries kind (part_of List kind counts words.now bytes.now)) ≤ length out.old) }
     ensures { Wrote out.old at (entries kind (part_of List kind counts words.now bytes.now)) out.new result }
 {

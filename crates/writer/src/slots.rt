@@ -1,12 +1,12 @@
 // The slots of a chunk that a mask names. log.rs lines 400 to 405 and 422 to 430.
 ghost use Rattle.std.specs.Prelude.{◌+◌, ◌*◌, ◌≤◌, length};
 ghost use Rattle.output.specs.Put.{Wrote};
-ghost use Rattle.writer.specs.Bytes.{setSlots, maskedBytes};
+ghost use Rattle.writer.specs.Bytes.{set_slots, masked_bytes};
 
 // A run of set bits is one copy.
 fn put_slots(out: &mut [u8], at: usize, width: usize, mask: u64, chunk: &[u8]) -> usize
-    requires { (64 * width ≤ length chunk.now) × (at + length (setSlots 64 width mask chunk.now) ≤ length out.old) }
-    ensures { Wrote out.old at (setSlots 64 width mask chunk.now) out.new result }
+    requires { (64 * width ≤ length chunk.now) × (at + length (set_slots 64 width mask chunk.now) ≤ length out.old) }
+    ensures { Wrote out.old at (set_slots 64 width mask chunk.now) out.new result }
 {
     let mut o = at;
     let mut m = mask;
@@ -24,8 +24,8 @@ fn put_slots(out: &mut [u8], at: usize, width: usize, mask: u64, chunk: &[u8]) -
 }
 
 pub(crate) fn put_masked(out: &mut [u8], at: usize, width: usize, mask: u64, chunk: &[u8]) -> usize
-    requires { (64 * width ≤ length chunk.now) × (at + length (maskedBytes width mask chunk.now) ≤ length out.old) }
-    ensures { Wrote out.old at (maskedBytes width mask chunk.now) out.new result }
+    requires { (64 * width ≤ length chunk.now) × (at + length (masked_bytes width mask chunk.now) ≤ length out.old) }
+    ensures { Wrote out.old at (masked_bytes width mask chunk.now) out.new result }
 {
     let a = output::put_u64(out, at, mask);
     put_slots(out, a, width, mask, chunk)

@@ -6,7 +6,7 @@ use native.Mathlib.Nat.{add-zero}
 use native.Mathlib.Omega.{arith}
 use lib.ListN.{length, take, drop, get_or, length-append, length-drop}
 use lib.Seq.{drop-drop, take_at, drop_at, get_or-drop}
-use Rattle.words.specs.Words.{little, littleAt}
+use Rattle.words.specs.Words.{little, little_at}
 use Rattle.output.specs.Put.{le}
 use Rattle.output.proofs.Laws.{length-le, little-le}
 
@@ -34,7 +34,7 @@ module _ {log : List ℕ} {at : ℕ} where
     room = omega (arith, left h, length-append a b)
 
 -- a number of n bytes
-pub number : (n x : ℕ) (b : List ℕ) {log : List ℕ} {at : ℕ} → x < 256 ^ n → Here log at (le n x ++ b) → x ≡ littleAt n log at
+pub number : (n x : ℕ) (b : List ℕ) {log : List ℕ} {at : ℕ} → x < 256 ^ n → Here log at (le n x ++ b) → x ≡ little_at n log at
 number n x b h e = sym (ap little (front (le n x) b n (length-le n x) e) ∙ little-le n x h)
 
 -- the tag

@@ -10,7 +10,7 @@ use borrow.Author.Tests.{ltb-true, eqb-true, eq-eqb}
 use Rattle.words.specs.Choice.{if◌then◌else◌}
 use Rattle.directory.specs.declared.directory.Directory.{Directory}
 use Rattle.effect.specs.Effect.{Written}
-use Rattle.effect.specs.Meaning.{says, lastSaid}
+use Rattle.effect.specs.Meaning.{says, last_said}
 use Rattle.effect.specs.Order.{Each}
 use Rattle.numbers.proofs.Sort.{above-ascends}
 use Rattle.numbers.proofs.Laws.{left-of, right_of}
@@ -87,31 +87,31 @@ module _ (f : ℕ → ℕ) where
 -- ---- the last that says anything
 
 module _ (d : Directory) (p : ℕ) where
-  pub last-append : (vs ws : List Written) → lastSaid d (vs ++ ws) p ≡ or_else (lastSaid d ws p) (lastSaid d vs p)
-  unfolding lastSaid or_else
-  last-append [] ws = by (lastSaid d ws p)
+  pub last-append : (vs ws : List Written) → last_said d (vs ++ ws) p ≡ or_else (last_said d ws p) (last_said d vs p)
+  unfolding last_said or_else
+  last-append [] ws = by (last_said d ws p)
     where
       by : (o : Option ℕ) → o ≡ or_else o none
       by none = refl
       by (some b) = refl
-  last-append (v ∷ vs) ws = ap (λ (o : Option ℕ). or_else o (says d v p)) (last-append vs ws) ∙ by (lastSaid d ws p)
+  last-append (v ∷ vs) ws = ap (λ (o : Option ℕ). or_else o (says d v p)) (last-append vs ws) ∙ by (last_said d ws p)
     where
-      by : (o : Option ℕ) → or_else (or_else o (lastSaid d vs p)) (says d v p) ≡ or_else o (or_else (lastSaid d vs p) (says d v p))
+      by : (o : Option ℕ) → or_else (or_else o (last_said d vs p)) (says d v p) ≡ or_else o (or_else (last_said d vs p) (says d v p))
       by none = refl
       by (some b) = refl
 
   -- none says anything
-  pub silent : (ws : List Written) → Each (λ w. says d w p ≡ none) ws → lastSaid d ws p ≡ none
-  unfolding lastSaid or_else
+  pub silent : (ws : List Written) → Each (λ w. says d w p ≡ none) ws → last_said d ws p ≡ none
+  unfolding last_said or_else
   silent [] h = refl
   silent (w ∷ ws) h = rw (silent ws h.1) h.0
 
-  heard : (ws : List Written) → lastSaid d ws p ≡ none → Each (λ w. says d w p ≡ none) ws
-  unfolding lastSaid or_else
+  heard : (ws : List Written) → last_said d ws p ≡ none → Each (λ w. says d w p ≡ none) ws
+  unfolding last_said or_else
   heard [] e = tt
-  heard (w ∷ ws) e = by (lastSaid d ws p) refl (heard ws)
+  heard (w ∷ ws) e = by (last_said d ws p) refl (heard ws)
     where
-      by : (o : Option ℕ) → lastSaid d ws p ≡ o → (lastSaid d ws p ≡ none → Each (λ w. says d w p ≡ none) ws)
+      by : (o : Option ℕ) → last_said d ws p ≡ o → (last_said d ws p ≡ none → Each (λ w. says d w p ≡ none) ws)
           → (says d w p ≡ none) × Each (λ w. says d w p ≡ none) ws
       by none q ih = (rw q at e, ih q)
       by (some b) q ih = let z : ◌≡◌ {A = ℕ} 0 1 = cc (rw q at e) in absurd (omega arith)
@@ -120,21 +120,21 @@ module _ (d : Directory) (p : ℕ) where
   abbrev pub Only : ℕ → Written → Type 0
   Only b w = (c : ℕ) → says d w p ≡ some c → c ≡ b
 
-  last-only : (b : ℕ) (ws : List Written) → Each (Only b) ws → (c : ℕ) → lastSaid d ws p ≡ some c → c ≡ b
-  unfolding lastSaid or_else
-  last-only b [] h c e = let z : ◌≡◌ {A = ℕ} 0 1 = cc in absurd (omega arith)
-  last-only b (w ∷ ws) h c e = by (lastSaid d ws p) refl (last-only b ws h.1)
+  last_only : (b : ℕ) (ws : List Written) → Each (Only b) ws → (c : ℕ) → last_said d ws p ≡ some c → c ≡ b
+  unfolding last_said or_else
+  last_only b [] h c e = let z : ◌≡◌ {A = ℕ} 0 1 = cc in absurd (omega arith)
+  last_only b (w ∷ ws) h c e = by (last_said d ws p) refl (last_only b ws h.1)
     where
-      by : (o : Option ℕ) → lastSaid d ws p ≡ o → ((c : ℕ) → lastSaid d ws p ≡ some c → c ≡ b) → c ≡ b
+      by : (o : Option ℕ) → last_said d ws p ≡ o → ((c : ℕ) → last_said d ws p ≡ some c → c ≡ b) → c ≡ b
       by none q ih = h.0 c (rw q at e)
       by (some x) q ih = ih c (q ∙ (rw q at e))
 
-  pub agreed : (b : ℕ) (ws : List Written) → Each (Only b) ws → (Each (λ w. says d w p ≡ none) ws → ⊥) → lastSaid d ws p ≡ some b
-  agreed b ws h k = by (lastSaid d ws p) refl
+  pub agreed : (b : ℕ) (ws : List Written) → Each (Only b) ws → (Each (λ w. says d w p ≡ none) ws → ⊥) → last_said d ws p ≡ some b
+  agreed b ws h k = by (last_said d ws p) refl
     where
-      by : (o : Option ℕ) → lastSaid d ws p ≡ o → o ≡ some b
+      by : (o : Option ℕ) → last_said d ws p ≡ o → o ≡ some b
       by none q = absurd (k (heard ws q))
-      by (some c) q = ap {B = Option ℕ} some (last-only b ws h c q)
+      by (some c) q = ap {B = Option ℕ} some (last_only b ws h c q)
 
 pub none_of : (o : Option ℕ) → ((c : ℕ) → o ≡ some c → ⊥) → o ≡ none
 none_of none h = refl

@@ -3,64 +3,64 @@
 use Rattle.std.specs.Prelude.{List, [], ◌∷◌, ◌++◌, map, ℕ, ◌+◌, ◌*◌, take, drop, get_or}
 use Rattle.directory.specs.declared.table.TableKind.{TableKind}
 use Rattle.directory.specs.declared.table.TableKind.TheVariants.{Index, Value, RefCount}
-use Rattle.record.specs.Record.{insertOf, dropIndex, dropRefCount, tag_of}
+use Rattle.record.specs.Record.{insert_of, drop_index, drop_ref_count, tag_of}
 use Rattle.record.specs.declared.action.LogAction.{LogAction}
 use Rattle.record.specs.declared.action.LogAction.TheVariants.{BeginRecord, InsertIndex, InsertValue, InsertRefCount, EndRecord, DropTable, DropRefCountTable}
 use Rattle.effect.specs.Effect.{Written, written}
-use Rattle.keys.specs.Keys.{rank, markAt}
-use Rattle.overlay.specs.Rules.{Overlay, slotSize}
+use Rattle.keys.specs.Keys.{rank, mark_at}
+use Rattle.overlay.specs.Rules.{Overlay, slot_size}
 use Rattle.change.specs.Change.{Change}
 use Rattle.change.specs.declared.drops.Drops.{Drops}
 use Rattle.output.specs.Put.{le}
-use Rattle.writer.specs.Bytes.{payloadOf}
+use Rattle.writer.specs.Bytes.{payload_of}
 
 -- the key in place p, with the chunk or value in slot p of the kind's bytes
-unfoldable pub insertAt : TableKind → Overlay → ℕ → Written
-insertAt kind o p =
-    written (insertOf kind (get_or o.rows (4 * p) 0) (get_or o.rows (4 * p + 1) 0)) (payloadOf kind (markAt o.rows p) (drop (slotSize kind * p) o.bytes))
+unfoldable pub insert_at : TableKind → Overlay → ℕ → Written
+insert_at kind o p =
+    written (insert_of kind (get_or o.rows (4 * p) 0) (get_or o.rows (4 * p + 1) 0)) (payload_of kind (mark_at o.rows p) (drop (slot_size kind * p) o.bytes))
 
 -- "by table number, then index, ascending": as the keys' order has them
 unfoldable pub inserts : TableKind → Overlay → List Written
-inserts kind o = map (insertAt kind o) (take o.count o.order)
+inserts kind o = map (insert_at kind o) (take o.count o.order)
 
 -- a drop as an action; it has no payload
 abbrev pub drop_at : (ℕ → LogAction) → ℕ → Written
 drop_at action table = written (action table) []
 
 -- "drops in call order, repeats kept"
-unfoldable pub dropsOf : (ℕ → LogAction) → Drops → List Written
-dropsOf action s = map (drop_at action) (take s.count s.tables)
+unfoldable pub drops_of : (ℕ → LogAction) → Drops → List Written
+drops_of action s = map (drop_at action) (take s.count s.tables)
 
 -- "index, values, reference counts"
-unfoldable pub allInserts : Change → List Written
-allInserts l = inserts Index l.parts.index ++ inserts Value l.parts.value ++ inserts RefCount l.parts.refCount
+unfoldable pub all_inserts : Change → List Written
+all_inserts l = inserts Index l.parts.index ++ inserts Value l.parts.value ++ inserts RefCount l.parts.ref_count
 
 -- "index drops, reference count drops"
-unfoldable pub allDrops : Change → List Written
-allDrops l = dropsOf dropIndex l.drops ++ dropsOf dropRefCount l.countDrops
+unfoldable pub all_drops : Change → List Written
+all_drops l = drops_of drop_index l.drops ++ drops_of drop_ref_count l.count_drops
 
 -- all of them: "index, values, reference counts, index drops, reference count drops"
-unfoldable pub listActions : Change → List Written
-listActions l = allInserts l ++ allDrops l
+unfoldable pub list_actions : Change → List Written
+list_actions l = all_inserts l ++ all_drops l
 
 -- what stands behind an action's tag and before its payload: "table 2, index 8", or "table 2"
-abbrev pub namedBytes : LogAction → List ℕ
-namedBytes (InsertIndex a) = le 2 a.table.0 ++ le 8 a.index
-namedBytes (InsertValue a) = le 2 a.table.0 ++ le 8 a.index
-namedBytes (InsertRefCount a) = le 2 a.table.0 ++ le 8 a.index
-namedBytes (DropTable t) = le 2 t.0
-namedBytes (DropRefCountTable t) = le 2 t.0
-namedBytes BeginRecord = []
-namedBytes EndRecord = []
+abbrev pub named_bytes : LogAction → List ℕ
+named_bytes (InsertIndex a) = le 2 a.table.0 ++ le 8 a.index
+named_bytes (InsertValue a) = le 2 a.table.0 ++ le 8 a.index
+named_bytes (InsertRefCount a) = le 2 a.table.0 ++ le 8 a.index
+named_bytes (DropTable t) = le 2 t.0
+named_bytes (DropRefCountTable t) = le 2 t.0
+named_bytes BeginRecord = []
+named_bytes EndRecord = []
 
 -- the bytes of an action: its tag, what it names, its payload
-abbrev pub actionBytes : Written → List ℕ
-actionBytes w = le 1 (tag_of w.action) ++ namedBytes w.action ++ w.payload
+abbrev pub action_bytes : Written → List ℕ
+action_bytes w = le 1 (tag_of w.action) ++ named_bytes w.action ++ w.payload
 
 -- one behind the other
-unfoldable pub actionsBytes : List Written → List ℕ
-actionsBytes [] = []
-actionsBytes (w ∷ ws) = actionBytes w ++ actionsBytes ws
+unfoldable pub actions_bytes : List Written → List ℕ
+actions_bytes [] = []
+actions_bytes (w ∷ ws) = action_bytes w ++ actions_bytes ws
 
 -- the key that an insertion names, "by table number, then index"
 abbrev pub rank_of : LogAction → ℕ

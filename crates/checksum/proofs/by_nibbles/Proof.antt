@@ -2,7 +2,7 @@
 use mathlib.Core.Path.{refl}
 use native.Mathlib.Omega.{arith}
 use borrow.Author.Rules.{rules}
-use Rattle.checksum.proofs.Looked.{Looking, look-turn, look-end}
+use Rattle.checksum.proofs.Looked.{Looking, look_turn, look_end}
 use Rattle.checksum.proofs.by_nibbles.Statement.{statement}
 use Rattle.checksum.proofs.by_nibbles.Tie as tie
 
@@ -42,10 +42,10 @@ loop-less c = search rules
 loop-again : tie.Need-loop-preserved invariant-loop decreases-loop
 loop-again c =
     let s = c.before.before.before in
-    look-turn s.args.t.now s.requires.0 (omega arith) (omega arith) c.before.before.loop.invariant
+    look_turn s.args.t.now s.requires.0 (omega arith) (omega arith) c.before.before.loop.invariant
 
 returns : tie.Need-returns invariant-loop decreases-loop
-returns c = look-end (omega arith) c.before.loop.invariant
+returns c = look_end (omega arith) c.before.loop.invariant
 
 pub by-nibbles-spec : {M : Type 1} → statement M
 by-nibbles-spec =

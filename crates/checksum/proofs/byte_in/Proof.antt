@@ -4,8 +4,8 @@ use Prim.Native.Nat.{◌/◌, ◌%◌}
 use native.Mathlib.Omega.{arith}
 use lib.Bits.{bit_xor}
 use borrow.Author.Rules.{rules}
-use Rattle.checksum.proofs.Looked.{look-byte}
-use Rattle.checksum.proofs.Register.{byte-in}
+use Rattle.checksum.proofs.Looked.{look_byte}
+use Rattle.checksum.proofs.Register.{byte_in}
 use Rattle.checksum.proofs.byte_in.Statement.{statement}
 use Rattle.checksum.proofs.byte_in.Tie as tie
 
@@ -34,7 +34,7 @@ returns : tie.Need-returns
 returns c =
     let s = c.before.before in
     let a = s.args in
-    ap (bit_xor (a.r / 256)) (look-byte a.t.now s.requires (bit_xor a.r a.b % 256) (omega arith)) ∙ sym (byte-in a.r a.b (search rules))
+    ap (bit_xor (a.r / 256)) (look_byte a.t.now s.requires (bit_xor a.r a.b % 256) (omega arith)) ∙ sym (byte_in a.r a.b (search rules))
 
 pub byte-in-spec : {M : Type 1} → statement M
 byte-in-spec =

@@ -1,6 +1,6 @@
 -- `checksum::checksum` meets its contract. Assumes nothing.
 use borrow.Author.Rules.{rules}
-use Rattle.checksum.specs.Checksum.{checksumOf}
+use Rattle.checksum.specs.Checksum.{checksum_of}
 use Rattle.checksum.proofs.checksum.Statement.{statement}
 use Rattle.checksum.proofs.checksum.Tie as tie
 
@@ -11,7 +11,7 @@ finish-requires : tie.Need-finish-requires
 finish-requires c κs = search rules
 
 returns : tie.Need-returns
-unfolding checksumOf
+unfolding checksum_of
 returns c = cc
 
 pub checksum-spec : {M : Type 1} → statement M

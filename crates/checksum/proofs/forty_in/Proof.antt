@@ -3,7 +3,7 @@ use mir.Val.{Fits}
 use mir.Syntax.{w64}
 use native.Mathlib.Omega.{arith}
 use borrow.Author.Rules.{rules}
-use Rattle.checksum.proofs.Carry.{forty-turns}
+use Rattle.checksum.proofs.Carry.{forty_turns}
 use Rattle.checksum.proofs.forty_in.Statement.{statement}
 use Rattle.checksum.proofs.forty_in.Tie as tie
 
@@ -73,7 +73,7 @@ returns c =
     let known = p.before.before.before in
     let a = known.before.args in
     let f = fits known.before in
-    forty-turns a.bytes.now (λ k. (known.shared-slice-known.given k).fits) a.at a.s.0 a.s.1 a.s.2 a.s.3 a.s.4
+    forty_turns a.bytes.now (λ k. (known.shared-slice-known.given k).fits) a.at a.s.0 a.s.1 a.s.2 a.s.3 a.s.4
     p.word_in.result q.word-in2.result r.word-in3.result d.word-in4.result c.word-in5.result known.before.requires.1
     f.0.fits f.1.fits f.2.fits f.3.fits f.4.fits
     (omega (arith, p.word_in.type-inv)) (omega (arith, q.word-in2.type-inv)) (omega (arith, r.word-in3.type-inv)) (omega (arith, d.word-in4.type-inv))

@@ -1,7 +1,7 @@
 -- `queues_of` meets its contract. Assumes nothing.
 use mathlib.Core.Path.{sym, ◌∙◌}
-use Rattle.words.proofs.Choices.{if-true, if-false}
-use Rattle.host_queues.specs.Queues.{queuesFrom}
+use Rattle.words.proofs.Choices.{if_true, if_false}
+use Rattle.host_queues.specs.Queues.{queues_from}
 use borrow.Author.Rules.{rules}
 use Rattle.host_queues.proofs.queues_of.Statement.{statement}
 use Rattle.host_queues.proofs.queues_of.Tie as tie
@@ -21,8 +21,8 @@ loaded-requires c κs = sym c.before.formed.ensures ∙ c.if1.true
 
 -- src/lib.rt:91:9
 returns : tie.Need-returns
-unfolding queuesFrom
-returns c = c.loaded.ensures ∙ sym (if-true _ _ _ (sym c.before.before.formed.ensures ∙ c.before.if1.true))
+unfolding queues_from
+returns c = c.loaded.ensures ∙ sym (if_true _ _ _ (sym c.before.before.formed.ensures ∙ c.before.if1.true))
 
 -- src/lib.rt:93:5
 broken-requires : tie.Need-broken-requires
@@ -30,8 +30,8 @@ broken-requires c κs = search rules
 
 -- src/lib.rt:87:1
 returns-2 : tie.Need-returns-2
-unfolding queuesFrom
-returns-2 c = c.broken.ensures ∙ sym (if-false _ _ _ (sym c.before.before.formed.ensures ∙ c.before.if1.false))
+unfolding queues_from
+returns-2 c = c.broken.ensures ∙ sym (if_false _ _ _ (sym c.before.before.formed.ensures ∙ c.before.if1.false))
 
 pub queues-of-spec : {M : Type 1} → statement M
 queues-of-spec =

@@ -6,20 +6,20 @@ use mathlib.Core.List.{[]}
 use native.Mathlib.Omega.{arith}
 use borrow.Author.Tests.{not-true, not-false}
 use lib.ListN.{get_or, take, drop, length}
-use Rattle.directory.specs.Directory.{findTable}
+use Rattle.directory.specs.Directory.{find_table}
 use Rattle.keys.specs.Keys.{every}
 use Rattle.keys.proofs.Places.{in_use}
 use Rattle.overlay.specs.Rules.{Overlay, lists_of}
 use Rattle.overlay.proofs.Ruled.{keys-room, keys-order}
 use Rattle.overlay.proofs.Order.{every-fails, every-goes, every-ends}
-use Rattle.change.specs.Change.{entryFits, entriesFit}
+use Rattle.change.specs.Change.{entry_fits, entries_fit}
 use Rattle.change.proofs.Fitting.{entry-fits, table_at}
 use Rattle.change.proofs.fits.all_fit.Statement.{statement}
 use Rattle.change.proofs.fits.all_fit.Tie as tie
 
 abbrev invariant-loop : tie.invariant-loop
 invariant-loop directory kind room rows order n last₀ found₀ j₀ last found j =
-    (j ≤ n) × (found ≡ findTable directory kind last) × (every (entryFits directory kind (lists_of rows order [] n)) (drop j (take n order)) ≡ every (entryFits directory kind (lists_of rows order [] n)) (take n order))
+    (j ≤ n) × (found ≡ find_table directory kind last) × (every (entry_fits directory kind (lists_of rows order [] n)) (drop j (take n order)) ≡ every (entry_fits directory kind (lists_of rows order [] n)) (take n order))
 
 abbrev decreases-loop : tie.decreases-loop
 decreases-loop directory kind room rows order n last₀ found₀ j₀ last found j = n - j
@@ -102,12 +102,12 @@ key-fits-requires : tie.Need-key-fits-requires invariant-loop decreases-loop
 key-fits-requires c κs = tt
 
 returns : tie.Need-returns invariant-loop decreases-loop
-unfolding entriesFit
+unfolding entries_fit
 returns c =
     let a = c.before.before.before.before.before.before.before.before.before.before.before.before.args in
     let o = over c.before.before.before.before.before.before.before.before.before.before.before.before in
     let e = entry-fits a.directory a.kind o (get_or a.order.now c.before.before.before.before.before.before.before.before.loop.j 0) _ c.before.before.before.before.table-after.ensures in
-    sym (every-fails (entryFits a.directory a.kind o) a.order.now a.n (few c.before.before.before.before.before.before.before.before.before.before.before.before) c.before.before.before.before.before.before.before.before.loop.j c.before.before.before.before.before.before.before.loop-test.true (sym e ∙ sym c.before.key-fits.ensures ∙ not-true _ c.if1.true))
+    sym (every-fails (entry_fits a.directory a.kind o) a.order.now a.n (few c.before.before.before.before.before.before.before.before.before.before.before.before) c.before.before.before.before.before.before.before.before.loop.j c.before.before.before.before.before.before.before.loop-test.true (sym e ∙ sym c.before.key-fits.ensures ∙ not-true _ c.if1.true))
     ∙ c.before.before.before.before.before.before.before.before.loop.invariant.2
 
 add-j : tie.Need-overflow-add-j invariant-loop decreases-loop
@@ -123,15 +123,15 @@ loop-again c =
     let e = entry-fits a.directory a.kind o (get_or a.order.now c.before.before.before.before.before.before.before.before.loop.j 0) _ c.before.before.before.before.table-after.ensures in (
       omega arith,
       c.before.before.before.before.table-after.ensures,
-      sym (every-goes (entryFits a.directory a.kind o) a.order.now a.n (few c.before.before.before.before.before.before.before.before.before.before.before.before) c.before.before.before.before.before.before.before.before.loop.j c.before.before.before.before.before.before.before.loop-test.true (sym e ∙ sym c.before.key-fits.ensures ∙ not-false _ c.if1.false))
+      sym (every-goes (entry_fits a.directory a.kind o) a.order.now a.n (few c.before.before.before.before.before.before.before.before.before.before.before.before) c.before.before.before.before.before.before.before.before.loop.j c.before.before.before.before.before.before.before.loop-test.true (sym e ∙ sym c.before.key-fits.ensures ∙ not-false _ c.if1.false))
           ∙ c.before.before.before.before.before.before.before.before.loop.invariant.2,
     )
 
 returns-2 : tie.Need-returns-2 invariant-loop decreases-loop
-unfolding entriesFit
+unfolding entries_fit
 returns-2 c =
     let a = c.before.before.before.before.before.args in
-    sym (every-ends (entryFits a.directory a.kind (over c.before.before.before.before.before)) a.order.now a.n (few c.before.before.before.before.before) c.before.loop.j c.loop-test.false) ∙ c.before.loop.invariant.2
+    sym (every-ends (entry_fits a.directory a.kind (over c.before.before.before.before.before)) a.order.now a.n (few c.before.before.before.before.before) c.before.loop.j c.loop-test.false) ∙ c.before.loop.invariant.2
 
 pub all-fit-spec : {M : Type 1} → statement M
 all-fit-spec =

@@ -5,7 +5,7 @@ use Prim.Native.Nat.{ℕ, ◌*◌}
 use native.Mathlib.Omega.{arith}
 use Rattle.overlay.specs.Rules.{lists_of, rows_of}
 use Rattle.overlay.proofs.Parts.{rest_part, rows_long, order-long}
-use Rattle.change.specs.Change.{entriesFit}
+use Rattle.change.specs.Change.{entries_fit}
 use borrow.Author.Rules.{rules}
 use Rattle.change.proofs.fits.entries_fit.Statement.{statement}
 use Rattle.change.proofs.fits.entries_fit.Tie as tie
@@ -37,7 +37,7 @@ all-fit-requires c κs =
 returns : tie.Need-returns
 returns c =
     let a = c.before.before.before.before.args in
-    c.all_fit.ensures ∙ ap (λ (o : List ℕ). entriesFit a.directory a.kind (lists_of (rows_of a.room a.words.now) o [] a.n)) (rest_part (4 * a.room) a.words.now)
+    c.all_fit.ensures ∙ ap (λ (o : List ℕ). entries_fit a.directory a.kind (lists_of (rows_of a.room a.words.now) o [] a.n)) (rest_part (4 * a.room) a.words.now)
 
 pub entries-fit-spec : {M : Type 1} → statement M
 entries-fit-spec =

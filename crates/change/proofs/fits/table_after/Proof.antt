@@ -1,12 +1,12 @@
 -- `table_after` meets its contract: the same number has the same table. Assumes nothing.
 use mathlib.Core.Path.{sym, ap, ◌∙◌}
-use Rattle.directory.specs.Directory.{findTable}
+use Rattle.directory.specs.Directory.{find_table}
 use borrow.Author.Rules.{rules}
 use Rattle.change.proofs.fits.table_after.Statement.{statement}
 use Rattle.change.proofs.fits.table_after.Tie as tie
 
 returns : tie.Need-returns
-returns c = c.before.requires ∙ ap (findTable c.before.args.directory c.before.args.kind) (sym c.if1.true)
+returns c = c.before.requires ∙ ap (find_table c.before.args.directory c.before.args.kind) (sym c.if1.true)
 
 find-requires : tie.Need-find-requires
 find-requires c κs = search rules

@@ -2,7 +2,7 @@
 use mathlib.Core.Path.{sym, ◌∙◌}
 use native.Mathlib.Omega.{arith}
 use borrow.Author.Tests.{not-true, not-false}
-use Rattle.change.specs.Insert.{planIn}
+use Rattle.change.specs.Insert.{plan_in}
 use Rattle.change.proofs.Accepted.{plan-7, plan-14, plan-14-length, plan-rest}
 use borrow.Author.Rules.{rules}
 use Rattle.change.proofs.plans.plan_for.Statement.{statement}
@@ -36,7 +36,7 @@ returns-4 : tie.Need-returns-4
 returns-4 c = c.room_for.ensures ∙ plan-rest _ _ _ _ _ c.before.before.before.before.before.before.before.found.given.1 _ _ _ _ c.before.before.before.before.if1.false (omega (arith, c.before.before.before.if2.false)) (sym c.before.before.bytes_fit.ensures ∙ not-false _ c.before.if3.false) _ c.before.before.before.before.before.before.before.before.before.before.before.requires.0
 
 returns-5 : tie.Need-returns-5
-unfolding planIn
+unfolding plan_in
 returns-5 c = sym (rw c.enum_told.given.1)
 
 pub plan-for-spec : {M : Type 1} → statement M

@@ -6,7 +6,7 @@ use native.Mathlib.Omega.{arith}
 use lib.ListN.{length}
 use lib.Seq.{get_or-take}
 use Rattle.keys.specs.Keys.{rank}
-use Rattle.overlay.specs.Rules.{Overlay, order_of, overlayOf}
+use Rattle.overlay.specs.Rules.{Overlay, order_of, overlay_of}
 use Rattle.overlay.proofs.Parts.{order-long}
 use Rattle.overlay.proofs.Seats.{sits}
 use Rattle.change.proofs.Accepted.{room-over, room-full, room_next}
@@ -16,7 +16,7 @@ use Rattle.change.proofs.plans.room_for.Tie as tie
 
 module _ (s : tie.Start) where
   abbrev over : Overlay
-  over = overlayOf s.args.room s.args.words.now [] s.args.n
+  over = overlay_of s.args.room s.args.words.now [] s.args.n
 
   few : s.args.n ≤ length (order_of s.args.room s.args.words.now)
   few = omega (arith, order-long s.args.room s.args.words.now s.pre.0, s.pre.1)

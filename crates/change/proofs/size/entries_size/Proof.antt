@@ -5,7 +5,7 @@ use Prim.Native.Nat.{ℕ, ◌*◌}
 use native.Mathlib.Omega.{arith}
 use Rattle.overlay.specs.Rules.{lists_of, rows_of}
 use Rattle.overlay.proofs.Parts.{rest_part, rows_long, order-long}
-use Rattle.change.specs.Size.{entriesSize}
+use Rattle.change.specs.Size.{entries_size}
 use borrow.Author.Rules.{rules}
 use Rattle.change.proofs.size.entries_size.Statement.{statement}
 use Rattle.change.proofs.size.entries_size.Tie as tie
@@ -37,7 +37,7 @@ places-size-requires c κs =
 returns : tie.Need-returns
 returns c =
     let a = c.before.before.before.before.args in
-    (c.places-size.ensures.0 ∙ ap (λ (o : List ℕ). entriesSize a.kind (lists_of (rows_of a.room a.words.now) o [] a.n)) (rest_part (4 * a.room) a.words.now), c.places-size.ensures.1)
+    (c.places-size.ensures.0 ∙ ap (λ (o : List ℕ). entries_size a.kind (lists_of (rows_of a.room a.words.now) o [] a.n)) (rest_part (4 * a.room) a.words.now), c.places-size.ensures.1)
 
 pub entries-size-spec : {M : Type 1} → statement M
 entries-size-spec =

@@ -8,13 +8,13 @@ use borrow.Author.Tests.{leb-true}
 use Rattle.directory.specs.declared.table.TableKind.{TableKind}
 use Rattle.directory.specs.declared.table.TableKind.TheVariants.{Value}
 use Rattle.numbers.proofs.Laws.{right_of}
-use Rattle.overlay.specs.Rules.{markRuled}
+use Rattle.overlay.specs.Rules.{mark_ruled}
 use borrow.Author.Rules.{rules}
 use Rattle.change.proofs.size.entry_size.Statement.{statement}
 use Rattle.change.proofs.size.entry_size.Tie as tie
 
-short : (kind : TableKind) (len : ℕ) → kind ≡ Value → markRuled kind len ≡ true → len ≤ 512
-short kind len e h = let k : markRuled Value len ≡ true = rw e at h in leb-true len 512 (right_of (leb 1 len) _ k)
+short : (kind : TableKind) (len : ℕ) → kind ≡ Value → mark_ruled kind len ≡ true → len ≤ 512
+short kind len e h = let k : mark_ruled Value len ≡ true = rw e at h in leb-true len 512 (right_of (leb 1 len) _ k)
 
 enum_told : tie.Need-enum-told
 enum_told c = search rules

@@ -5,18 +5,18 @@ use mathlib.Core.List.{[]}
 use Prim.Native.Nat.{◌+◌, ◌-◌, ◌*◌, ◌≤◌}
 use native.Mathlib.Omega.{arith}
 use lib.ListN.{length, take, drop, get_or}
-use Rattle.keys.specs.Keys.{markAt}
+use Rattle.keys.specs.Keys.{mark_at}
 use Rattle.keys.proofs.Places.{in_use}
-use Rattle.overlay.specs.Rules.{lists_of, markRuled}
+use Rattle.overlay.specs.Rules.{lists_of, mark_ruled}
 use Rattle.overlay.proofs.Ruled.{keys-room, keys-order}
-use Rattle.change.specs.Size.{placesSize, entriesSize}
+use Rattle.change.specs.Size.{places_size, entries_size}
 use Rattle.change.proofs.Fitting.{mark-at}
-use Rattle.change.proofs.Sizes.{sizes-turn, sizes-end}
+use Rattle.change.proofs.Sizes.{sizes_turn, sizes_end}
 use Rattle.change.proofs.size.places_size.Statement.{statement}
 use Rattle.change.proofs.size.places_size.Tie as tie
 
 abbrev invariant-loop : tie.invariant-loop
-invariant-loop kind room rows order n t₀ i₀ t i = (i ≤ n) × (t ≤ 1043 * i) × (t + placesSize kind rows (drop i (take n order)) ≡ entriesSize kind (lists_of rows order [] n))
+invariant-loop kind room rows order n t₀ i₀ t i = (i ≤ n) × (t ≤ 1043 * i) × (t + places_size kind rows (drop i (take n order)) ≡ entries_size kind (lists_of rows order [] n))
 
 abbrev decreases-loop : tie.decreases-loop
 decreases-loop kind room rows order n t₀ i₀ t i = n - i
@@ -38,11 +38,11 @@ module _ (c : tie.In-loop invariant-loop decreases-loop) where
   low =
       omega (arith, in_use s.args.rows.now s.args.order.now s.args.n c.before.loop.i (keys-order s.args.kind s.args.room s.args.rows.now s.args.order.now s.args.n s.pre.3) (few s) c.loop-test.true, room s, s.pre.1)
 
-  good : markRuled s.args.kind (markAt s.args.rows.now (get_or s.args.order.now c.before.loop.i 0)) ≡ true
+  good : mark_ruled s.args.kind (mark_at s.args.rows.now (get_or s.args.order.now c.before.loop.i 0)) ≡ true
   good = mark-at s.args.kind s.args.room s.args.rows.now s.args.order.now s.args.n c.before.loop.i (few s) c.loop-test.true s.pre.3
 
 loop-holds : tie.Need-loop-init invariant-loop decreases-loop
-unfolding entriesSize
+unfolding entries_size
 loop-holds c = (omega arith, omega arith, omega arith)
 
 mul-p : tie.Need-overflow-mul-p invariant-loop decreases-loop
@@ -78,12 +78,12 @@ loop-less c = omega arith
 loop-again : tie.Need-loop-preserved invariant-loop decreases-loop
 loop-again c =
     let a = c.before.before.before.before.before.before.before.args in
-    omega (arith, sizes-turn a.kind a.rows.now a.order.now a.n (few c.before.before.before.before.before.before.before) c.before.before.before.before.loop.i c.before.before.before.loop-test.true, c.entry-size.ensures)
+    omega (arith, sizes_turn a.kind a.rows.now a.order.now a.n (few c.before.before.before.before.before.before.before) c.before.before.before.before.loop.i c.before.before.before.loop-test.true, c.entry-size.ensures)
 
 returns : tie.Need-returns invariant-loop decreases-loop
 returns c =
     let a = c.before.before.before.before.args in
-    omega (arith, sizes-end a.kind a.rows.now a.order.now a.n (few c.before.before.before.before) c.before.loop.i c.loop-test.false)
+    omega (arith, sizes_end a.kind a.rows.now a.order.now a.n (few c.before.before.before.before) c.before.loop.i c.loop-test.false)
 
 pub places-size-spec : {M : Type 1} → statement M
 places-size-spec =

@@ -5,7 +5,7 @@ use Prim.Native.Nat.{ℕ, ◌*◌}
 use native.Mathlib.Omega.{arith}
 use Rattle.keys.specs.Keys.{rank}
 use Rattle.overlay.specs.Rules.{lists_of, rows_of}
-use Rattle.overlay.specs.Overlay.{spotIn}
+use Rattle.overlay.specs.Overlay.{spot_in_of}
 use Rattle.overlay.proofs.Parts.{rest_part, rows_long, order-long}
 use borrow.Author.Rules.{rules}
 use Rattle.change.proofs.values.spot_of.Statement.{statement}
@@ -36,10 +36,10 @@ place-requires c κs =
     ((omega (arith, rows_long a.room a.words.now c.before.before.before.requires.0, c.before.before.before.requires.1), rw e (omega (arith, order-long a.room a.words.now c.before.before.before.requires.0, c.before.before.before.requires.1))), rw e c.before.before.before.requires.2)
 
 returns : tie.Need-returns
-unfolding spotIn
+unfolding spot_in_of
 returns c =
     let a = c.before.before.before.before.args in
-    c.place.ensures ∙ ap (λ (o : List ℕ). spotIn (lists_of (rows_of a.room a.words.now) o [] a.n) (rank a.t a.index)) (rest_part (4 * a.room) a.words.now)
+    c.place.ensures ∙ ap (λ (o : List ℕ). spot_in_of (lists_of (rows_of a.room a.words.now) o [] a.n) (rank a.t a.index)) (rest_part (4 * a.room) a.words.now)
 
 pub spot-of-spec : {M : Type 1} → statement M
 spot-of-spec =

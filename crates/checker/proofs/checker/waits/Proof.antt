@@ -1,6 +1,6 @@
 -- `waits` meets its contract. Assumes nothing.
 use mathlib.Core.Path.{sym, ◌∙◌}
-use Rattle.checker.proofs.Calls.{waits-refused, waits-took}
+use Rattle.checker.proofs.Calls.{waits-refused, waits_took}
 use borrow.Author.Rules.{rules}
 use Rattle.checker.proofs.checker.waits.Statement.{statement}
 use Rattle.checker.proofs.checker.waits.Tie as tie
@@ -33,7 +33,7 @@ returns c =
 -- src/checker.rt:80:1
 returns-2 : tie.Need-returns-2
 returns-2 c =
-    waits-took c.before.before.before.before.args.d c.before.before.before.before.args.bytes.now c.before.before.before.before.args.reader _ (sym c.enum_told.given.1 ∙ c.before.before.next-kept.ensures)
+    waits_took c.before.before.before.before.args.d c.before.before.before.before.args.bytes.now c.before.before.before.before.args.reader _ (sym c.enum_told.given.1 ∙ c.before.before.next-kept.ensures)
 
 pub waits-spec : {M : Type 1} → statement M
 waits-spec =

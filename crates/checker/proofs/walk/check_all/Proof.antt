@@ -3,10 +3,10 @@ use mathlib.Core.Path.{◌≡◌, refl, sym, ◌∙◌}
 use native.Mathlib.Omega.{arith}
 use lib.ListN.{length}
 use Prim.Native.Nat.{◌-◌}
-use Rattle.checker.specs.Check.{checkIn}
+use Rattle.checker.specs.Check.{check_in}
 use Rattle.checker.specs.Inner.{Stands}
-use Rattle.checker.proofs.Sound.{went-stands}
-use Rattle.checker.proofs.Ways.{step-forward, check-went}
+use Rattle.checker.proofs.Sound.{went_stands}
+use Rattle.checker.proofs.Ways.{step-forward, check_went}
 use borrow.Author.Rules.{rules}
 use Rattle.checker.proofs.walk.check_all.Statement.{statement}
 use Rattle.checker.proofs.walk.check_all.Tie as tie
@@ -15,7 +15,7 @@ use Rattle.checker.proofs.walk.check_all.Lts as lts
 use Rattle.checker.proofs.walk.one_step.Reads as one-step-reads
 
 abbrev invariant-loop : tie.invariant-loop
-invariant-loop d log base cur₀ cur = Stands log base cur × (checkIn d log base cur ≡ checkIn d log base cur₀)
+invariant-loop d log base cur₀ cur = Stands log base cur × (check_in d log base cur ≡ check_in d log base cur₀)
 
 abbrev decreases-loop : tie.decreases-loop
 decreases-loop d log base cur₀ cur = length log - cur.reader.position
@@ -46,7 +46,7 @@ loop-again c =
     let l = c.before.before.before.before.loop in
     let a = c.before.before.before.before.before.before.args in
     let e = sym c.before.next.given.1 ∙ c.before.before.before.one-step.ensures in
-    (went-stands a.d a.log.now a.base l.cur _ l.invariant.0 (sym e), check-went a.d a.log.now a.base l.cur _ e ∙ l.invariant.1)
+    (went_stands a.d a.log.now a.base l.cur _ l.invariant.0 (sym e), check_went a.d a.log.now a.base l.cur _ e ∙ l.invariant.1)
 
 -- src/walk.rt:96:27
 enum-known-last : tie.Need-enum-known-last invariant-loop decreases-loop
@@ -57,7 +57,7 @@ returns : tie.Need-returns invariant-loop decreases-loop
 returns c =
     let l = c.before.before.before.before.loop in
     let a = c.before.before.before.before.before.before.args in
-    check-went a.d a.log.now a.base l.cur _ (sym c.before.last.given.1 ∙ c.before.before.before.one-step.ensures) ∙ l.invariant.1
+    check_went a.d a.log.now a.base l.cur _ (sym c.before.last.given.1 ∙ c.before.before.before.one-step.ensures) ∙ l.invariant.1
 
 -- src/walk.rt:97:27
 enum-known-ran : tie.Need-enum-known-ran invariant-loop decreases-loop
@@ -68,7 +68,7 @@ returns-2 : tie.Need-returns-2 invariant-loop decreases-loop
 returns-2 c =
     let l = c.before.before.before.before.loop in
     let a = c.before.before.before.before.before.before.args in
-    check-went a.d a.log.now a.base l.cur _ (sym c.before.ran.given.1 ∙ c.before.before.before.one-step.ensures) ∙ l.invariant.1
+    check_went a.d a.log.now a.base l.cur _ (sym c.before.ran.given.1 ∙ c.before.before.before.one-step.ensures) ∙ l.invariant.1
 
 pub check-all-spec : {M : Type 1} → statement M
 check-all-spec =

@@ -1,6 +1,6 @@
 -- `one_step` meets its contract. Assumes nothing.
 use mathlib.Core.Path.{sym, ◌∙◌}
-use Rattle.checker.proofs.Calls.{step_is, refused-place, took-place}
+use Rattle.checker.proofs.Calls.{step_is, refused-place, took_place}
 use borrow.Author.Rules.{rules}
 use Rattle.checker.proofs.walk.one_step.Statement.{statement}
 use Rattle.checker.proofs.walk.one_step.Tie as tie
@@ -30,7 +30,7 @@ enum-known-t c = search rules
 -- src/walk.rt:91:26
 took-requires : tie.Need-took-requires
 took-requires c κs =
-    took-place c.before.before.before.before.before.before.args.base c.before.before.before.before.before.before.args.s c.before.before.before.before.before.before.args.d c.before.before.before.before.before.before.args.log.now c.before.before.before.before.before.before.requires.1 _ (sym c.before.t.given.1 ∙ c.before.before.before.next-kept.ensures)
+    took_place c.before.before.before.before.before.before.args.base c.before.before.before.before.before.before.args.s c.before.before.before.before.before.before.args.d c.before.before.before.before.before.before.args.log.now c.before.before.before.before.before.before.requires.1 _ (sym c.before.t.given.1 ∙ c.before.before.before.next-kept.ensures)
 
 -- src/walk.rt:84:1
 returns : tie.Need-returns

@@ -1,5 +1,5 @@
 -- `opened` meets its contract. Assumes nothing.
-use Rattle.checker.proofs.Calls.{opens-right, opens-wrong}
+use Rattle.checker.proofs.Calls.{opens_right, opens_wrong}
 use borrow.Author.Rules.{rules}
 use Rattle.checker.proofs.walk.opened.Statement.{statement}
 use Rattle.checker.proofs.walk.opened.Tie as tie
@@ -16,7 +16,7 @@ reading-requires c κs = search rules
 returns : tie.Need-returns
 returns c =
     let a = c.before.before.before.before.args in
-    opens-right 0 a.s a.r c.before.if1.true _ c.reading.ensures
+    opens_right 0 a.s a.r c.before.if1.true _ c.reading.ensures
 
 -- src/walk.rt:39:19
 report-requires : tie.Need-report-requires
@@ -26,7 +26,7 @@ report-requires c κs = search rules
 returns-2 : tie.Need-returns-2
 returns-2 c =
     let a = c.before.before.before.before.args in
-    opens-wrong 0 a.s a.r c.before.if1.false _ c.report.ensures
+    opens_wrong 0 a.s a.r c.before.if1.false _ c.report.ensures
 
 pub opened-spec : {M : Type 1} → statement M
 opened-spec = tie.close (tie.spec reading-requires returns report-requires returns-2)

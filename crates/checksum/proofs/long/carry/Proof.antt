@@ -4,7 +4,7 @@ use lib.Bits.{bit_xor, xor_lt}
 use mir.Val.{Fits}
 use mir.Syntax.{w64}
 use borrow.Author.Rules.{rules}
-use Rattle.checksum.proofs.Carry.{carried-words}
+use Rattle.checksum.proofs.Carry.{carried_words}
 use Rattle.checksum.proofs.long.carry.Statement.{statement}
 use Rattle.checksum.proofs.long.carry.Tie as tie
 
@@ -19,7 +19,7 @@ returns c =
     let f4 : Fits w64 s.4 = search rules in
     let fw : Fits w64 a.word = search rules in
     let h : bit_xor s.0 a.word < 2 ^ 64 = xor_lt 64 s.0 a.word f0.fits fw.fits in
-    (f0.fits, carried-words (bit_xor s.0 a.word) h s.1 s.2 s.3 s.4 f1.fits f2.fits f3.fits f4.fits)
+    (f0.fits, carried_words (bit_xor s.0 a.word) h s.1 s.2 s.3 s.4 f1.fits f2.fits f3.fits f4.fits)
 
 pub carry-spec : {M : Type 1} → statement M
 carry-spec = tie.close (tie.spec returns)

@@ -8,13 +8,13 @@ use lib.Bits.{bit_xor}
 use lib.ListN.{drop}
 use borrow.Author.Rules.{rules}
 use Rattle.checksum.specs.Checksum.{updated}
-use Rattle.checksum.specs.Inner.{ahead, carriedBehind, carriedNumber, spread}
-use Rattle.checksum.proofs.Carry.{carried-at, ahead-updated}
+use Rattle.checksum.specs.Inner.{ahead, carried_behind, carried_number, spread}
+use Rattle.checksum.proofs.Carry.{carried_at, ahead-updated}
 use Rattle.checksum.proofs.long.carry_all.Statement.{statement}
 use Rattle.checksum.proofs.long.carry_all.Tie as tie
 
 abbrev invariant-loop : tie.invariant-loop
-invariant-loop register bytes to s₀ i₀ s i = (i ≤ to) × (i % 8 ≡ 0) × (ahead (carriedNumber s) (drop i bytes) ≡ updated register bytes)
+invariant-loop register bytes to s₀ i₀ s i = (i ≤ to) × (i % 8 ≡ 0) × (ahead (carried_number s) (drop i bytes) ≡ updated register bytes)
 
 abbrev decreases-loop : tie.decreases-loop
 decreases-loop register bytes to s₀ i₀ s i = to - i
@@ -47,8 +47,8 @@ loop-again c =
       omega arith,
       omega arith,
       ap (λ (n : ℕ). ahead n (drop (l.loop.i + 8) bs)) c.carry.ensures.1
-          ∙ ap (λ (n : ℕ). ahead (bit_xor (carriedBehind s) (spread (bit_xor s.0 n))) (drop (l.loop.i + 8) bs)) c.before.u64-at.ensures
-          ∙ sym (carried-at bs (λ k. (l.before.shared-slice-known.given k).fits) l.loop.i (carriedBehind s) s.0 c.carry.ensures.0 (omega arith))
+          ∙ ap (λ (n : ℕ). ahead (bit_xor (carried_behind s) (spread (bit_xor s.0 n))) (drop (l.loop.i + 8) bs)) c.before.u64-at.ensures
+          ∙ sym (carried_at bs (λ k. (l.before.shared-slice-known.given k).fits) l.loop.i (carried_behind s) s.0 c.carry.ensures.0 (omega arith))
           ∙ l.loop.invariant.2,
     )
 
@@ -56,7 +56,7 @@ returns : tie.Need-returns invariant-loop decreases-loop
 returns c =
     let l = c.before in
     let e : l.before.before.args.to ≡ l.loop.i = omega arith in
-    ap (λ (k : ℕ). ahead (carriedNumber l.loop.s) (drop k l.before.before.args.bytes.now)) e ∙ l.loop.invariant.2
+    ap (λ (k : ℕ). ahead (carried_number l.loop.s) (drop k l.before.before.args.bytes.now)) e ∙ l.loop.invariant.2
 
 pub carry-all-spec : {M : Type 1} → statement M
 carry-all-spec =

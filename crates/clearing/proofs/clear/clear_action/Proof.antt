@@ -2,7 +2,7 @@
 use mathlib.Core.Path.{◌≡◌}
 use Rattle.keys.specs.Keys.{rank}
 use Rattle.memory.specs.declared.span.Holder.TheVariants.{Shared}
-use Rattle.memory.specs.Parts.{Parts, parts_of, removeFrom}
+use Rattle.memory.specs.Parts.{Parts, parts_of, remove_from}
 use Rattle.clearing.proofs.Walk.{no_key, one_key}
 use borrow.Author.Rules.{rules}
 use Rattle.clearing.proofs.clear.clear_action.Statement.{statement}
@@ -38,7 +38,7 @@ returns-2 c =
     let g = c.before.before.before.before.before.before.before.before.kind.given in
     let a = c.before.before.before.before.before.before.before.before.before.before.before.before.before.args in
     let q : Parts = parts_of Shared c.before.before.before.before.remove-in.result c.before.before.before.before.remove-in.new.1.1.1.0 c.before.before.before.before.remove-in.new.1.1.1.1.0 in
-    let e : q ≡ removeFrom g.0.0 (parts c.before.before.before.before.before.before.before.before.before.before.before.before.before) (rank g.0.1.0 g.0.1.1.0) a.id = c.before.before.before.before.remove-in.ensures in
+    let e : q ≡ remove_from g.0.0 (parts c.before.before.before.before.before.before.before.before.before.before.before.before.before) (rank g.0.1.0 g.0.1.1.0) a.id = c.before.before.before.before.remove-in.ensures in
     one_key a.id a.action (parts c.before.before.before.before.before.before.before.before.before.before.before.before.before) c.before.before.before.before.before.before.before.before.before.before.Named-by.ensures g.0.0 g.0.1.0 g.0.1.1.0 g.1 {q = q} e
 
 pub clear-action-spec : {M : Type 1} → statement M

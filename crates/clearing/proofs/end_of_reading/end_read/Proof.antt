@@ -5,9 +5,9 @@ use borrow.Author.Tests.{not-true, not-false}
 use Rattle.answer.specs.Answer.{refusal}
 use Rattle.answer.specs.declared.answer.Answer.TheVariants.{BadState}
 use Rattle.memory.specs.declared.span.Holder.TheVariants.{Shared}
-use Rattle.memory.specs.Parts.{partsKept}
-use Rattle.memory.specs.Overlays.{Overlays, overlaysOf}
-use Rattle.clearing.specs.EndRead.{recordAgain, clearable, Ending, endReadBy, endReadOf}
+use Rattle.memory.specs.Parts.{parts_kept}
+use Rattle.memory.specs.Overlays.{Overlays, overlays_of}
+use Rattle.clearing.specs.EndRead.{record_again, clearable, Ending, end_read_by, end_read_of_of}
 use Rattle.clearing.proofs.Ended.{refused-ends, no-directory, no-overlays, no-next, tested-ends}
 use borrow.Author.Rules.{rules}
 use Rattle.clearing.proofs.end_of_reading.end_read.Statement.{statement}
@@ -15,14 +15,14 @@ use Rattle.clearing.proofs.end_of_reading.end_read.Tie as tie
 
 -- the overlays handed in
 abbrev shared : tie.Start → Overlays
-shared s = overlaysOf s.args.overlays s.args.words.now s.args.bytes.now
+shared s = overlays_of s.args.overlays s.args.words.now s.args.bytes.now
 
 -- the overlays keep their rules
 module _ (e : tie.Else2) where
   abbrev s : tie.Start
   s = e.before.before.before.before.before.before.before.before.before.before
 
-  overlays-kept : partsKept Shared (shared s).parts ≡ true
+  overlays-kept : parts_kept Shared (shared s).parts ≡ true
   overlays-kept = sym e.before.all-kept.ensures ∙ not-false _ e.if2.left
 
 kept-requires : tie.Need-kept-requires
@@ -80,8 +80,8 @@ returns-4 : tie.Need-returns-4
 returns-4 c =
     let a = c.before.before.before.before.before.before.before.before.before.before.before.before.before.before.before.before.before.before.args in
     let k = c.before.before.before.before.end-read-kept in
-    let x : Ending = endReadOf k.result k.new.1.1.1.1.0 k.new.1.1.1.1.1.0 in
-    let e : x ≡ endReadBy a.position (shared c.before.before.before.before.before.before.before.before.before.before.before.before.before.before.before.before.before.before) a.next (clearable (recordAgain a.directory a.log.now a.position)) = k.ensures in
+    let x : Ending = end_read_of_of k.result k.new.1.1.1.1.0 k.new.1.1.1.1.1.0 in
+    let e : x ≡ end_read_by a.position (shared c.before.before.before.before.before.before.before.before.before.before.before.before.before.before.before.before.before.before) a.next (clearable (record_again a.directory a.log.now a.position)) = k.ensures in
     tested-ends a.directory a.log.now a.position (shared c.before.before.before.before.before.before.before.before.before.before.before.before.before.before.before.before.before.before) a.next (sym c.before.before.before.before.before.before.before.before.before.before.before.before.before.before.kept.ensures ∙ not-false _ c.before.before.before.before.before.before.before.before.before.before.before.before.before.if1.false) (overlays-kept c.before.before.before.before.before.before.before.before) c.before.before.before.before.before.before.before.if3.false x e
 
 pub end-read-spec : {M : Type 1} → statement M

@@ -1,7 +1,7 @@
 -- `end_read_kept` meets its contract: the directory is written out as numbers first. Assumes nothing.
-use Rattle.directory.specs.Inner.{directoryIn}
-use Rattle.memory.specs.Overlays.{overlaysOf}
-use Rattle.clearing.specs.EndRead.{endReadOf}
+use Rattle.directory.specs.Inner.{directory_in}
+use Rattle.memory.specs.Overlays.{overlays_of}
+use Rattle.clearing.specs.EndRead.{end_read_of_of}
 use Rattle.clearing.proofs.Ended.{same-directory}
 use borrow.Author.Rules.{rules}
 use Rattle.clearing.proofs.end_of_reading.end_read_kept.Statement.{statement}
@@ -25,7 +25,7 @@ returns c =
     let f = k.before.before.before.before in
     let a = f.before.before.before.before.args in
     let l = k.end-read-in in
-    same-directory (directoryIn f.flat.result) a.directory a.log.now a.position a.next (overlaysOf a.overlays a.words.now a.bytes.now) (endReadOf l.result l.new.1.1.1.1.0 l.new.1.1.1.1.1.0) f.flat.ensures.0 l.ensures
+    same-directory (directory_in f.flat.result) a.directory a.log.now a.position a.next (overlays_of a.overlays a.words.now a.bytes.now) (end_read_of_of l.result l.new.1.1.1.1.0 l.new.1.1.1.1.1.0) f.flat.ensures.0 l.ensures
 
 pub end-read-kept-spec : {M : Type 1} → statement M
 end-read-kept-spec =

@@ -37,7 +37,7 @@ use denote.Exit.{yes}
 use Rattle.directory.specs.declared.table.TableDescription.{TableDescription}
 use seplogic.Ra.TreeShare.{full_share}
 use types.Tokens.{lft_new, lft_end}
-use Rattle.lent.proofs.Held.{Held, heldNumber, heldStruct, lentVal}
+use Rattle.lent.proofs.Held.{Held, held_number, held_struct, lent_val}
 use Rattle.lent.proofs.Lending.{Rows, part, few-fits, lends, comes_back, unsaid}
 use Rattle.change.specs.contracts.change.Changed as Changed
 use Rattle.change.proofs.change.Changed.TheLaws as Changed'
@@ -55,27 +55,27 @@ use Rattle.compare_lent.proofs.slices.drop_ref_count_table.Statement as stated
 use Rattle.compare_lent.proofs.slices.drop_ref_count_table.Code as code
 
 abbrev Changedᴴ : Held
-Changedᴴ = heldStruct Changed.the_type Changed'.the_laws Changed'.the_plain
+Changedᴴ = held_struct Changed.the_type Changed'.the_laws Changed'.the_plain
 
 abbrev LogChangeᴴ : Held
-LogChangeᴴ = heldStruct LogChange.the_type LogChange'.the_laws LogChange'.the_plain
+LogChangeᴴ = held_struct LogChange.the_type LogChange'.the_laws LogChange'.the_plain
 
 abbrev RefCountTableIdᴴ : Held
-RefCountTableIdᴴ = heldStruct RefCountTableId.the_type RefCountTableId'.the_laws RefCountTableId'.the_plain
+RefCountTableIdᴴ = held_struct RefCountTableId.the_type RefCountTableId'.the_laws RefCountTableId'.the_plain
 
 abbrev stayed : Stays (entry.ended).signature.params (entry.ended).kept
-stayed = (stay_dropped (plain (λ _. LogChangeᴴ.row)) yes, (stay_dropped (plain (λ _. Rows.row)) yes, (stay_dropped (plain (λ _. (heldNumber w64).row)) yes, (stay_dropped (shr_slice_of (0 ∷ []) tt (plain (λ _. u64))) yes, (stay_dropped (shr_slice_of (1 ∷ []) tt (plain (λ _. u8))) yes, (stay_dropped (plain (λ _. RefCountTableIdᴴ.row)) yes, tt))))))
+stayed = (stay_dropped (plain (λ _. LogChangeᴴ.row)) yes, (stay_dropped (plain (λ _. Rows.row)) yes, (stay_dropped (plain (λ _. (held_number w64).row)) yes, (stay_dropped (shr_slice_of (0 ∷ []) tt (plain (λ _. u64))) yes, (stay_dropped (shr_slice_of (1 ∷ []) tt (plain (λ _. u8))) yes, (stay_dropped (plain (λ _. RefCountTableIdᴴ.row)) yes, tt))))))
 
 module _ {M : Type 1} {𝓤 : Ura M} (𝓛 : Logic 𝓤) (mem : Memory → SProp 𝓤) (run : Routine → Fun 𝓤) where
   abbrev Callee : Contract 𝓤
   Callee = triple_of 𝓛 callee.signature (callee.spec 𝓛 mem run)
 
 module _ {M : Type 1} {𝓤 : Ura M} (𝓛 : Logic 𝓤) (mem : Memory → SProp 𝓤) (run : Routine → Fun 𝓤) (κ₀ κ₁ : Lft) (q₀ q₁ : Share)
-    (list : LogChangeᴴ.row.Denot) (rows : Rows.row.Denot) (n : (heldNumber w64).row.Denot) (words : Bor (List ℕ)) (bytes : Bor (List ℕ)) (id : RefCountTableIdᴴ.row.Denot) (list-is : Is LogChangeᴴ.row list (LogChangeᴴ.val list ∷ [])) (rows_is : Is Rows.row rows (Rows.val rows ∷ [])) (n-is : Is (heldNumber w64).row n ((heldNumber w64).val n ∷ [])) (id-is : Is RefCountTableIdᴴ.row id (RefCountTableIdᴴ.val id ∷ [])) where
+    (list : LogChangeᴴ.row.Denot) (rows : Rows.row.Denot) (n : (held_number w64).row.Denot) (words : Bor (List ℕ)) (bytes : Bor (List ℕ)) (id : RefCountTableIdᴴ.row.Denot) (list-is : Is LogChangeᴴ.row list (LogChangeᴴ.val list ∷ [])) (rows_is : Is Rows.row rows (Rows.val rows ∷ [])) (n-is : Is (held_number w64).row n ((held_number w64).val n ∷ [])) (id-is : Is RefCountTableIdᴴ.row id (RefCountTableIdᴴ.val id ∷ [])) where
   open 𝓛 use {H}
 
   abbrev here : (walk_of 𝓛 entry.ended stayed (entry.clauses 𝓛 mem run)).Ghost
-  here = (((κ₀, (κ₁, tt)), (q₀, (q₁, tt)), tt, (list, (rows, (n, (words, (bytes, (id, tt)))))), (LogChangeᴴ.val list ∷ [], (Rows.val rows ∷ [], ((heldNumber w64).val n ∷ [], (lentVal words ∷ [], (lentVal bytes ∷ [], (RefCountTableIdᴴ.val id ∷ [], tt))))))), tt)
+  here = (((κ₀, (κ₁, tt)), (q₀, (q₁, tt)), tt, (list, (rows, (n, (words, (bytes, (id, tt)))))), (LogChangeᴴ.val list ∷ [], (Rows.val rows ∷ [], ((held_number w64).val n ∷ [], (lent_val words ∷ [], (lent_val bytes ∷ [], (RefCountTableIdᴴ.val id ∷ [], tt))))))), tt)
 
   abbrev Post : Val → SProp 𝓤
   Post = (walk_of 𝓛 entry.ended stayed (entry.clauses 𝓛 mem run)).post here
@@ -92,15 +92,15 @@ module _ {M : Type 1} {𝓤 : Ura M} (𝓛 : Logic 𝓤) (mem : Memory → SProp
   callee-args κ x = (list, (x, (words, (bytes, (id, tt)))))
 
   abbrev to-callee : Lft → Bor (List TableDescription) → (Callee 𝓛 mem run).Ghost
-  to-callee κ x = (((κ, (κ₀, (κ₁, tt))), (full_share, (q₀, (q₁, tt))), tt, callee-args κ x, (LogChangeᴴ.val list ∷ [], (slice_val x.ptr n ∷ [], (lentVal words ∷ [], (lentVal bytes ∷ [], (RefCountTableIdᴴ.val id ∷ [], tt)))))), tt)
+  to-callee κ x = (((κ, (κ₀, (κ₁, tt))), (full_share, (q₀, (q₁, tt))), tt, callee-args κ x, (LogChangeᴴ.val list ∷ [], (slice_val x.ptr n ∷ [], (lent_val words ∷ [], (lent_val bytes ∷ [], (RefCountTableIdᴴ.val id ∷ [], tt)))))), tt)
 
   module _ (C : Calls 𝓤 H) (Λ : Loops 𝓤 H) (fm : FmC 𝓤 H 𝓛.laws C) (known-callee : Triple 𝓤 (C #callee) (Callee 𝓛 mem run)) where
-    walk : n ≤ 17 → Room u64 (length words.now) → Room u8 (length bytes.now) → ent 𝓤 (on_entry 𝓛 entry.signature (κ₀, (κ₁, tt)) (q₀, (q₁, tt)) (list, (rows, (n, (words, (bytes, (id, tt)))))) (LogChangeᴴ.val list ∷ [], (Rows.val rows ∷ [], ((heldNumber w64).val n ∷ [], (lentVal words ∷ [], (lentVal bytes ∷ [], (RefCountTableIdᴴ.val id ∷ [], tt))))))) (WpFn 𝓤 H C Λ code.function (LogChangeᴴ.val list ∷ Rows.val rows ∷ (heldNumber w64).val n ∷ lentVal words ∷ lentVal bytes ∷ RefCountTableIdᴴ.val id ∷ []) Post)
+    walk : n ≤ 17 → Room u64 (length words.now) → Room u8 (length bytes.now) → ent 𝓤 (on_entry 𝓛 entry.signature (κ₀, (κ₁, tt)) (q₀, (q₁, tt)) (list, (rows, (n, (words, (bytes, (id, tt)))))) (LogChangeᴴ.val list ∷ [], (Rows.val rows ∷ [], ((held_number w64).val n ∷ [], (lent_val words ∷ [], (lent_val bytes ∷ [], (RefCountTableIdᴴ.val id ∷ [], tt))))))) (WpFn 𝓤 H C Λ code.function (LogChangeᴴ.val list ∷ Rows.val rows ∷ (held_number w64).val n ∷ lent_val words ∷ lent_val bytes ∷ RefCountTableIdᴴ.val id ∷ []) Post)
     walk few words-room bytes-room =
-        qed 𝓛 ((‵ (flft κ₀ q₀) ⊛ (‵ (flft κ₁ q₁) ⊛ (‵ ftrue))) ∷ ‵ (owns (LogChangeᴴ.row ∷ Rows.row ∷ (heldNumber w64).row ∷ ShrSlice (named 0) κ₀ u64 ∷ ShrSlice (named 1) κ₁ u8 ∷ RefCountTableIdᴴ.row ∷ []) (list, (rows, (n, (words, (bytes, (id, tt)))))) (LogChangeᴴ.val list ∷ [], (Rows.val rows ∷ [], ((heldNumber w64).val n ∷ [], (lentVal words ∷ [], (lentVal bytes ∷ [], (RefCountTableIdᴴ.val id ∷ [], tt))))))) ∷ []) ∵ enter ! C Λ code.function (LogChangeᴴ.val list ∷ Rows.val rows ∷ (heldNumber w64).val n ∷ lentVal words ∷ lentVal bytes ∷ RefCountTableIdᴴ.val id ∷ []) _ $
+        qed 𝓛 ((‵ (flft κ₀ q₀) ⊛ (‵ (flft κ₁ q₁) ⊛ (‵ ftrue))) ∷ ‵ (owns (LogChangeᴴ.row ∷ Rows.row ∷ (held_number w64).row ∷ ShrSlice (named 0) κ₀ u64 ∷ ShrSlice (named 1) κ₁ u8 ∷ RefCountTableIdᴴ.row ∷ []) (list, (rows, (n, (words, (bytes, (id, tt)))))) (LogChangeᴴ.val list ∷ [], (Rows.val rows ∷ [], ((held_number w64).val n ∷ [], (lent_val words ∷ [], (lent_val bytes ∷ [], (RefCountTableIdᴴ.val id ∷ [], tt))))))) ∷ []) ∵ enter ! C Λ code.function (LogChangeᴴ.val list ∷ Rows.val rows ∷ (held_number w64).val n ∷ lent_val words ∷ lent_val bytes ∷ RefCountTableIdᴴ.val id ∷ []) _ $
         alloc1 ! (λ l₀. alloc1 ! (λ l₁. alloc1 ! (λ l₂. alloc1 ! (λ l₃. alloc1 ! (λ l₄. alloc1 ! (λ l₅. alloc1 ! (λ l₆. alloc1 ! (λ l₇. alloc1 ! (λ l₈. alloc1 ! (λ l₉. alloc0 ! $ params1 ! $
         pass1 ! (init ! 16 refl ((LogChangeᴴ.lawful 𝓛).typed list _ list-is).0) $ pass1 ! (init ! 14 refl ((Rows.lawful 𝓛).typed rows _ rows_is).0) $
-        pass1 ! (init ! 12 refl (((heldNumber w64).lawful 𝓛).typed n _ n-is).0) $ pass1 ! (init ! 10 refl (tt, (tt, (record { fits = words-room.0 }, tt)))) $
+        pass1 ! (init ! 12 refl (((held_number w64).lawful 𝓛).typed n _ n-is).0) $ pass1 ! (init ! 10 refl (tt, (tt, (record { fits = words-room.0 }, tt)))) $
         pass1 ! (init ! 8 refl (tt, (tt, (record { fits = bytes-room.0 }, tt)))) $ pass1 ! (init ! 6 refl ((RefCountTableIdᴴ.lawful 𝓛).typed id _ id-is).0) $ pass0 ! $
         -- each token and what each reference owns by itself
         move ! (20 ∷ []) $ split ! $ move ! (1 ∷ []) $ split ! $ move ! (1 ∷ []) $ drop ! $ move ! (22 ∷ []) $ fsplit ! $ drop ! $ fsplit ! $ drop ! $ fsplit ! $ drop ! $ fsplit ! $ move ! (1 ∷ []) $
@@ -131,10 +131,10 @@ module _ {M : Type 1} {𝓤 : Ura M} (𝓛 : Logic 𝓤) (mem : Memory → SProp
 meets : {M : Type 1} {𝓤 : Ura M} (𝓛 : Logic 𝓤) → (mem : Memory → SProp 𝓤) (run : Routine → Fun 𝓤) (𝓣 : Tables 𝓤 𝓛.H) → Triple 𝓤 (𝓣.C #callee) (Callee 𝓛 mem run)
     → Meets 𝓛 entry.signature (WpFn 𝓤 𝓛.H 𝓣.C 𝓣.Λ code.function) (entry.spec 𝓛 mem run)
 meets {𝓤 = 𝓤} 𝓛 mem run 𝓣 known-callee =
-    walk_Meets 𝓛 entry.ended stayed (Goes-dropped 𝓛 2 (plain (λ _. LogChangeᴴ.row)) yes (λ κs x f. refl), (Goes-dropped 𝓛 2 (plain (λ _. Rows.row)) yes (λ κs x f. refl), (Goes-dropped 𝓛 2 (plain (λ _. (heldNumber w64).row)) yes (λ κs x f. refl), (Goes-dropped 𝓛 2 (shr_slice_of (0 ∷ []) tt (plain (λ _. u64))) yes (λ κs x f. refl), (Goes-dropped 𝓛 2 (shr_slice_of (1 ∷ []) tt (plain (λ _. u8))) yes (λ κs x f. refl), (Goes-dropped 𝓛 2 (plain (λ _. RefCountTableIdᴴ.row)) yes (λ κs x f. refl), tt))))))
+    walk_Meets 𝓛 entry.ended stayed (Goes-dropped 𝓛 2 (plain (λ _. LogChangeᴴ.row)) yes (λ κs x f. refl), (Goes-dropped 𝓛 2 (plain (λ _. Rows.row)) yes (λ κs x f. refl), (Goes-dropped 𝓛 2 (plain (λ _. (held_number w64).row)) yes (λ κs x f. refl), (Goes-dropped 𝓛 2 (shr_slice_of (0 ∷ []) tt (plain (λ _. u64))) yes (λ κs x f. refl), (Goes-dropped 𝓛 2 (shr_slice_of (1 ∷ []) tt (plain (λ _. u8))) yes (λ κs x f. refl), (Goes-dropped 𝓛 2 (plain (λ _. RefCountTableIdᴴ.row)) yes (λ κs x f. refl), tt))))))
     (entry.clauses 𝓛 mem run) (WpFn 𝓤 𝓛.H 𝓣.C 𝓣.Λ code.function) (WpFn-mono 𝓤 𝓛.H 𝓛.laws 𝓣 code.function)
-    (walked 𝓛 entry.ended stayed (entry.clauses 𝓛 mem run) (WpFn 𝓤 𝓛.H 𝓣.C 𝓣.Λ code.function) (λ κs. ((λ x. LogChangeᴴ.val x ∷ []), ((λ x. Rows.val x ∷ []), ((λ x. (heldNumber w64).val x ∷ []), (shr_slice_vals, (shr_slice_vals, ((λ x. RefCountTableIdᴴ.val x ∷ []), tt)))))))
-    (λ κs. (LogChangeᴴ.tells, (Rows.tells, ((heldNumber w64).tells, (shr_slice_Tells (named 0) κs.0 u64, (shr_slice_Tells (named 1) κs.1.0 u8, (RefCountTableIdᴴ.tells, tt)))))))
+    (walked 𝓛 entry.ended stayed (entry.clauses 𝓛 mem run) (WpFn 𝓤 𝓛.H 𝓣.C 𝓣.Λ code.function) (λ κs. ((λ x. LogChangeᴴ.val x ∷ []), ((λ x. Rows.val x ∷ []), ((λ x. (held_number w64).val x ∷ []), (shr_slice_vals, (shr_slice_vals, ((λ x. RefCountTableIdᴴ.val x ∷ []), tt)))))))
+    (λ κs. (LogChangeᴴ.tells, (Rows.tells, ((held_number w64).tells, (shr_slice_Tells (named 0) κs.0 u64, (shr_slice_Tells (named 1) κs.1.0 u8, (RefCountTableIdᴴ.tells, tt)))))))
     (λ κs qs bounds a g are. needs 𝓤 (a.1.1.0 ≤ 17) _ (λ few. walk 𝓛 mem run κs.0 κs.1.0 qs.0 qs.1.0 a.0 a.1.0 a.1.1.0 a.1.1.1.0 a.1.1.1.1.0 a.1.1.1.1.1.0 are.0 are.1.0 are.1.1.0 are.1.1.1.1.1.0
     𝓣.C 𝓣.Λ (fm_of 𝓤 𝓛.H 𝓛.laws 𝓣) known-callee few are.1.1.1.0.0.1 are.1.1.1.1.0.0.1)))
 

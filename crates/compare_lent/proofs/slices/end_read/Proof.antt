@@ -37,7 +37,7 @@ use denote.Exit.{yes}
 use Rattle.directory.specs.declared.table.TableDescription.{TableDescription}
 use seplogic.Ra.TreeShare.{full_share}
 use types.Tokens.{lft_new, lft_end}
-use Rattle.lent.proofs.Held.{Held, heldNumber, heldStruct, lentVal}
+use Rattle.lent.proofs.Held.{Held, held_number, held_struct, lent_val}
 use Rattle.lent.proofs.Lending.{Rows, part, few-fits, lends, comes_back, unsaid}
 use Rattle.clearing.specs.contracts.end_of_reading.EndRead as EndRead
 use Rattle.clearing.proofs.end_of_reading.EndRead.TheLaws as EndRead'
@@ -53,24 +53,24 @@ use Rattle.compare_lent.proofs.slices.end_read.Statement as stated
 use Rattle.compare_lent.proofs.slices.end_read.Code as code
 
 abbrev EndReadᴴ : Held
-EndReadᴴ = heldStruct EndRead.the_type EndRead'.the_laws EndRead'.the_plain
+EndReadᴴ = held_struct EndRead.the_type EndRead'.the_laws EndRead'.the_plain
 
 abbrev LogOverlaysᴴ : Held
-LogOverlaysᴴ = heldStruct LogOverlays.the_type LogOverlays'.the_laws LogOverlays'.the_plain
+LogOverlaysᴴ = held_struct LogOverlays.the_type LogOverlays'.the_laws LogOverlays'.the_plain
 
 abbrev stayed : Stays (entry.ended).signature.params (entry.ended).kept
-stayed = (stay_dropped (plain (λ _. Rows.row)) yes, (stay_dropped (plain (λ _. (heldNumber w64).row)) yes, (stay_dropped (shr_slice_of (0 ∷ []) tt (plain (λ _. u8))) yes, (stay_dropped (plain (λ _. (heldNumber w64).row)) yes, (stay_dropped (plain (λ _. LogOverlaysᴴ.row)) yes, (gave_slice (1 ∷ []) tt (plain (λ _. u64)), (gave_slice (2 ∷ []) tt (plain (λ _. u8)), (stay_dropped (plain (λ _. (heldNumber w64).row)) yes, tt))))))))
+stayed = (stay_dropped (plain (λ _. Rows.row)) yes, (stay_dropped (plain (λ _. (held_number w64).row)) yes, (stay_dropped (shr_slice_of (0 ∷ []) tt (plain (λ _. u8))) yes, (stay_dropped (plain (λ _. (held_number w64).row)) yes, (stay_dropped (plain (λ _. LogOverlaysᴴ.row)) yes, (gave_slice (1 ∷ []) tt (plain (λ _. u64)), (gave_slice (2 ∷ []) tt (plain (λ _. u8)), (stay_dropped (plain (λ _. (held_number w64).row)) yes, tt))))))))
 
 module _ {M : Type 1} {𝓤 : Ura M} (𝓛 : Logic 𝓤) (mem : Memory → SProp 𝓤) (run : Routine → Fun 𝓤) where
   abbrev Callee : Contract 𝓤
   Callee = triple_of 𝓛 callee.signature (callee.spec 𝓛 mem run)
 
 module _ {M : Type 1} {𝓤 : Ura M} (𝓛 : Logic 𝓤) (mem : Memory → SProp 𝓤) (run : Routine → Fun 𝓤) (κ₀ κ₁ κ₂ : Lft) (q₀ q₁ q₂ : Share)
-    (rows : Rows.row.Denot) (n : (heldNumber w64).row.Denot) (log : Bor (List ℕ)) (position : (heldNumber w64).row.Denot) (overlays : LogOverlaysᴴ.row.Denot) (words : Bor (List ℕ)) (bytes : Bor (List ℕ)) (next : (heldNumber w64).row.Denot) (rows_is : Is Rows.row rows (Rows.val rows ∷ [])) (n-is : Is (heldNumber w64).row n ((heldNumber w64).val n ∷ [])) (position-is : Is (heldNumber w64).row position ((heldNumber w64).val position ∷ [])) (overlays-is : Is LogOverlaysᴴ.row overlays (LogOverlaysᴴ.val overlays ∷ [])) (next-is : Is (heldNumber w64).row next ((heldNumber w64).val next ∷ [])) where
+    (rows : Rows.row.Denot) (n : (held_number w64).row.Denot) (log : Bor (List ℕ)) (position : (held_number w64).row.Denot) (overlays : LogOverlaysᴴ.row.Denot) (words : Bor (List ℕ)) (bytes : Bor (List ℕ)) (next : (held_number w64).row.Denot) (rows_is : Is Rows.row rows (Rows.val rows ∷ [])) (n-is : Is (held_number w64).row n ((held_number w64).val n ∷ [])) (position-is : Is (held_number w64).row position ((held_number w64).val position ∷ [])) (overlays-is : Is LogOverlaysᴴ.row overlays (LogOverlaysᴴ.val overlays ∷ [])) (next-is : Is (held_number w64).row next ((held_number w64).val next ∷ [])) where
   open 𝓛 use {H}
 
   abbrev here : (walk_of 𝓛 entry.ended stayed (entry.clauses 𝓛 mem run)).Ghost
-  here = (((κ₀, (κ₁, (κ₂, tt))), (q₀, (q₁, (q₂, tt))), tt, (rows, (n, (log, (position, (overlays, (words, (bytes, (next, tt)))))))), (Rows.val rows ∷ [], ((heldNumber w64).val n ∷ [], (lentVal log ∷ [], ((heldNumber w64).val position ∷ [], (LogOverlaysᴴ.val overlays ∷ [], (lentVal words ∷ [], (lentVal bytes ∷ [], ((heldNumber w64).val next ∷ [], tt))))))))), tt)
+  here = (((κ₀, (κ₁, (κ₂, tt))), (q₀, (q₁, (q₂, tt))), tt, (rows, (n, (log, (position, (overlays, (words, (bytes, (next, tt)))))))), (Rows.val rows ∷ [], ((held_number w64).val n ∷ [], (lent_val log ∷ [], ((held_number w64).val position ∷ [], (LogOverlaysᴴ.val overlays ∷ [], (lent_val words ∷ [], (lent_val bytes ∷ [], ((held_number w64).val next ∷ [], tt))))))))), tt)
 
   abbrev Post : Val → SProp 𝓤
   Post = (walk_of 𝓛 entry.ended stayed (entry.clauses 𝓛 mem run)).post here
@@ -87,18 +87,18 @@ module _ {M : Type 1} {𝓤 : Ura M} (𝓛 : Logic 𝓤) (mem : Memory → SProp
   callee-args κ x = (x, (log, (position, (overlays, (words, (bytes, (next, tt)))))))
 
   abbrev to-callee : Lft → Bor (List TableDescription) → (Callee 𝓛 mem run).Ghost
-  to-callee κ x = (((κ, (κ₀, (κ₁, (κ₂, tt)))), (full_share, (q₀, (q₁, (q₂, tt)))), tt, callee-args κ x, (slice_val x.ptr n ∷ [], (lentVal log ∷ [], ((heldNumber w64).val position ∷ [], (LogOverlaysᴴ.val overlays ∷ [], (lentVal words ∷ [], (lentVal bytes ∷ [], ((heldNumber w64).val next ∷ [], tt)))))))), tt)
+  to-callee κ x = (((κ, (κ₀, (κ₁, (κ₂, tt)))), (full_share, (q₀, (q₁, (q₂, tt)))), tt, callee-args κ x, (slice_val x.ptr n ∷ [], (lent_val log ∷ [], ((held_number w64).val position ∷ [], (LogOverlaysᴴ.val overlays ∷ [], (lent_val words ∷ [], (lent_val bytes ∷ [], ((held_number w64).val next ∷ [], tt)))))))), tt)
 
   module _ (C : Calls 𝓤 H) (Λ : Loops 𝓤 H) (fm : FmC 𝓤 H 𝓛.laws C) (known-callee : Triple 𝓤 (C #callee) (Callee 𝓛 mem run)) where
-    walk : n ≤ 17 → Room u8 (length log.now) → Room u64 (length words.now) → Room u8 (length bytes.now) → ent 𝓤 (on_entry 𝓛 entry.signature (κ₀, (κ₁, (κ₂, tt))) (q₀, (q₁, (q₂, tt))) (rows, (n, (log, (position, (overlays, (words, (bytes, (next, tt)))))))) (Rows.val rows ∷ [], ((heldNumber w64).val n ∷ [], (lentVal log ∷ [], ((heldNumber w64).val position ∷ [], (LogOverlaysᴴ.val overlays ∷ [], (lentVal words ∷ [], (lentVal bytes ∷ [], ((heldNumber w64).val next ∷ [], tt))))))))) (WpFn 𝓤 H C Λ code.function (Rows.val rows ∷ (heldNumber w64).val n ∷ lentVal log ∷ (heldNumber w64).val position ∷ LogOverlaysᴴ.val overlays ∷ lentVal words ∷ lentVal bytes ∷ (heldNumber w64).val next ∷ []) Post)
+    walk : n ≤ 17 → Room u8 (length log.now) → Room u64 (length words.now) → Room u8 (length bytes.now) → ent 𝓤 (on_entry 𝓛 entry.signature (κ₀, (κ₁, (κ₂, tt))) (q₀, (q₁, (q₂, tt))) (rows, (n, (log, (position, (overlays, (words, (bytes, (next, tt)))))))) (Rows.val rows ∷ [], ((held_number w64).val n ∷ [], (lent_val log ∷ [], ((held_number w64).val position ∷ [], (LogOverlaysᴴ.val overlays ∷ [], (lent_val words ∷ [], (lent_val bytes ∷ [], ((held_number w64).val next ∷ [], tt))))))))) (WpFn 𝓤 H C Λ code.function (Rows.val rows ∷ (held_number w64).val n ∷ lent_val log ∷ (held_number w64).val position ∷ LogOverlaysᴴ.val overlays ∷ lent_val words ∷ lent_val bytes ∷ (held_number w64).val next ∷ []) Post)
     walk few log-room words-room bytes-room =
-        qed 𝓛 ((‵ (flft κ₀ q₀) ⊛ (‵ (flft κ₁ q₁) ⊛ (‵ (flft κ₂ q₂) ⊛ (‵ ftrue)))) ∷ ‵ (owns (Rows.row ∷ (heldNumber w64).row ∷ ShrSlice (named 0) κ₀ u8 ∷ (heldNumber w64).row ∷ LogOverlaysᴴ.row ∷ MutSlice (named 1) κ₁ u64 ∷ MutSlice (named 2) κ₂ u8 ∷ (heldNumber w64).row ∷ []) (rows, (n, (log, (position, (overlays, (words, (bytes, (next, tt)))))))) (Rows.val rows ∷ [], ((heldNumber w64).val n ∷ [], (lentVal log ∷ [], ((heldNumber w64).val position ∷ [], (LogOverlaysᴴ.val overlays ∷ [], (lentVal words ∷ [], (lentVal bytes ∷ [], ((heldNumber w64).val next ∷ [], tt))))))))) ∷ []) ∵ enter ! C Λ code.function (Rows.val rows ∷ (heldNumber w64).val n ∷ lentVal log ∷ (heldNumber w64).val position ∷ LogOverlaysᴴ.val overlays ∷ lentVal words ∷ lentVal bytes ∷ (heldNumber w64).val next ∷ []) _ $
+        qed 𝓛 ((‵ (flft κ₀ q₀) ⊛ (‵ (flft κ₁ q₁) ⊛ (‵ (flft κ₂ q₂) ⊛ (‵ ftrue)))) ∷ ‵ (owns (Rows.row ∷ (held_number w64).row ∷ ShrSlice (named 0) κ₀ u8 ∷ (held_number w64).row ∷ LogOverlaysᴴ.row ∷ MutSlice (named 1) κ₁ u64 ∷ MutSlice (named 2) κ₂ u8 ∷ (held_number w64).row ∷ []) (rows, (n, (log, (position, (overlays, (words, (bytes, (next, tt)))))))) (Rows.val rows ∷ [], ((held_number w64).val n ∷ [], (lent_val log ∷ [], ((held_number w64).val position ∷ [], (LogOverlaysᴴ.val overlays ∷ [], (lent_val words ∷ [], (lent_val bytes ∷ [], ((held_number w64).val next ∷ [], tt))))))))) ∷ []) ∵ enter ! C Λ code.function (Rows.val rows ∷ (held_number w64).val n ∷ lent_val log ∷ (held_number w64).val position ∷ LogOverlaysᴴ.val overlays ∷ lent_val words ∷ lent_val bytes ∷ (held_number w64).val next ∷ []) _ $
         alloc1 ! (λ l₀. alloc1 ! (λ l₁. alloc1 ! (λ l₂. alloc1 ! (λ l₃. alloc1 ! (λ l₄. alloc1 ! (λ l₅. alloc1 ! (λ l₆. alloc1 ! (λ l₇. alloc1 ! (λ l₈. alloc1 ! (λ l₉. alloc1 ! (λ l₁₀.
         alloc1 ! (λ l₁₁. alloc1 ! (λ l₁₂. alloc1 ! (λ l₁₃. alloc1 ! (λ l₁₄. alloc1 ! (λ l₁₅. alloc0 ! $ params1 ! $ pass1 ! (init ! 28 refl ((Rows.lawful 𝓛).typed rows _ rows_is).0) $
-        pass1 ! (init ! 26 refl (((heldNumber w64).lawful 𝓛).typed n _ n-is).0) $ pass1 ! (init ! 24 refl (tt, (tt, (record { fits = log-room.0 }, tt)))) $
-        pass1 ! (init ! 22 refl (((heldNumber w64).lawful 𝓛).typed position _ position-is).0) $ pass1 ! (init ! 20 refl ((LogOverlaysᴴ.lawful 𝓛).typed overlays _ overlays-is).0) $
+        pass1 ! (init ! 26 refl (((held_number w64).lawful 𝓛).typed n _ n-is).0) $ pass1 ! (init ! 24 refl (tt, (tt, (record { fits = log-room.0 }, tt)))) $
+        pass1 ! (init ! 22 refl (((held_number w64).lawful 𝓛).typed position _ position-is).0) $ pass1 ! (init ! 20 refl ((LogOverlaysᴴ.lawful 𝓛).typed overlays _ overlays-is).0) $
         pass1 ! (init ! 18 refl (tt, (tt, (record { fits = words-room.0 }, tt)))) $ pass1 ! (init ! 16 refl (tt, (tt, (record { fits = bytes-room.0 }, tt)))) $
-        pass1 ! (init ! 14 refl (((heldNumber w64).lawful 𝓛).typed next _ next-is).0) $ pass0 ! $
+        pass1 ! (init ! 14 refl (((held_number w64).lawful 𝓛).typed next _ next-is).0) $ pass0 ! $
         -- each token and what each reference owns by itself
         move ! (32 ∷ []) $ split ! $ move ! (1 ∷ []) $ split ! $ move ! (1 ∷ []) $ split ! $ move ! (1 ∷ []) $ drop ! $ move ! (35 ∷ []) $ fsplit ! $ drop ! $ fsplit ! $ drop ! $ fsplit ! $
         move ! (1 ∷ []) $ fsplit ! $ drop ! $ fsplit ! $ drop ! $ fsplit ! $ move ! (1 ∷ []) $ fsplit ! $ move ! (1 ∷ []) $ fsplit ! $ drop ! $ drop ! $
@@ -113,10 +113,10 @@ module _ {M : Type 1} {𝓤 : Ura M} (𝓛 : Logic 𝓤) (mem : Memory → SProp
         -- the rows are lent
         lft_new ! tt (λ α. move ! (19 ∷ []) $ lends 𝓛 ! tt (α ∷ []) l₉ n rows (Rows.val rows) rows_is few (λ γ.
         -- the call, with what it asks put together
-        nothing ! $ nothing ! $ owned ! (heldNumber w64).row (Is (heldNumber w64).row) ((heldNumber w64).makes 𝓛) next ((heldNumber w64).val next ∷ []) next-is $ fjoin ! $
+        nothing ! $ nothing ! $ owned ! (held_number w64).row (Is (held_number w64).row) ((held_number w64).makes 𝓛) next ((held_number w64).val next ∷ []) next-is $ fjoin ! $
         move ! (5 ∷ 0 ∷ []) $ fjoin ! $ move ! (5 ∷ 0 ∷ []) $ fjoin ! $
         owned ! LogOverlaysᴴ.row (Is LogOverlaysᴴ.row) (LogOverlaysᴴ.makes 𝓛) overlays (LogOverlaysᴴ.val overlays ∷ []) overlays-is $ fjoin ! $
-        owned ! (heldNumber w64).row (Is (heldNumber w64).row) ((heldNumber w64).makes 𝓛) position ((heldNumber w64).val position ∷ []) position-is $ fjoin ! $ move ! (5 ∷ 0 ∷ []) $
+        owned ! (held_number w64).row (Is (held_number w64).row) ((held_number w64).makes 𝓛) position ((held_number w64).val position ∷ []) position-is $ fjoin ! $ move ! (5 ∷ 0 ∷ []) $
         fjoin ! $ move ! (2 ∷ 0 ∷ []) $ fjoin ! $ nothing ! $ move ! (5 ∷ 0 ∷ []) $ join ! $ move ! (5 ∷ 0 ∷ []) $ join ! $ move ! (5 ∷ 0 ∷ []) $ join ! $ move ! (4 ∷ 0 ∷ []) $ join ! $ join ! $
         join ! $ use1 𝓛 (raw ((Callee 𝓛 mem run).pre (to-callee (α ∷ []) (part l₉ γ n rows)))) (id⊢ 𝓤 _) $
         calls_at ! fm (Callee 𝓛 mem run) known-callee (to-callee (α ∷ []) (part l₉ γ n rows)) (and_then ! (load ! (from ! (stop !)) (look ! 10 refl)) (and_then ! (load ! (from ! (stop !)) (look ! 25 refl)) (and_then ! (load ! (from ! (stop !)) (look ! 23 refl)) (and_then ! (load ! (from ! (stop !)) (look ! 21 refl)) (and_then ! (load ! (from ! (stop !)) (look ! 6 refl)) (and_then ! (load ! (from ! (stop !)) (look ! 2 refl)) (and_then ! (load ! (from ! (stop !)) (look ! 15 refl)) (no_more !)))))))) (λ w.
@@ -138,10 +138,10 @@ module _ {M : Type 1} {𝓤 : Ura M} (𝓛 : Logic 𝓤) (mem : Memory → SProp
 meets : {M : Type 1} {𝓤 : Ura M} (𝓛 : Logic 𝓤) → (mem : Memory → SProp 𝓤) (run : Routine → Fun 𝓤) (𝓣 : Tables 𝓤 𝓛.H) → Triple 𝓤 (𝓣.C #callee) (Callee 𝓛 mem run)
     → Meets 𝓛 entry.signature (WpFn 𝓤 𝓛.H 𝓣.C 𝓣.Λ code.function) (entry.spec 𝓛 mem run)
 meets {𝓤 = 𝓤} 𝓛 mem run 𝓣 known-callee =
-    walk_Meets 𝓛 entry.ended stayed (Goes-dropped 𝓛 3 (plain (λ _. Rows.row)) yes (λ κs x f. refl), (Goes-dropped 𝓛 3 (plain (λ _. (heldNumber w64).row)) yes (λ κs x f. refl), (Goes-dropped 𝓛 3 (shr_slice_of (0 ∷ []) tt (plain (λ _. u8))) yes (λ κs x f. refl), (Goes-dropped 𝓛 3 (plain (λ _. (heldNumber w64).row)) yes (λ κs x f. refl), (Goes-dropped 𝓛 3 (plain (λ _. LogOverlaysᴴ.row)) yes (λ κs x f. refl), (Goes-gave_slice 𝓛 3 1 tt (plain (λ _. u64)), (Goes-gave_slice 𝓛 3 2 tt (plain (λ _. u8)), (Goes-dropped 𝓛 3 (plain (λ _. (heldNumber w64).row)) yes (λ κs x f. refl), tt))))))))
+    walk_Meets 𝓛 entry.ended stayed (Goes-dropped 𝓛 3 (plain (λ _. Rows.row)) yes (λ κs x f. refl), (Goes-dropped 𝓛 3 (plain (λ _. (held_number w64).row)) yes (λ κs x f. refl), (Goes-dropped 𝓛 3 (shr_slice_of (0 ∷ []) tt (plain (λ _. u8))) yes (λ κs x f. refl), (Goes-dropped 𝓛 3 (plain (λ _. (held_number w64).row)) yes (λ κs x f. refl), (Goes-dropped 𝓛 3 (plain (λ _. LogOverlaysᴴ.row)) yes (λ κs x f. refl), (Goes-gave_slice 𝓛 3 1 tt (plain (λ _. u64)), (Goes-gave_slice 𝓛 3 2 tt (plain (λ _. u8)), (Goes-dropped 𝓛 3 (plain (λ _. (held_number w64).row)) yes (λ κs x f. refl), tt))))))))
     (entry.clauses 𝓛 mem run) (WpFn 𝓤 𝓛.H 𝓣.C 𝓣.Λ code.function) (WpFn-mono 𝓤 𝓛.H 𝓛.laws 𝓣 code.function)
-    (walked 𝓛 entry.ended stayed (entry.clauses 𝓛 mem run) (WpFn 𝓤 𝓛.H 𝓣.C 𝓣.Λ code.function) (λ κs. ((λ x. Rows.val x ∷ []), ((λ x. (heldNumber w64).val x ∷ []), (shr_slice_vals, ((λ x. (heldNumber w64).val x ∷ []), ((λ x. LogOverlaysᴴ.val x ∷ []), (shr_slice_vals, (shr_slice_vals, ((λ x. (heldNumber w64).val x ∷ []), tt)))))))))
-    (λ κs. (Rows.tells, ((heldNumber w64).tells, (shr_slice_Tells (named 0) κs.0 u8, ((heldNumber w64).tells, (LogOverlaysᴴ.tells, (mut_slice_Tells (named 1) κs.1.0 u64, (mut_slice_Tells (named 2) κs.1.1.0 u8, ((heldNumber w64).tells, tt)))))))))
+    (walked 𝓛 entry.ended stayed (entry.clauses 𝓛 mem run) (WpFn 𝓤 𝓛.H 𝓣.C 𝓣.Λ code.function) (λ κs. ((λ x. Rows.val x ∷ []), ((λ x. (held_number w64).val x ∷ []), (shr_slice_vals, ((λ x. (held_number w64).val x ∷ []), ((λ x. LogOverlaysᴴ.val x ∷ []), (shr_slice_vals, (shr_slice_vals, ((λ x. (held_number w64).val x ∷ []), tt)))))))))
+    (λ κs. (Rows.tells, ((held_number w64).tells, (shr_slice_Tells (named 0) κs.0 u8, ((held_number w64).tells, (LogOverlaysᴴ.tells, (mut_slice_Tells (named 1) κs.1.0 u64, (mut_slice_Tells (named 2) κs.1.1.0 u8, ((held_number w64).tells, tt)))))))))
     (λ κs qs bounds a g are. needs 𝓤 (a.1.0 ≤ 17) _ (λ few. walk 𝓛 mem run κs.0 κs.1.0 κs.1.1.0 qs.0 qs.1.0 qs.1.1.0 a.0 a.1.0 a.1.1.0 a.1.1.1.0 a.1.1.1.1.0 a.1.1.1.1.1.0 a.1.1.1.1.1.1.0 a.1.1.1.1.1.1.1.0 are.0 are.1.0 are.1.1.1.0 are.1.1.1.1.0 are.1.1.1.1.1.1.1.0
     𝓣.C 𝓣.Λ (fm_of 𝓤 𝓛.H 𝓛.laws 𝓣) known-callee few are.1.1.0.0.1 are.1.1.1.1.1.0.0.1 are.1.1.1.1.1.1.0.0.1)))
 

@@ -37,7 +37,7 @@ use denote.Exit.{yes}
 use Rattle.directory.specs.declared.table.TableDescription.{TableDescription}
 use seplogic.Ra.TreeShare.{full_share}
 use types.Tokens.{lft_new, lft_end}
-use Rattle.lent.proofs.Held.{Held, heldNumber, heldStruct, lentVal}
+use Rattle.lent.proofs.Held.{Held, held_number, held_struct, lent_val}
 use Rattle.lent.proofs.Lending.{Rows, part, few-fits, lends, comes_back, unsaid}
 use Rattle.ending.specs.contracts.record_end.Ended as Ended
 use Rattle.ending.proofs.record_end.Ended.TheLaws as Ended'
@@ -57,30 +57,30 @@ use Rattle.compare_lent.proofs.slices.end_record.Statement as stated
 use Rattle.compare_lent.proofs.slices.end_record.Code as code
 
 abbrev Endedᴴ : Held
-Endedᴴ = heldStruct Ended.the_type Ended'.the_laws Ended'.the_plain
+Endedᴴ = held_struct Ended.the_type Ended'.the_laws Ended'.the_plain
 
 abbrev LogChangeᴴ : Held
-LogChangeᴴ = heldStruct LogChange.the_type LogChange'.the_laws LogChange'.the_plain
+LogChangeᴴ = held_struct LogChange.the_type LogChange'.the_laws LogChange'.the_plain
 
 abbrev LogOverlaysᴴ : Held
-LogOverlaysᴴ = heldStruct LogOverlays.the_type LogOverlays'.the_laws LogOverlays'.the_plain
+LogOverlaysᴴ = held_struct LogOverlays.the_type LogOverlays'.the_laws LogOverlays'.the_plain
 
 abbrev Queuesᴴ : Held
-Queuesᴴ = heldStruct Queues.the_type Queues'.the_laws Queues'.the_plain
+Queuesᴴ = held_struct Queues.the_type Queues'.the_laws Queues'.the_plain
 
 abbrev stayed : Stays (entry.ended).signature.params (entry.ended).kept
-stayed = (stay_dropped (plain (λ _. Rows.row)) yes, (stay_dropped (plain (λ _. (heldNumber w64).row)) yes, (stay_dropped (plain (λ _. LogChangeᴴ.row)) yes, (stay_dropped (shr_slice_of (0 ∷ []) tt (plain (λ _. u64))) yes, (stay_dropped (shr_slice_of (0 ∷ []) tt (plain (λ _. u8))) yes, (stay_dropped (plain (λ _. LogOverlaysᴴ.row)) yes, (gave_slice (1 ∷ []) tt (plain (λ _. u64)), (gave_slice (2 ∷ []) tt (plain (λ _. u8)), (stay_dropped (plain (λ _. Queuesᴴ.row)) yes, (stay_dropped (plain (λ _. (heldNumber w64).row)) yes, (gave_slice (3 ∷ []) tt (plain (λ _. u8)), tt)))))))))))
+stayed = (stay_dropped (plain (λ _. Rows.row)) yes, (stay_dropped (plain (λ _. (held_number w64).row)) yes, (stay_dropped (plain (λ _. LogChangeᴴ.row)) yes, (stay_dropped (shr_slice_of (0 ∷ []) tt (plain (λ _. u64))) yes, (stay_dropped (shr_slice_of (0 ∷ []) tt (plain (λ _. u8))) yes, (stay_dropped (plain (λ _. LogOverlaysᴴ.row)) yes, (gave_slice (1 ∷ []) tt (plain (λ _. u64)), (gave_slice (2 ∷ []) tt (plain (λ _. u8)), (stay_dropped (plain (λ _. Queuesᴴ.row)) yes, (stay_dropped (plain (λ _. (held_number w64).row)) yes, (gave_slice (3 ∷ []) tt (plain (λ _. u8)), tt)))))))))))
 
 module _ {M : Type 1} {𝓤 : Ura M} (𝓛 : Logic 𝓤) (mem : Memory → SProp 𝓤) (run : Routine → Fun 𝓤) where
   abbrev Callee : Contract 𝓤
   Callee = triple_of 𝓛 callee.signature (callee.spec 𝓛 mem run)
 
 module _ {M : Type 1} {𝓤 : Ura M} (𝓛 : Logic 𝓤) (mem : Memory → SProp 𝓤) (run : Routine → Fun 𝓤) (κ₀ κ₁ κ₂ κ₃ : Lft) (q₀ q₁ q₂ q₃ : Share)
-    (rows : Rows.row.Denot) (n : (heldNumber w64).row.Denot) (list : LogChangeᴴ.row.Denot) (list-words : Bor (List ℕ)) (list-bytes : Bor (List ℕ)) (overlays : LogOverlaysᴴ.row.Denot) (words : Bor (List ℕ)) (bytes : Bor (List ℕ)) (queues : Queuesᴴ.row.Denot) (next : (heldNumber w64).row.Denot) (out : Bor (List ℕ)) (rows_is : Is Rows.row rows (Rows.val rows ∷ [])) (n-is : Is (heldNumber w64).row n ((heldNumber w64).val n ∷ [])) (list-is : Is LogChangeᴴ.row list (LogChangeᴴ.val list ∷ [])) (overlays-is : Is LogOverlaysᴴ.row overlays (LogOverlaysᴴ.val overlays ∷ [])) (queues-is : Is Queuesᴴ.row queues (Queuesᴴ.val queues ∷ [])) (next-is : Is (heldNumber w64).row next ((heldNumber w64).val next ∷ [])) where
+    (rows : Rows.row.Denot) (n : (held_number w64).row.Denot) (list : LogChangeᴴ.row.Denot) (list-words : Bor (List ℕ)) (list-bytes : Bor (List ℕ)) (overlays : LogOverlaysᴴ.row.Denot) (words : Bor (List ℕ)) (bytes : Bor (List ℕ)) (queues : Queuesᴴ.row.Denot) (next : (held_number w64).row.Denot) (out : Bor (List ℕ)) (rows_is : Is Rows.row rows (Rows.val rows ∷ [])) (n-is : Is (held_number w64).row n ((held_number w64).val n ∷ [])) (list-is : Is LogChangeᴴ.row list (LogChangeᴴ.val list ∷ [])) (overlays-is : Is LogOverlaysᴴ.row overlays (LogOverlaysᴴ.val overlays ∷ [])) (queues-is : Is Queuesᴴ.row queues (Queuesᴴ.val queues ∷ [])) (next-is : Is (held_number w64).row next ((held_number w64).val next ∷ [])) where
   open 𝓛 use {H}
 
   abbrev here : (walk_of 𝓛 entry.ended stayed (entry.clauses 𝓛 mem run)).Ghost
-  here = (((κ₀, (κ₁, (κ₂, (κ₃, tt)))), (q₀, (q₁, (q₂, (q₃, tt)))), tt, (rows, (n, (list, (list-words, (list-bytes, (overlays, (words, (bytes, (queues, (next, (out, tt))))))))))), (Rows.val rows ∷ [], ((heldNumber w64).val n ∷ [], (LogChangeᴴ.val list ∷ [], (lentVal list-words ∷ [], (lentVal list-bytes ∷ [], (LogOverlaysᴴ.val overlays ∷ [], (lentVal words ∷ [], (lentVal bytes ∷ [], (Queuesᴴ.val queues ∷ [], ((heldNumber w64).val next ∷ [], (lentVal out ∷ [], tt)))))))))))), tt)
+  here = (((κ₀, (κ₁, (κ₂, (κ₃, tt)))), (q₀, (q₁, (q₂, (q₃, tt)))), tt, (rows, (n, (list, (list-words, (list-bytes, (overlays, (words, (bytes, (queues, (next, (out, tt))))))))))), (Rows.val rows ∷ [], ((held_number w64).val n ∷ [], (LogChangeᴴ.val list ∷ [], (lent_val list-words ∷ [], (lent_val list-bytes ∷ [], (LogOverlaysᴴ.val overlays ∷ [], (lent_val words ∷ [], (lent_val bytes ∷ [], (Queuesᴴ.val queues ∷ [], ((held_number w64).val next ∷ [], (lent_val out ∷ [], tt)))))))))))), tt)
 
   abbrev Post : Val → SProp 𝓤
   Post = (walk_of 𝓛 entry.ended stayed (entry.clauses 𝓛 mem run)).post here
@@ -98,19 +98,19 @@ module _ {M : Type 1} {𝓤 : Ura M} (𝓛 : Logic 𝓤) (mem : Memory → SProp
   callee-args κ x = (x, (list, (list-words, (list-bytes, (overlays, (words, (bytes, (queues, (next, (out, tt))))))))))
 
   abbrev to-callee : Lft → Bor (List TableDescription) → (Callee 𝓛 mem run).Ghost
-  to-callee κ x = (((κ, (κ₀, (κ₁, (κ₂, (κ₃, tt))))), (full_share, (q₀, (q₁, (q₂, (q₃, tt))))), tt, callee-args κ x, (slice_val x.ptr n ∷ [], (LogChangeᴴ.val list ∷ [], (lentVal list-words ∷ [], (lentVal list-bytes ∷ [], (LogOverlaysᴴ.val overlays ∷ [], (lentVal words ∷ [], (lentVal bytes ∷ [], (Queuesᴴ.val queues ∷ [], ((heldNumber w64).val next ∷ [], (lentVal out ∷ [], tt))))))))))), tt)
+  to-callee κ x = (((κ, (κ₀, (κ₁, (κ₂, (κ₃, tt))))), (full_share, (q₀, (q₁, (q₂, (q₃, tt))))), tt, callee-args κ x, (slice_val x.ptr n ∷ [], (LogChangeᴴ.val list ∷ [], (lent_val list-words ∷ [], (lent_val list-bytes ∷ [], (LogOverlaysᴴ.val overlays ∷ [], (lent_val words ∷ [], (lent_val bytes ∷ [], (Queuesᴴ.val queues ∷ [], ((held_number w64).val next ∷ [], (lent_val out ∷ [], tt))))))))))), tt)
 
   module _ (C : Calls 𝓤 H) (Λ : Loops 𝓤 H) (fm : FmC 𝓤 H 𝓛.laws C) (known-callee : Triple 𝓤 (C #callee) (Callee 𝓛 mem run)) where
-    walk : n ≤ 17 → Room u64 (length list-words.now) → Room u8 (length list-bytes.now) → Room u64 (length words.now) → Room u8 (length bytes.now) → Room u8 (length out.now) → ent 𝓤 (on_entry 𝓛 entry.signature (κ₀, (κ₁, (κ₂, (κ₃, tt)))) (q₀, (q₁, (q₂, (q₃, tt)))) (rows, (n, (list, (list-words, (list-bytes, (overlays, (words, (bytes, (queues, (next, (out, tt))))))))))) (Rows.val rows ∷ [], ((heldNumber w64).val n ∷ [], (LogChangeᴴ.val list ∷ [], (lentVal list-words ∷ [], (lentVal list-bytes ∷ [], (LogOverlaysᴴ.val overlays ∷ [], (lentVal words ∷ [], (lentVal bytes ∷ [], (Queuesᴴ.val queues ∷ [], ((heldNumber w64).val next ∷ [], (lentVal out ∷ [], tt)))))))))))) (WpFn 𝓤 H C Λ code.function (Rows.val rows ∷ (heldNumber w64).val n ∷ LogChangeᴴ.val list ∷ lentVal list-words ∷ lentVal list-bytes ∷ LogOverlaysᴴ.val overlays ∷ lentVal words ∷ lentVal bytes ∷ Queuesᴴ.val queues ∷ (heldNumber w64).val next ∷ lentVal out ∷ []) Post)
+    walk : n ≤ 17 → Room u64 (length list-words.now) → Room u8 (length list-bytes.now) → Room u64 (length words.now) → Room u8 (length bytes.now) → Room u8 (length out.now) → ent 𝓤 (on_entry 𝓛 entry.signature (κ₀, (κ₁, (κ₂, (κ₃, tt)))) (q₀, (q₁, (q₂, (q₃, tt)))) (rows, (n, (list, (list-words, (list-bytes, (overlays, (words, (bytes, (queues, (next, (out, tt))))))))))) (Rows.val rows ∷ [], ((held_number w64).val n ∷ [], (LogChangeᴴ.val list ∷ [], (lent_val list-words ∷ [], (lent_val list-bytes ∷ [], (LogOverlaysᴴ.val overlays ∷ [], (lent_val words ∷ [], (lent_val bytes ∷ [], (Queuesᴴ.val queues ∷ [], ((held_number w64).val next ∷ [], (lent_val out ∷ [], tt)))))))))))) (WpFn 𝓤 H C Λ code.function (Rows.val rows ∷ (held_number w64).val n ∷ LogChangeᴴ.val list ∷ lent_val list-words ∷ lent_val list-bytes ∷ LogOverlaysᴴ.val overlays ∷ lent_val words ∷ lent_val bytes ∷ Queuesᴴ.val queues ∷ (held_number w64).val next ∷ lent_val out ∷ []) Post)
     walk few list-words-room list-bytes-room words-room bytes-room out-room =
-        qed 𝓛 ((‵ (flft κ₀ q₀) ⊛ (‵ (flft κ₁ q₁) ⊛ (‵ (flft κ₂ q₂) ⊛ (‵ (flft κ₃ q₃) ⊛ (‵ ftrue))))) ∷ ‵ (owns (Rows.row ∷ (heldNumber w64).row ∷ LogChangeᴴ.row ∷ ShrSlice (named 0) κ₀ u64 ∷ ShrSlice (named 0) κ₀ u8 ∷ LogOverlaysᴴ.row ∷ MutSlice (named 1) κ₁ u64 ∷ MutSlice (named 2) κ₂ u8 ∷ Queuesᴴ.row ∷ (heldNumber w64).row ∷ MutSlice (named 3) κ₃ u8 ∷ []) (rows, (n, (list, (list-words, (list-bytes, (overlays, (words, (bytes, (queues, (next, (out, tt))))))))))) (Rows.val rows ∷ [], ((heldNumber w64).val n ∷ [], (LogChangeᴴ.val list ∷ [], (lentVal list-words ∷ [], (lentVal list-bytes ∷ [], (LogOverlaysᴴ.val overlays ∷ [], (lentVal words ∷ [], (lentVal bytes ∷ [], (Queuesᴴ.val queues ∷ [], ((heldNumber w64).val next ∷ [], (lentVal out ∷ [], tt)))))))))))) ∷ []) ∵ enter ! C Λ code.function (Rows.val rows ∷ (heldNumber w64).val n ∷ LogChangeᴴ.val list ∷ lentVal list-words ∷ lentVal list-bytes ∷ LogOverlaysᴴ.val overlays ∷ lentVal words ∷ lentVal bytes ∷ Queuesᴴ.val queues ∷ (heldNumber w64).val next ∷ lentVal out ∷ []) _ $
+        qed 𝓛 ((‵ (flft κ₀ q₀) ⊛ (‵ (flft κ₁ q₁) ⊛ (‵ (flft κ₂ q₂) ⊛ (‵ (flft κ₃ q₃) ⊛ (‵ ftrue))))) ∷ ‵ (owns (Rows.row ∷ (held_number w64).row ∷ LogChangeᴴ.row ∷ ShrSlice (named 0) κ₀ u64 ∷ ShrSlice (named 0) κ₀ u8 ∷ LogOverlaysᴴ.row ∷ MutSlice (named 1) κ₁ u64 ∷ MutSlice (named 2) κ₂ u8 ∷ Queuesᴴ.row ∷ (held_number w64).row ∷ MutSlice (named 3) κ₃ u8 ∷ []) (rows, (n, (list, (list-words, (list-bytes, (overlays, (words, (bytes, (queues, (next, (out, tt))))))))))) (Rows.val rows ∷ [], ((held_number w64).val n ∷ [], (LogChangeᴴ.val list ∷ [], (lent_val list-words ∷ [], (lent_val list-bytes ∷ [], (LogOverlaysᴴ.val overlays ∷ [], (lent_val words ∷ [], (lent_val bytes ∷ [], (Queuesᴴ.val queues ∷ [], ((held_number w64).val next ∷ [], (lent_val out ∷ [], tt)))))))))))) ∷ []) ∵ enter ! C Λ code.function (Rows.val rows ∷ (held_number w64).val n ∷ LogChangeᴴ.val list ∷ lent_val list-words ∷ lent_val list-bytes ∷ LogOverlaysᴴ.val overlays ∷ lent_val words ∷ lent_val bytes ∷ Queuesᴴ.val queues ∷ (held_number w64).val next ∷ lent_val out ∷ []) _ $
         alloc1 ! (λ l₀. alloc1 ! (λ l₁. alloc1 ! (λ l₂. alloc1 ! (λ l₃. alloc1 ! (λ l₄. alloc1 ! (λ l₅. alloc1 ! (λ l₆. alloc1 ! (λ l₇. alloc1 ! (λ l₈. alloc1 ! (λ l₉. alloc1 ! (λ l₁₀.
         alloc1 ! (λ l₁₁. alloc1 ! (λ l₁₂. alloc1 ! (λ l₁₃. alloc1 ! (λ l₁₄. alloc1 ! (λ l₁₅. alloc1 ! (λ l₁₆. alloc1 ! (λ l₁₇. alloc1 ! (λ l₁₈. alloc1 ! (λ l₁₉. alloc1 ! (λ l₂₀. alloc0 ! $
-        params1 ! $ pass1 ! (init ! 38 refl ((Rows.lawful 𝓛).typed rows _ rows_is).0) $ pass1 ! (init ! 36 refl (((heldNumber w64).lawful 𝓛).typed n _ n-is).0) $
+        params1 ! $ pass1 ! (init ! 38 refl ((Rows.lawful 𝓛).typed rows _ rows_is).0) $ pass1 ! (init ! 36 refl (((held_number w64).lawful 𝓛).typed n _ n-is).0) $
         pass1 ! (init ! 34 refl ((LogChangeᴴ.lawful 𝓛).typed list _ list-is).0) $ pass1 ! (init ! 32 refl (tt, (tt, (record { fits = list-words-room.0 }, tt)))) $
         pass1 ! (init ! 30 refl (tt, (tt, (record { fits = list-bytes-room.0 }, tt)))) $ pass1 ! (init ! 28 refl ((LogOverlaysᴴ.lawful 𝓛).typed overlays _ overlays-is).0) $
         pass1 ! (init ! 26 refl (tt, (tt, (record { fits = words-room.0 }, tt)))) $ pass1 ! (init ! 24 refl (tt, (tt, (record { fits = bytes-room.0 }, tt)))) $
-        pass1 ! (init ! 22 refl ((Queuesᴴ.lawful 𝓛).typed queues _ queues-is).0) $ pass1 ! (init ! 20 refl (((heldNumber w64).lawful 𝓛).typed next _ next-is).0) $
+        pass1 ! (init ! 22 refl ((Queuesᴴ.lawful 𝓛).typed queues _ queues-is).0) $ pass1 ! (init ! 20 refl (((held_number w64).lawful 𝓛).typed next _ next-is).0) $
         pass1 ! (init ! 18 refl (tt, (tt, (record { fits = out-room.0 }, tt)))) $ pass0 ! $
         -- each token and what each reference owns by itself
         move ! (42 ∷ []) $ split ! $ move ! (1 ∷ []) $ split ! $ move ! (1 ∷ []) $ split ! $ move ! (1 ∷ []) $ split ! $ move ! (1 ∷ []) $ drop ! $ move ! (46 ∷ []) $ fsplit ! $ drop ! $ fsplit ! $
@@ -130,7 +130,7 @@ module _ {M : Type 1} {𝓤 : Ura M} (𝓛 : Logic 𝓤) (mem : Memory → SProp
         lft_new ! tt (λ α. move ! (26 ∷ []) $ lends 𝓛 ! tt (α ∷ []) l₁₂ n rows (Rows.val rows) rows_is few (λ γ.
         -- the call, with what it asks put together
         nothing ! $ nothing ! $ move ! (5 ∷ 0 ∷ []) $ fjoin ! $
-        owned ! (heldNumber w64).row (Is (heldNumber w64).row) ((heldNumber w64).makes 𝓛) next ((heldNumber w64).val next ∷ []) next-is $ fjoin ! $
+        owned ! (held_number w64).row (Is (held_number w64).row) ((held_number w64).makes 𝓛) next ((held_number w64).val next ∷ []) next-is $ fjoin ! $
         owned ! Queuesᴴ.row (Is Queuesᴴ.row) (Queuesᴴ.makes 𝓛) queues (Queuesᴴ.val queues ∷ []) queues-is $ fjoin ! $ move ! (5 ∷ 0 ∷ []) $ fjoin ! $ move ! (5 ∷ 0 ∷ []) $ fjoin ! $
         owned ! LogOverlaysᴴ.row (Is LogOverlaysᴴ.row) (LogOverlaysᴴ.makes 𝓛) overlays (LogOverlaysᴴ.val overlays ∷ []) overlays-is $ fjoin ! $ move ! (5 ∷ 0 ∷ []) $ fjoin ! $
         move ! (5 ∷ 0 ∷ []) $ fjoin ! $ owned ! LogChangeᴴ.row (Is LogChangeᴴ.row) (LogChangeᴴ.makes 𝓛) list (LogChangeᴴ.val list ∷ []) list-is $ fjoin ! $ move ! (2 ∷ 0 ∷ []) $
@@ -156,10 +156,10 @@ module _ {M : Type 1} {𝓤 : Ura M} (𝓛 : Logic 𝓤) (mem : Memory → SProp
 meets : {M : Type 1} {𝓤 : Ura M} (𝓛 : Logic 𝓤) → (mem : Memory → SProp 𝓤) (run : Routine → Fun 𝓤) (𝓣 : Tables 𝓤 𝓛.H) → Triple 𝓤 (𝓣.C #callee) (Callee 𝓛 mem run)
     → Meets 𝓛 entry.signature (WpFn 𝓤 𝓛.H 𝓣.C 𝓣.Λ code.function) (entry.spec 𝓛 mem run)
 meets {𝓤 = 𝓤} 𝓛 mem run 𝓣 known-callee =
-    walk_Meets 𝓛 entry.ended stayed (Goes-dropped 𝓛 4 (plain (λ _. Rows.row)) yes (λ κs x f. refl), (Goes-dropped 𝓛 4 (plain (λ _. (heldNumber w64).row)) yes (λ κs x f. refl), (Goes-dropped 𝓛 4 (plain (λ _. LogChangeᴴ.row)) yes (λ κs x f. refl), (Goes-dropped 𝓛 4 (shr_slice_of (0 ∷ []) tt (plain (λ _. u64))) yes (λ κs x f. refl), (Goes-dropped 𝓛 4 (shr_slice_of (0 ∷ []) tt (plain (λ _. u8))) yes (λ κs x f. refl), (Goes-dropped 𝓛 4 (plain (λ _. LogOverlaysᴴ.row)) yes (λ κs x f. refl), (Goes-gave_slice 𝓛 4 1 tt (plain (λ _. u64)), (Goes-gave_slice 𝓛 4 2 tt (plain (λ _. u8)), (Goes-dropped 𝓛 4 (plain (λ _. Queuesᴴ.row)) yes (λ κs x f. refl), (Goes-dropped 𝓛 4 (plain (λ _. (heldNumber w64).row)) yes (λ κs x f. refl), (Goes-gave_slice 𝓛 4 3 tt (plain (λ _. u8)), tt)))))))))))
+    walk_Meets 𝓛 entry.ended stayed (Goes-dropped 𝓛 4 (plain (λ _. Rows.row)) yes (λ κs x f. refl), (Goes-dropped 𝓛 4 (plain (λ _. (held_number w64).row)) yes (λ κs x f. refl), (Goes-dropped 𝓛 4 (plain (λ _. LogChangeᴴ.row)) yes (λ κs x f. refl), (Goes-dropped 𝓛 4 (shr_slice_of (0 ∷ []) tt (plain (λ _. u64))) yes (λ κs x f. refl), (Goes-dropped 𝓛 4 (shr_slice_of (0 ∷ []) tt (plain (λ _. u8))) yes (λ κs x f. refl), (Goes-dropped 𝓛 4 (plain (λ _. LogOverlaysᴴ.row)) yes (λ κs x f. refl), (Goes-gave_slice 𝓛 4 1 tt (plain (λ _. u64)), (Goes-gave_slice 𝓛 4 2 tt (plain (λ _. u8)), (Goes-dropped 𝓛 4 (plain (λ _. Queuesᴴ.row)) yes (λ κs x f. refl), (Goes-dropped 𝓛 4 (plain (λ _. (held_number w64).row)) yes (λ κs x f. refl), (Goes-gave_slice 𝓛 4 3 tt (plain (λ _. u8)), tt)))))))))))
     (entry.clauses 𝓛 mem run) (WpFn 𝓤 𝓛.H 𝓣.C 𝓣.Λ code.function) (WpFn-mono 𝓤 𝓛.H 𝓛.laws 𝓣 code.function)
-    (walked 𝓛 entry.ended stayed (entry.clauses 𝓛 mem run) (WpFn 𝓤 𝓛.H 𝓣.C 𝓣.Λ code.function) (λ κs. ((λ x. Rows.val x ∷ []), ((λ x. (heldNumber w64).val x ∷ []), ((λ x. LogChangeᴴ.val x ∷ []), (shr_slice_vals, (shr_slice_vals, ((λ x. LogOverlaysᴴ.val x ∷ []), (shr_slice_vals, (shr_slice_vals, ((λ x. Queuesᴴ.val x ∷ []), ((λ x. (heldNumber w64).val x ∷ []), (shr_slice_vals, tt))))))))))))
-    (λ κs. (Rows.tells, ((heldNumber w64).tells, (LogChangeᴴ.tells, (shr_slice_Tells (named 0) κs.0 u64, (shr_slice_Tells (named 0) κs.0 u8, (LogOverlaysᴴ.tells, (mut_slice_Tells (named 1) κs.1.0 u64, (mut_slice_Tells (named 2) κs.1.1.0 u8, (Queuesᴴ.tells, ((heldNumber w64).tells, (mut_slice_Tells (named 3) κs.1.1.1.0 u8, tt))))))))))))
+    (walked 𝓛 entry.ended stayed (entry.clauses 𝓛 mem run) (WpFn 𝓤 𝓛.H 𝓣.C 𝓣.Λ code.function) (λ κs. ((λ x. Rows.val x ∷ []), ((λ x. (held_number w64).val x ∷ []), ((λ x. LogChangeᴴ.val x ∷ []), (shr_slice_vals, (shr_slice_vals, ((λ x. LogOverlaysᴴ.val x ∷ []), (shr_slice_vals, (shr_slice_vals, ((λ x. Queuesᴴ.val x ∷ []), ((λ x. (held_number w64).val x ∷ []), (shr_slice_vals, tt))))))))))))
+    (λ κs. (Rows.tells, ((held_number w64).tells, (LogChangeᴴ.tells, (shr_slice_Tells (named 0) κs.0 u64, (shr_slice_Tells (named 0) κs.0 u8, (LogOverlaysᴴ.tells, (mut_slice_Tells (named 1) κs.1.0 u64, (mut_slice_Tells (named 2) κs.1.1.0 u8, (Queuesᴴ.tells, ((held_number w64).tells, (mut_slice_Tells (named 3) κs.1.1.1.0 u8, tt))))))))))))
     (λ κs qs bounds a g are. needs 𝓤 (a.1.0 ≤ 17) _ (λ few. walk 𝓛 mem run κs.0 κs.1.0 κs.1.1.0 κs.1.1.1.0 qs.0 qs.1.0 qs.1.1.0 qs.1.1.1.0 a.0 a.1.0 a.1.1.0 a.1.1.1.0 a.1.1.1.1.0 a.1.1.1.1.1.0 a.1.1.1.1.1.1.0 a.1.1.1.1.1.1.1.0 a.1.1.1.1.1.1.1.1.0 a.1.1.1.1.1.1.1.1.1.0 a.1.1.1.1.1.1.1.1.1.1.0 are.0 are.1.0 are.1.1.0 are.1.1.1.1.1.0 are.1.1.1.1.1.1.1.1.0 are.1.1.1.1.1.1.1.1.1.0
     𝓣.C 𝓣.Λ (fm_of 𝓤 𝓛.H 𝓛.laws 𝓣) known-callee few are.1.1.1.0.0.1 are.1.1.1.1.0.0.1 are.1.1.1.1.1.1.0.0.1 are.1.1.1.1.1.1.1.0.0.1 are.1.1.1.1.1.1.1.1.1.1.0.0.1)))
 

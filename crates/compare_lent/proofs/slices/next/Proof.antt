@@ -37,7 +37,7 @@ use denote.Exit.{yes}
 use Rattle.directory.specs.declared.table.TableDescription.{TableDescription}
 use seplogic.Ra.TreeShare.{full_share}
 use types.Tokens.{lft_new, lft_end}
-use Rattle.lent.proofs.Held.{Held, heldNumber, heldStruct, heldEnum, lentVal}
+use Rattle.lent.proofs.Held.{Held, held_number, held_struct, held_enum, lent_val}
 use Rattle.lent.proofs.Lending.{Rows, part, few-fits, lends, comes_back, unsaid}
 use Rattle.record.specs.contracts.reader.LogReader as LogReader
 use Rattle.record.proofs.reader.LogReader.TheLaws as LogReader'
@@ -53,24 +53,24 @@ use Rattle.compare_lent.proofs.slices.next.Statement as stated
 use Rattle.compare_lent.proofs.slices.next.Code as code
 
 abbrev LogReaderᴴ : Held
-LogReaderᴴ = heldStruct LogReader.the_type LogReader'.the_laws LogReader'.the_plain
+LogReaderᴴ = held_struct LogReader.the_type LogReader'.the_laws LogReader'.the_plain
 
 abbrev Stepᴴ : Held
-Stepᴴ = heldEnum Step.the_type Step'.the_laws Step'.the_plain tt
+Stepᴴ = held_enum Step.the_type Step'.the_laws Step'.the_plain tt
 
 abbrev stayed : Stays (entry.ended).signature.params (entry.ended).kept
-stayed = (stay_dropped (plain (λ _. LogReaderᴴ.row)) yes, (stay_dropped (plain (λ _. Rows.row)) yes, (stay_dropped (plain (λ _. (heldNumber w64).row)) yes, (stay_dropped (shr_slice_of (0 ∷ []) tt (plain (λ _. u8))) yes, tt))))
+stayed = (stay_dropped (plain (λ _. LogReaderᴴ.row)) yes, (stay_dropped (plain (λ _. Rows.row)) yes, (stay_dropped (plain (λ _. (held_number w64).row)) yes, (stay_dropped (shr_slice_of (0 ∷ []) tt (plain (λ _. u8))) yes, tt))))
 
 module _ {M : Type 1} {𝓤 : Ura M} (𝓛 : Logic 𝓤) (mem : Memory → SProp 𝓤) (run : Routine → Fun 𝓤) where
   abbrev Callee : Contract 𝓤
   Callee = triple_of 𝓛 callee.signature (callee.spec 𝓛 mem run)
 
 module _ {M : Type 1} {𝓤 : Ura M} (𝓛 : Logic 𝓤) (mem : Memory → SProp 𝓤) (run : Routine → Fun 𝓤) (κ₀ : Lft) (q₀ : Share)
-    (reader : LogReaderᴴ.row.Denot) (rows : Rows.row.Denot) (n : (heldNumber w64).row.Denot) (log : Bor (List ℕ)) (reader-is : Is LogReaderᴴ.row reader (LogReaderᴴ.val reader ∷ [])) (rows_is : Is Rows.row rows (Rows.val rows ∷ [])) (n-is : Is (heldNumber w64).row n ((heldNumber w64).val n ∷ [])) where
+    (reader : LogReaderᴴ.row.Denot) (rows : Rows.row.Denot) (n : (held_number w64).row.Denot) (log : Bor (List ℕ)) (reader-is : Is LogReaderᴴ.row reader (LogReaderᴴ.val reader ∷ [])) (rows_is : Is Rows.row rows (Rows.val rows ∷ [])) (n-is : Is (held_number w64).row n ((held_number w64).val n ∷ [])) where
   open 𝓛 use {H}
 
   abbrev here : (walk_of 𝓛 entry.ended stayed (entry.clauses 𝓛 mem run)).Ghost
-  here = (((κ₀, tt), (q₀, tt), tt, (reader, (rows, (n, (log, tt)))), (LogReaderᴴ.val reader ∷ [], (Rows.val rows ∷ [], ((heldNumber w64).val n ∷ [], (lentVal log ∷ [], tt))))), tt)
+  here = (((κ₀, tt), (q₀, tt), tt, (reader, (rows, (n, (log, tt)))), (LogReaderᴴ.val reader ∷ [], (Rows.val rows ∷ [], ((held_number w64).val n ∷ [], (lent_val log ∷ [], tt))))), tt)
 
   abbrev Post : Val → SProp 𝓤
   Post = (walk_of 𝓛 entry.ended stayed (entry.clauses 𝓛 mem run)).post here
@@ -86,15 +86,15 @@ module _ {M : Type 1} {𝓤 : Ura M} (𝓛 : Logic 𝓤) (mem : Memory → SProp
   callee-args κ x = (reader, (x, (log, tt)))
 
   abbrev to-callee : Lft → Bor (List TableDescription) → (Callee 𝓛 mem run).Ghost
-  to-callee κ x = (((κ, (κ₀, tt)), (full_share, (q₀, tt)), tt, callee-args κ x, (LogReaderᴴ.val reader ∷ [], (slice_val x.ptr n ∷ [], (lentVal log ∷ [], tt)))), tt)
+  to-callee κ x = (((κ, (κ₀, tt)), (full_share, (q₀, tt)), tt, callee-args κ x, (LogReaderᴴ.val reader ∷ [], (slice_val x.ptr n ∷ [], (lent_val log ∷ [], tt)))), tt)
 
   module _ (C : Calls 𝓤 H) (Λ : Loops 𝓤 H) (fm : FmC 𝓤 H 𝓛.laws C) (known-callee : Triple 𝓤 (C #callee) (Callee 𝓛 mem run)) where
-    walk : n ≤ 17 → Room u8 (length log.now) → ent 𝓤 (on_entry 𝓛 entry.signature (κ₀, tt) (q₀, tt) (reader, (rows, (n, (log, tt)))) (LogReaderᴴ.val reader ∷ [], (Rows.val rows ∷ [], ((heldNumber w64).val n ∷ [], (lentVal log ∷ [], tt))))) (WpFn 𝓤 H C Λ code.function (LogReaderᴴ.val reader ∷ Rows.val rows ∷ (heldNumber w64).val n ∷ lentVal log ∷ []) Post)
+    walk : n ≤ 17 → Room u8 (length log.now) → ent 𝓤 (on_entry 𝓛 entry.signature (κ₀, tt) (q₀, tt) (reader, (rows, (n, (log, tt)))) (LogReaderᴴ.val reader ∷ [], (Rows.val rows ∷ [], ((held_number w64).val n ∷ [], (lent_val log ∷ [], tt))))) (WpFn 𝓤 H C Λ code.function (LogReaderᴴ.val reader ∷ Rows.val rows ∷ (held_number w64).val n ∷ lent_val log ∷ []) Post)
     walk few log-room =
-        qed 𝓛 ((‵ (flft κ₀ q₀) ⊛ (‵ ftrue)) ∷ ‵ (owns (LogReaderᴴ.row ∷ Rows.row ∷ (heldNumber w64).row ∷ ShrSlice (named 0) κ₀ u8 ∷ []) (reader, (rows, (n, (log, tt)))) (LogReaderᴴ.val reader ∷ [], (Rows.val rows ∷ [], ((heldNumber w64).val n ∷ [], (lentVal log ∷ [], tt))))) ∷ []) ∵ enter ! C Λ code.function (LogReaderᴴ.val reader ∷ Rows.val rows ∷ (heldNumber w64).val n ∷ lentVal log ∷ []) _ $
+        qed 𝓛 ((‵ (flft κ₀ q₀) ⊛ (‵ ftrue)) ∷ ‵ (owns (LogReaderᴴ.row ∷ Rows.row ∷ (held_number w64).row ∷ ShrSlice (named 0) κ₀ u8 ∷ []) (reader, (rows, (n, (log, tt)))) (LogReaderᴴ.val reader ∷ [], (Rows.val rows ∷ [], ((held_number w64).val n ∷ [], (lent_val log ∷ [], tt))))) ∷ []) ∵ enter ! C Λ code.function (LogReaderᴴ.val reader ∷ Rows.val rows ∷ (held_number w64).val n ∷ lent_val log ∷ []) _ $
         alloc1 ! (λ l₀. alloc1 ! (λ l₁. alloc1 ! (λ l₂. alloc1 ! (λ l₃. alloc1 ! (λ l₄. alloc1 ! (λ l₅. alloc1 ! (λ l₆. alloc1 ! (λ l₇. alloc0 ! $ params1 ! $
         pass1 ! (init ! 12 refl ((LogReaderᴴ.lawful 𝓛).typed reader _ reader-is).0) $ pass1 ! (init ! 10 refl ((Rows.lawful 𝓛).typed rows _ rows_is).0) $
-        pass1 ! (init ! 8 refl (((heldNumber w64).lawful 𝓛).typed n _ n-is).0) $ pass1 ! (init ! 6 refl (tt, (tt, (record { fits = log-room.0 }, tt)))) $ pass0 ! $
+        pass1 ! (init ! 8 refl (((held_number w64).lawful 𝓛).typed n _ n-is).0) $ pass1 ! (init ! 6 refl (tt, (tt, (record { fits = log-room.0 }, tt)))) $ pass0 ! $
         -- each token and what each reference owns by itself
         move ! (16 ∷ []) $ split ! $ move ! (1 ∷ []) $ drop ! $ move ! (17 ∷ []) $ fsplit ! $ drop ! $ fsplit ! $ drop ! $ fsplit ! $ drop ! $ fsplit ! $ move ! (1 ∷ []) $ drop ! $
         -- the copy of the rows, and the references that the call takes
@@ -121,10 +121,10 @@ module _ {M : Type 1} {𝓤 : Ura M} (𝓛 : Logic 𝓤) (mem : Memory → SProp
 meets : {M : Type 1} {𝓤 : Ura M} (𝓛 : Logic 𝓤) → (mem : Memory → SProp 𝓤) (run : Routine → Fun 𝓤) (𝓣 : Tables 𝓤 𝓛.H) → Triple 𝓤 (𝓣.C #callee) (Callee 𝓛 mem run)
     → Meets 𝓛 entry.signature (WpFn 𝓤 𝓛.H 𝓣.C 𝓣.Λ code.function) (entry.spec 𝓛 mem run)
 meets {𝓤 = 𝓤} 𝓛 mem run 𝓣 known-callee =
-    walk_Meets 𝓛 entry.ended stayed (Goes-dropped 𝓛 1 (plain (λ _. LogReaderᴴ.row)) yes (λ κs x f. refl), (Goes-dropped 𝓛 1 (plain (λ _. Rows.row)) yes (λ κs x f. refl), (Goes-dropped 𝓛 1 (plain (λ _. (heldNumber w64).row)) yes (λ κs x f. refl), (Goes-dropped 𝓛 1 (shr_slice_of (0 ∷ []) tt (plain (λ _. u8))) yes (λ κs x f. refl), tt))))
+    walk_Meets 𝓛 entry.ended stayed (Goes-dropped 𝓛 1 (plain (λ _. LogReaderᴴ.row)) yes (λ κs x f. refl), (Goes-dropped 𝓛 1 (plain (λ _. Rows.row)) yes (λ κs x f. refl), (Goes-dropped 𝓛 1 (plain (λ _. (held_number w64).row)) yes (λ κs x f. refl), (Goes-dropped 𝓛 1 (shr_slice_of (0 ∷ []) tt (plain (λ _. u8))) yes (λ κs x f. refl), tt))))
     (entry.clauses 𝓛 mem run) (WpFn 𝓤 𝓛.H 𝓣.C 𝓣.Λ code.function) (WpFn-mono 𝓤 𝓛.H 𝓛.laws 𝓣 code.function)
-    (walked 𝓛 entry.ended stayed (entry.clauses 𝓛 mem run) (WpFn 𝓤 𝓛.H 𝓣.C 𝓣.Λ code.function) (λ κs. ((λ x. LogReaderᴴ.val x ∷ []), ((λ x. Rows.val x ∷ []), ((λ x. (heldNumber w64).val x ∷ []), (shr_slice_vals, tt)))))
-    (λ κs. (LogReaderᴴ.tells, (Rows.tells, ((heldNumber w64).tells, (shr_slice_Tells (named 0) κs.0 u8, tt)))))
+    (walked 𝓛 entry.ended stayed (entry.clauses 𝓛 mem run) (WpFn 𝓤 𝓛.H 𝓣.C 𝓣.Λ code.function) (λ κs. ((λ x. LogReaderᴴ.val x ∷ []), ((λ x. Rows.val x ∷ []), ((λ x. (held_number w64).val x ∷ []), (shr_slice_vals, tt)))))
+    (λ κs. (LogReaderᴴ.tells, (Rows.tells, ((held_number w64).tells, (shr_slice_Tells (named 0) κs.0 u8, tt)))))
     (λ κs qs bounds a g are. needs 𝓤 (a.1.1.0 ≤ 17) _ (λ few. walk 𝓛 mem run κs.0 qs.0 a.0 a.1.0 a.1.1.0 a.1.1.1.0 are.0 are.1.0 are.1.1.0
     𝓣.C 𝓣.Λ (fm_of 𝓤 𝓛.H 𝓛.laws 𝓣) known-callee few are.1.1.1.0.0.1)))
 

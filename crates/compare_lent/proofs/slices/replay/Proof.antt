@@ -37,7 +37,7 @@ use denote.Exit.{yes}
 use Rattle.directory.specs.declared.table.TableDescription.{TableDescription}
 use seplogic.Ra.TreeShare.{full_share}
 use types.Tokens.{lft_new, lft_end}
-use Rattle.lent.proofs.Held.{Held, heldNumber, heldStruct, lentVal}
+use Rattle.lent.proofs.Held.{Held, held_number, held_struct, lent_val}
 use Rattle.lent.proofs.Lending.{Rows, part, few-fits, lends, comes_back, unsaid}
 use Rattle.replay.specs.contracts.one_record.Replayed as Replayed
 use Rattle.replay.proofs.one_record.Replayed.TheLaws as Replayed'
@@ -51,21 +51,21 @@ use Rattle.compare_lent.proofs.slices.replay.Statement as stated
 use Rattle.compare_lent.proofs.slices.replay.Code as code
 
 abbrev Replayedᴴ : Held
-Replayedᴴ = heldStruct Replayed.the_type Replayed'.the_laws Replayed'.the_plain
+Replayedᴴ = held_struct Replayed.the_type Replayed'.the_laws Replayed'.the_plain
 
 abbrev stayed : Stays (entry.ended).signature.params (entry.ended).kept
-stayed = (stay_dropped (plain (λ _. Rows.row)) yes, (stay_dropped (plain (λ _. (heldNumber w64).row)) yes, (stay_dropped (shr_slice_of (0 ∷ []) tt (plain (λ _. u8))) yes, (stay_dropped (plain (λ _. (heldNumber w64).row)) yes, (stay_dropped (plain (λ _. (heldNumber w64).row)) yes, (gave_slice (1 ∷ []) tt (plain (λ _. u8)), tt))))))
+stayed = (stay_dropped (plain (λ _. Rows.row)) yes, (stay_dropped (plain (λ _. (held_number w64).row)) yes, (stay_dropped (shr_slice_of (0 ∷ []) tt (plain (λ _. u8))) yes, (stay_dropped (plain (λ _. (held_number w64).row)) yes, (stay_dropped (plain (λ _. (held_number w64).row)) yes, (gave_slice (1 ∷ []) tt (plain (λ _. u8)), tt))))))
 
 module _ {M : Type 1} {𝓤 : Ura M} (𝓛 : Logic 𝓤) (mem : Memory → SProp 𝓤) (run : Routine → Fun 𝓤) where
   abbrev Callee : Contract 𝓤
   Callee = triple_of 𝓛 callee.signature (callee.spec 𝓛 mem run)
 
 module _ {M : Type 1} {𝓤 : Ura M} (𝓛 : Logic 𝓤) (mem : Memory → SProp 𝓤) (run : Routine → Fun 𝓤) (κ₀ κ₁ : Lft) (q₀ q₁ : Share)
-    (rows : Rows.row.Denot) (n : (heldNumber w64).row.Denot) (log : Bor (List ℕ)) (at : (heldNumber w64).row.Denot) (expected : (heldNumber w64).row.Denot) (image : Bor (List ℕ)) (rows_is : Is Rows.row rows (Rows.val rows ∷ [])) (n-is : Is (heldNumber w64).row n ((heldNumber w64).val n ∷ [])) (at-is : Is (heldNumber w64).row at ((heldNumber w64).val at ∷ [])) (expected-is : Is (heldNumber w64).row expected ((heldNumber w64).val expected ∷ [])) where
+    (rows : Rows.row.Denot) (n : (held_number w64).row.Denot) (log : Bor (List ℕ)) (at : (held_number w64).row.Denot) (expected : (held_number w64).row.Denot) (image : Bor (List ℕ)) (rows_is : Is Rows.row rows (Rows.val rows ∷ [])) (n-is : Is (held_number w64).row n ((held_number w64).val n ∷ [])) (at-is : Is (held_number w64).row at ((held_number w64).val at ∷ [])) (expected-is : Is (held_number w64).row expected ((held_number w64).val expected ∷ [])) where
   open 𝓛 use {H}
 
   abbrev here : (walk_of 𝓛 entry.ended stayed (entry.clauses 𝓛 mem run)).Ghost
-  here = (((κ₀, (κ₁, tt)), (q₀, (q₁, tt)), tt, (rows, (n, (log, (at, (expected, (image, tt)))))), (Rows.val rows ∷ [], ((heldNumber w64).val n ∷ [], (lentVal log ∷ [], ((heldNumber w64).val at ∷ [], ((heldNumber w64).val expected ∷ [], (lentVal image ∷ [], tt))))))), tt)
+  here = (((κ₀, (κ₁, tt)), (q₀, (q₁, tt)), tt, (rows, (n, (log, (at, (expected, (image, tt)))))), (Rows.val rows ∷ [], ((held_number w64).val n ∷ [], (lent_val log ∷ [], ((held_number w64).val at ∷ [], ((held_number w64).val expected ∷ [], (lent_val image ∷ [], tt))))))), tt)
 
   abbrev Post : Val → SProp 𝓤
   Post = (walk_of 𝓛 entry.ended stayed (entry.clauses 𝓛 mem run)).post here
@@ -82,16 +82,16 @@ module _ {M : Type 1} {𝓤 : Ura M} (𝓛 : Logic 𝓤) (mem : Memory → SProp
   callee-args κ x = (x, (log, (at, (expected, (image, tt)))))
 
   abbrev to-callee : Lft → Bor (List TableDescription) → (Callee 𝓛 mem run).Ghost
-  to-callee κ x = (((κ, (κ₀, (κ₁, tt))), (full_share, (q₀, (q₁, tt))), tt, callee-args κ x, (slice_val x.ptr n ∷ [], (lentVal log ∷ [], ((heldNumber w64).val at ∷ [], ((heldNumber w64).val expected ∷ [], (lentVal image ∷ [], tt)))))), tt)
+  to-callee κ x = (((κ, (κ₀, (κ₁, tt))), (full_share, (q₀, (q₁, tt))), tt, callee-args κ x, (slice_val x.ptr n ∷ [], (lent_val log ∷ [], ((held_number w64).val at ∷ [], ((held_number w64).val expected ∷ [], (lent_val image ∷ [], tt)))))), tt)
 
   module _ (C : Calls 𝓤 H) (Λ : Loops 𝓤 H) (fm : FmC 𝓤 H 𝓛.laws C) (known-callee : Triple 𝓤 (C #callee) (Callee 𝓛 mem run)) where
-    walk : n ≤ 17 → Room u8 (length log.now) → Room u8 (length image.now) → ent 𝓤 (on_entry 𝓛 entry.signature (κ₀, (κ₁, tt)) (q₀, (q₁, tt)) (rows, (n, (log, (at, (expected, (image, tt)))))) (Rows.val rows ∷ [], ((heldNumber w64).val n ∷ [], (lentVal log ∷ [], ((heldNumber w64).val at ∷ [], ((heldNumber w64).val expected ∷ [], (lentVal image ∷ [], tt))))))) (WpFn 𝓤 H C Λ code.function (Rows.val rows ∷ (heldNumber w64).val n ∷ lentVal log ∷ (heldNumber w64).val at ∷ (heldNumber w64).val expected ∷ lentVal image ∷ []) Post)
+    walk : n ≤ 17 → Room u8 (length log.now) → Room u8 (length image.now) → ent 𝓤 (on_entry 𝓛 entry.signature (κ₀, (κ₁, tt)) (q₀, (q₁, tt)) (rows, (n, (log, (at, (expected, (image, tt)))))) (Rows.val rows ∷ [], ((held_number w64).val n ∷ [], (lent_val log ∷ [], ((held_number w64).val at ∷ [], ((held_number w64).val expected ∷ [], (lent_val image ∷ [], tt))))))) (WpFn 𝓤 H C Λ code.function (Rows.val rows ∷ (held_number w64).val n ∷ lent_val log ∷ (held_number w64).val at ∷ (held_number w64).val expected ∷ lent_val image ∷ []) Post)
     walk few log-room image-room =
-        qed 𝓛 ((‵ (flft κ₀ q₀) ⊛ (‵ (flft κ₁ q₁) ⊛ (‵ ftrue))) ∷ ‵ (owns (Rows.row ∷ (heldNumber w64).row ∷ ShrSlice (named 0) κ₀ u8 ∷ (heldNumber w64).row ∷ (heldNumber w64).row ∷ MutSlice (named 1) κ₁ u8 ∷ []) (rows, (n, (log, (at, (expected, (image, tt)))))) (Rows.val rows ∷ [], ((heldNumber w64).val n ∷ [], (lentVal log ∷ [], ((heldNumber w64).val at ∷ [], ((heldNumber w64).val expected ∷ [], (lentVal image ∷ [], tt))))))) ∷ []) ∵ enter ! C Λ code.function (Rows.val rows ∷ (heldNumber w64).val n ∷ lentVal log ∷ (heldNumber w64).val at ∷ (heldNumber w64).val expected ∷ lentVal image ∷ []) _ $
+        qed 𝓛 ((‵ (flft κ₀ q₀) ⊛ (‵ (flft κ₁ q₁) ⊛ (‵ ftrue))) ∷ ‵ (owns (Rows.row ∷ (held_number w64).row ∷ ShrSlice (named 0) κ₀ u8 ∷ (held_number w64).row ∷ (held_number w64).row ∷ MutSlice (named 1) κ₁ u8 ∷ []) (rows, (n, (log, (at, (expected, (image, tt)))))) (Rows.val rows ∷ [], ((held_number w64).val n ∷ [], (lent_val log ∷ [], ((held_number w64).val at ∷ [], ((held_number w64).val expected ∷ [], (lent_val image ∷ [], tt))))))) ∷ []) ∵ enter ! C Λ code.function (Rows.val rows ∷ (held_number w64).val n ∷ lent_val log ∷ (held_number w64).val at ∷ (held_number w64).val expected ∷ lent_val image ∷ []) _ $
         alloc1 ! (λ l₀. alloc1 ! (λ l₁. alloc1 ! (λ l₂. alloc1 ! (λ l₃. alloc1 ! (λ l₄. alloc1 ! (λ l₅. alloc1 ! (λ l₆. alloc1 ! (λ l₇. alloc1 ! (λ l₈. alloc1 ! (λ l₉. alloc1 ! (λ l₁₀.
         alloc1 ! (λ l₁₁. alloc0 ! $ params1 ! $ pass1 ! (init ! 20 refl ((Rows.lawful 𝓛).typed rows _ rows_is).0) $
-        pass1 ! (init ! 18 refl (((heldNumber w64).lawful 𝓛).typed n _ n-is).0) $ pass1 ! (init ! 16 refl (tt, (tt, (record { fits = log-room.0 }, tt)))) $
-        pass1 ! (init ! 14 refl (((heldNumber w64).lawful 𝓛).typed at _ at-is).0) $ pass1 ! (init ! 12 refl (((heldNumber w64).lawful 𝓛).typed expected _ expected-is).0) $
+        pass1 ! (init ! 18 refl (((held_number w64).lawful 𝓛).typed n _ n-is).0) $ pass1 ! (init ! 16 refl (tt, (tt, (record { fits = log-room.0 }, tt)))) $
+        pass1 ! (init ! 14 refl (((held_number w64).lawful 𝓛).typed at _ at-is).0) $ pass1 ! (init ! 12 refl (((held_number w64).lawful 𝓛).typed expected _ expected-is).0) $
         pass1 ! (init ! 10 refl (tt, (tt, (record { fits = image-room.0 }, tt)))) $ pass0 ! $
         -- each token and what each reference owns by itself
         move ! (24 ∷ []) $ split ! $ move ! (1 ∷ []) $ split ! $ move ! (1 ∷ []) $ drop ! $ move ! (26 ∷ []) $ fsplit ! $ drop ! $ fsplit ! $ drop ! $ fsplit ! $ move ! (1 ∷ []) $ fsplit ! $ drop ! $
@@ -106,8 +106,8 @@ module _ {M : Type 1} {𝓤 : Ura M} (𝓛 : Logic 𝓤) (mem : Memory → SProp
         lft_new ! tt (λ α. move ! (13 ∷ []) $ lends 𝓛 ! tt (α ∷ []) l₇ n rows (Rows.val rows) rows_is few (λ γ.
         -- the call, with what it asks put together
         nothing ! $ nothing ! $ move ! (5 ∷ 0 ∷ []) $ fjoin ! $
-        owned ! (heldNumber w64).row (Is (heldNumber w64).row) ((heldNumber w64).makes 𝓛) expected ((heldNumber w64).val expected ∷ []) expected-is $ fjoin ! $
-        owned ! (heldNumber w64).row (Is (heldNumber w64).row) ((heldNumber w64).makes 𝓛) at ((heldNumber w64).val at ∷ []) at-is $ fjoin ! $ move ! (5 ∷ 0 ∷ []) $ fjoin ! $
+        owned ! (held_number w64).row (Is (held_number w64).row) ((held_number w64).makes 𝓛) expected ((held_number w64).val expected ∷ []) expected-is $ fjoin ! $
+        owned ! (held_number w64).row (Is (held_number w64).row) ((held_number w64).makes 𝓛) at ((held_number w64).val at ∷ []) at-is $ fjoin ! $ move ! (5 ∷ 0 ∷ []) $ fjoin ! $
         move ! (2 ∷ 0 ∷ []) $ fjoin ! $ nothing ! $ move ! (5 ∷ 0 ∷ []) $ join ! $ move ! (5 ∷ 0 ∷ []) $ join ! $ move ! (4 ∷ 0 ∷ []) $ join ! $ join ! $ join ! $
         use1 𝓛 (raw ((Callee 𝓛 mem run).pre (to-callee (α ∷ []) (part l₇ γ n rows)))) (id⊢ 𝓤 _) $
         calls_at ! fm (Callee 𝓛 mem run) known-callee (to-callee (α ∷ []) (part l₇ γ n rows)) (and_then ! (load ! (from ! (stop !)) (look ! 6 refl)) (and_then ! (load ! (from ! (stop !)) (look ! 17 refl)) (and_then ! (load ! (from ! (stop !)) (look ! 15 refl)) (and_then ! (load ! (from ! (stop !)) (look ! 13 refl)) (and_then ! (load ! (from ! (stop !)) (look ! 2 refl)) (no_more !)))))) (λ w.
@@ -126,10 +126,10 @@ module _ {M : Type 1} {𝓤 : Ura M} (𝓛 : Logic 𝓤) (mem : Memory → SProp
 meets : {M : Type 1} {𝓤 : Ura M} (𝓛 : Logic 𝓤) → (mem : Memory → SProp 𝓤) (run : Routine → Fun 𝓤) (𝓣 : Tables 𝓤 𝓛.H) → Triple 𝓤 (𝓣.C #callee) (Callee 𝓛 mem run)
     → Meets 𝓛 entry.signature (WpFn 𝓤 𝓛.H 𝓣.C 𝓣.Λ code.function) (entry.spec 𝓛 mem run)
 meets {𝓤 = 𝓤} 𝓛 mem run 𝓣 known-callee =
-    walk_Meets 𝓛 entry.ended stayed (Goes-dropped 𝓛 2 (plain (λ _. Rows.row)) yes (λ κs x f. refl), (Goes-dropped 𝓛 2 (plain (λ _. (heldNumber w64).row)) yes (λ κs x f. refl), (Goes-dropped 𝓛 2 (shr_slice_of (0 ∷ []) tt (plain (λ _. u8))) yes (λ κs x f. refl), (Goes-dropped 𝓛 2 (plain (λ _. (heldNumber w64).row)) yes (λ κs x f. refl), (Goes-dropped 𝓛 2 (plain (λ _. (heldNumber w64).row)) yes (λ κs x f. refl), (Goes-gave_slice 𝓛 2 1 tt (plain (λ _. u8)), tt))))))
+    walk_Meets 𝓛 entry.ended stayed (Goes-dropped 𝓛 2 (plain (λ _. Rows.row)) yes (λ κs x f. refl), (Goes-dropped 𝓛 2 (plain (λ _. (held_number w64).row)) yes (λ κs x f. refl), (Goes-dropped 𝓛 2 (shr_slice_of (0 ∷ []) tt (plain (λ _. u8))) yes (λ κs x f. refl), (Goes-dropped 𝓛 2 (plain (λ _. (held_number w64).row)) yes (λ κs x f. refl), (Goes-dropped 𝓛 2 (plain (λ _. (held_number w64).row)) yes (λ κs x f. refl), (Goes-gave_slice 𝓛 2 1 tt (plain (λ _. u8)), tt))))))
     (entry.clauses 𝓛 mem run) (WpFn 𝓤 𝓛.H 𝓣.C 𝓣.Λ code.function) (WpFn-mono 𝓤 𝓛.H 𝓛.laws 𝓣 code.function)
-    (walked 𝓛 entry.ended stayed (entry.clauses 𝓛 mem run) (WpFn 𝓤 𝓛.H 𝓣.C 𝓣.Λ code.function) (λ κs. ((λ x. Rows.val x ∷ []), ((λ x. (heldNumber w64).val x ∷ []), (shr_slice_vals, ((λ x. (heldNumber w64).val x ∷ []), ((λ x. (heldNumber w64).val x ∷ []), (shr_slice_vals, tt)))))))
-    (λ κs. (Rows.tells, ((heldNumber w64).tells, (shr_slice_Tells (named 0) κs.0 u8, ((heldNumber w64).tells, ((heldNumber w64).tells, (mut_slice_Tells (named 1) κs.1.0 u8, tt)))))))
+    (walked 𝓛 entry.ended stayed (entry.clauses 𝓛 mem run) (WpFn 𝓤 𝓛.H 𝓣.C 𝓣.Λ code.function) (λ κs. ((λ x. Rows.val x ∷ []), ((λ x. (held_number w64).val x ∷ []), (shr_slice_vals, ((λ x. (held_number w64).val x ∷ []), ((λ x. (held_number w64).val x ∷ []), (shr_slice_vals, tt)))))))
+    (λ κs. (Rows.tells, ((held_number w64).tells, (shr_slice_Tells (named 0) κs.0 u8, ((held_number w64).tells, ((held_number w64).tells, (mut_slice_Tells (named 1) κs.1.0 u8, tt)))))))
     (λ κs qs bounds a g are. needs 𝓤 (a.1.0 ≤ 17) _ (λ few. walk 𝓛 mem run κs.0 κs.1.0 qs.0 qs.1.0 a.0 a.1.0 a.1.1.0 a.1.1.1.0 a.1.1.1.1.0 a.1.1.1.1.1.0 are.0 are.1.0 are.1.1.1.0 are.1.1.1.1.0
     𝓣.C 𝓣.Λ (fm_of 𝓤 𝓛.H 𝓛.laws 𝓣) known-callee few are.1.1.0.0.1 are.1.1.1.1.1.0.0.1)))
 

@@ -37,7 +37,7 @@ use denote.Exit.{yes}
 use Rattle.directory.specs.declared.table.TableDescription.{TableDescription}
 use seplogic.Ra.TreeShare.{full_share}
 use types.Tokens.{lft_new, lft_end}
-use Rattle.lent.proofs.Held.{Held, heldNumber, heldStruct, lentVal}
+use Rattle.lent.proofs.Held.{Held, held_number, held_struct, lent_val}
 use Rattle.lent.proofs.Lending.{Rows, part, few-fits, lends, comes_back, unsaid}
 use Rattle.salvaging.specs.contracts.salvaged.Salvaged as Salvaged
 use Rattle.salvaging.proofs.salvaged.Salvaged.TheLaws as Salvaged'
@@ -51,21 +51,21 @@ use Rattle.compare_lent.proofs.slices.salvage.Statement as stated
 use Rattle.compare_lent.proofs.slices.salvage.Code as code
 
 abbrev Salvagedᴴ : Held
-Salvagedᴴ = heldStruct Salvaged.the_type Salvaged'.the_laws Salvaged'.the_plain
+Salvagedᴴ = held_struct Salvaged.the_type Salvaged'.the_laws Salvaged'.the_plain
 
 abbrev stayed : Stays (entry.ended).signature.params (entry.ended).kept
-stayed = (stay_dropped (plain (λ _. Rows.row)) yes, (stay_dropped (plain (λ _. (heldNumber w64).row)) yes, (stay_dropped (shr_slice_of (0 ∷ []) tt (plain (λ _. u8))) yes, (gave_slice (1 ∷ []) tt (plain (λ _. u8)), (gave_slice (2 ∷ []) tt (plain (λ _. u64)), tt)))))
+stayed = (stay_dropped (plain (λ _. Rows.row)) yes, (stay_dropped (plain (λ _. (held_number w64).row)) yes, (stay_dropped (shr_slice_of (0 ∷ []) tt (plain (λ _. u8))) yes, (gave_slice (1 ∷ []) tt (plain (λ _. u8)), (gave_slice (2 ∷ []) tt (plain (λ _. u64)), tt)))))
 
 module _ {M : Type 1} {𝓤 : Ura M} (𝓛 : Logic 𝓤) (mem : Memory → SProp 𝓤) (run : Routine → Fun 𝓤) where
   abbrev Callee : Contract 𝓤
   Callee = triple_of 𝓛 callee.signature (callee.spec 𝓛 mem run)
 
 module _ {M : Type 1} {𝓤 : Ura M} (𝓛 : Logic 𝓤) (mem : Memory → SProp 𝓤) (run : Routine → Fun 𝓤) (κ₀ κ₁ κ₂ : Lft) (q₀ q₁ q₂ : Share)
-    (rows : Rows.row.Denot) (n : (heldNumber w64).row.Denot) (log : Bor (List ℕ)) (out : Bor (List ℕ)) (list : Bor (List ℕ)) (rows_is : Is Rows.row rows (Rows.val rows ∷ [])) (n-is : Is (heldNumber w64).row n ((heldNumber w64).val n ∷ [])) where
+    (rows : Rows.row.Denot) (n : (held_number w64).row.Denot) (log : Bor (List ℕ)) (out : Bor (List ℕ)) (list : Bor (List ℕ)) (rows_is : Is Rows.row rows (Rows.val rows ∷ [])) (n-is : Is (held_number w64).row n ((held_number w64).val n ∷ [])) where
   open 𝓛 use {H}
 
   abbrev here : (walk_of 𝓛 entry.ended stayed (entry.clauses 𝓛 mem run)).Ghost
-  here = (((κ₀, (κ₁, (κ₂, tt))), (q₀, (q₁, (q₂, tt))), tt, (rows, (n, (log, (out, (list, tt))))), (Rows.val rows ∷ [], ((heldNumber w64).val n ∷ [], (lentVal log ∷ [], (lentVal out ∷ [], (lentVal list ∷ [], tt)))))), tt)
+  here = (((κ₀, (κ₁, (κ₂, tt))), (q₀, (q₁, (q₂, tt))), tt, (rows, (n, (log, (out, (list, tt))))), (Rows.val rows ∷ [], ((held_number w64).val n ∷ [], (lent_val log ∷ [], (lent_val out ∷ [], (lent_val list ∷ [], tt)))))), tt)
 
   abbrev Post : Val → SProp 𝓤
   Post = (walk_of 𝓛 entry.ended stayed (entry.clauses 𝓛 mem run)).post here
@@ -82,15 +82,15 @@ module _ {M : Type 1} {𝓤 : Ura M} (𝓛 : Logic 𝓤) (mem : Memory → SProp
   callee-args κ x = (x, (log, (out, (list, tt))))
 
   abbrev to-callee : Lft → Bor (List TableDescription) → (Callee 𝓛 mem run).Ghost
-  to-callee κ x = (((κ, (κ₀, (κ₁, (κ₂, tt)))), (full_share, (q₀, (q₁, (q₂, tt)))), tt, callee-args κ x, (slice_val x.ptr n ∷ [], (lentVal log ∷ [], (lentVal out ∷ [], (lentVal list ∷ [], tt))))), tt)
+  to-callee κ x = (((κ, (κ₀, (κ₁, (κ₂, tt)))), (full_share, (q₀, (q₁, (q₂, tt)))), tt, callee-args κ x, (slice_val x.ptr n ∷ [], (lent_val log ∷ [], (lent_val out ∷ [], (lent_val list ∷ [], tt))))), tt)
 
   module _ (C : Calls 𝓤 H) (Λ : Loops 𝓤 H) (fm : FmC 𝓤 H 𝓛.laws C) (known-callee : Triple 𝓤 (C #callee) (Callee 𝓛 mem run)) where
-    walk : n ≤ 17 → Room u8 (length log.now) → Room u8 (length out.now) → Room u64 (length list.now) → ent 𝓤 (on_entry 𝓛 entry.signature (κ₀, (κ₁, (κ₂, tt))) (q₀, (q₁, (q₂, tt))) (rows, (n, (log, (out, (list, tt))))) (Rows.val rows ∷ [], ((heldNumber w64).val n ∷ [], (lentVal log ∷ [], (lentVal out ∷ [], (lentVal list ∷ [], tt)))))) (WpFn 𝓤 H C Λ code.function (Rows.val rows ∷ (heldNumber w64).val n ∷ lentVal log ∷ lentVal out ∷ lentVal list ∷ []) Post)
+    walk : n ≤ 17 → Room u8 (length log.now) → Room u8 (length out.now) → Room u64 (length list.now) → ent 𝓤 (on_entry 𝓛 entry.signature (κ₀, (κ₁, (κ₂, tt))) (q₀, (q₁, (q₂, tt))) (rows, (n, (log, (out, (list, tt))))) (Rows.val rows ∷ [], ((held_number w64).val n ∷ [], (lent_val log ∷ [], (lent_val out ∷ [], (lent_val list ∷ [], tt)))))) (WpFn 𝓤 H C Λ code.function (Rows.val rows ∷ (held_number w64).val n ∷ lent_val log ∷ lent_val out ∷ lent_val list ∷ []) Post)
     walk few log-room out-room list-room =
-        qed 𝓛 ((‵ (flft κ₀ q₀) ⊛ (‵ (flft κ₁ q₁) ⊛ (‵ (flft κ₂ q₂) ⊛ (‵ ftrue)))) ∷ ‵ (owns (Rows.row ∷ (heldNumber w64).row ∷ ShrSlice (named 0) κ₀ u8 ∷ MutSlice (named 1) κ₁ u8 ∷ MutSlice (named 2) κ₂ u64 ∷ []) (rows, (n, (log, (out, (list, tt))))) (Rows.val rows ∷ [], ((heldNumber w64).val n ∷ [], (lentVal log ∷ [], (lentVal out ∷ [], (lentVal list ∷ [], tt)))))) ∷ []) ∵ enter ! C Λ code.function (Rows.val rows ∷ (heldNumber w64).val n ∷ lentVal log ∷ lentVal out ∷ lentVal list ∷ []) _ $
+        qed 𝓛 ((‵ (flft κ₀ q₀) ⊛ (‵ (flft κ₁ q₁) ⊛ (‵ (flft κ₂ q₂) ⊛ (‵ ftrue)))) ∷ ‵ (owns (Rows.row ∷ (held_number w64).row ∷ ShrSlice (named 0) κ₀ u8 ∷ MutSlice (named 1) κ₁ u8 ∷ MutSlice (named 2) κ₂ u64 ∷ []) (rows, (n, (log, (out, (list, tt))))) (Rows.val rows ∷ [], ((held_number w64).val n ∷ [], (lent_val log ∷ [], (lent_val out ∷ [], (lent_val list ∷ [], tt)))))) ∷ []) ∵ enter ! C Λ code.function (Rows.val rows ∷ (held_number w64).val n ∷ lent_val log ∷ lent_val out ∷ lent_val list ∷ []) _ $
         alloc1 ! (λ l₀. alloc1 ! (λ l₁. alloc1 ! (λ l₂. alloc1 ! (λ l₃. alloc1 ! (λ l₄. alloc1 ! (λ l₅. alloc1 ! (λ l₆. alloc1 ! (λ l₇. alloc1 ! (λ l₈. alloc1 ! (λ l₉. alloc1 ! (λ l₁₀.
         alloc1 ! (λ l₁₁. alloc1 ! (λ l₁₂. alloc0 ! $ params1 ! $ pass1 ! (init ! 22 refl ((Rows.lawful 𝓛).typed rows _ rows_is).0) $
-        pass1 ! (init ! 20 refl (((heldNumber w64).lawful 𝓛).typed n _ n-is).0) $ pass1 ! (init ! 18 refl (tt, (tt, (record { fits = log-room.0 }, tt)))) $
+        pass1 ! (init ! 20 refl (((held_number w64).lawful 𝓛).typed n _ n-is).0) $ pass1 ! (init ! 18 refl (tt, (tt, (record { fits = log-room.0 }, tt)))) $
         pass1 ! (init ! 16 refl (tt, (tt, (record { fits = out-room.0 }, tt)))) $ pass1 ! (init ! 14 refl (tt, (tt, (record { fits = list-room.0 }, tt)))) $ pass0 ! $
         -- each token and what each reference owns by itself
         move ! (26 ∷ []) $ split ! $ move ! (1 ∷ []) $ split ! $ move ! (1 ∷ []) $ split ! $ move ! (1 ∷ []) $ drop ! $ move ! (29 ∷ []) $ fsplit ! $ drop ! $ fsplit ! $ drop ! $ fsplit ! $
@@ -126,10 +126,10 @@ module _ {M : Type 1} {𝓤 : Ura M} (𝓛 : Logic 𝓤) (mem : Memory → SProp
 meets : {M : Type 1} {𝓤 : Ura M} (𝓛 : Logic 𝓤) → (mem : Memory → SProp 𝓤) (run : Routine → Fun 𝓤) (𝓣 : Tables 𝓤 𝓛.H) → Triple 𝓤 (𝓣.C #callee) (Callee 𝓛 mem run)
     → Meets 𝓛 entry.signature (WpFn 𝓤 𝓛.H 𝓣.C 𝓣.Λ code.function) (entry.spec 𝓛 mem run)
 meets {𝓤 = 𝓤} 𝓛 mem run 𝓣 known-callee =
-    walk_Meets 𝓛 entry.ended stayed (Goes-dropped 𝓛 3 (plain (λ _. Rows.row)) yes (λ κs x f. refl), (Goes-dropped 𝓛 3 (plain (λ _. (heldNumber w64).row)) yes (λ κs x f. refl), (Goes-dropped 𝓛 3 (shr_slice_of (0 ∷ []) tt (plain (λ _. u8))) yes (λ κs x f. refl), (Goes-gave_slice 𝓛 3 1 tt (plain (λ _. u8)), (Goes-gave_slice 𝓛 3 2 tt (plain (λ _. u64)), tt)))))
+    walk_Meets 𝓛 entry.ended stayed (Goes-dropped 𝓛 3 (plain (λ _. Rows.row)) yes (λ κs x f. refl), (Goes-dropped 𝓛 3 (plain (λ _. (held_number w64).row)) yes (λ κs x f. refl), (Goes-dropped 𝓛 3 (shr_slice_of (0 ∷ []) tt (plain (λ _. u8))) yes (λ κs x f. refl), (Goes-gave_slice 𝓛 3 1 tt (plain (λ _. u8)), (Goes-gave_slice 𝓛 3 2 tt (plain (λ _. u64)), tt)))))
     (entry.clauses 𝓛 mem run) (WpFn 𝓤 𝓛.H 𝓣.C 𝓣.Λ code.function) (WpFn-mono 𝓤 𝓛.H 𝓛.laws 𝓣 code.function)
-    (walked 𝓛 entry.ended stayed (entry.clauses 𝓛 mem run) (WpFn 𝓤 𝓛.H 𝓣.C 𝓣.Λ code.function) (λ κs. ((λ x. Rows.val x ∷ []), ((λ x. (heldNumber w64).val x ∷ []), (shr_slice_vals, (shr_slice_vals, (shr_slice_vals, tt))))))
-    (λ κs. (Rows.tells, ((heldNumber w64).tells, (shr_slice_Tells (named 0) κs.0 u8, (mut_slice_Tells (named 1) κs.1.0 u8, (mut_slice_Tells (named 2) κs.1.1.0 u64, tt))))))
+    (walked 𝓛 entry.ended stayed (entry.clauses 𝓛 mem run) (WpFn 𝓤 𝓛.H 𝓣.C 𝓣.Λ code.function) (λ κs. ((λ x. Rows.val x ∷ []), ((λ x. (held_number w64).val x ∷ []), (shr_slice_vals, (shr_slice_vals, (shr_slice_vals, tt))))))
+    (λ κs. (Rows.tells, ((held_number w64).tells, (shr_slice_Tells (named 0) κs.0 u8, (mut_slice_Tells (named 1) κs.1.0 u8, (mut_slice_Tells (named 2) κs.1.1.0 u64, tt))))))
     (λ κs qs bounds a g are. needs 𝓤 (a.1.0 ≤ 17) _ (λ few. walk 𝓛 mem run κs.0 κs.1.0 κs.1.1.0 qs.0 qs.1.0 qs.1.1.0 a.0 a.1.0 a.1.1.0 a.1.1.1.0 a.1.1.1.1.0 are.0 are.1.0
     𝓣.C 𝓣.Λ (fm_of 𝓤 𝓛.H 𝓛.laws 𝓣) known-callee few are.1.1.0.0.1 are.1.1.1.0.0.1 are.1.1.1.1.0.0.1)))
 

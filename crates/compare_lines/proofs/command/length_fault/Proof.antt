@@ -3,17 +3,17 @@ use mathlib.Core.Path.{◌≡◌, refl}
 use Prim.Native.Nat.{ℕ, ◌<◌, ◌≤◌}
 use native.Mathlib.Omega.{arith}
 use borrow.Author.Tests.{lt-ltb, le-ltb}
-use Rattle.compare_lines.specs.Fields.{lengthFault}
+use Rattle.compare_lines.specs.Fields.{length_fault}
 use Rattle.compare_lines.specs.declared.fault.Fault.TheVariants.{ShortCommand, LongCommand}
 use Rattle.compare_lines.proofs.command.length_fault.Statement.{statement}
 use Rattle.compare_lines.proofs.command.length_fault.Tie as tie
 
-short : (n wanted : ℕ) → n < wanted → ShortCommand ≡ lengthFault n wanted
-unfolding lengthFault
+short : (n wanted : ℕ) → n < wanted → ShortCommand ≡ length_fault n wanted
+unfolding length_fault
 short n wanted h = rw (lt-ltb n wanted h)
 
-long : (n wanted : ℕ) → wanted ≤ n → LongCommand ≡ lengthFault n wanted
-unfolding lengthFault
+long : (n wanted : ℕ) → wanted ≤ n → LongCommand ≡ length_fault n wanted
+unfolding length_fault
 long n wanted h = rw (le-ltb n wanted h)
 
 returns : tie.Need-returns

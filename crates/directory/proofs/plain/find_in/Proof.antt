@@ -3,15 +3,15 @@ use mathlib.Core.Path.{◌≡◌, refl, sym, ap, ◌∙◌}
 use Prim.Native.Nat.{◌-◌}
 use native.Mathlib.Omega.{arith}
 use lib.ListN.{take, drop}
-use Rattle.directory.specs.Directory.{findFrom}
-use Rattle.directory.specs.Inner.{rowsIn}
+use Rattle.directory.specs.Directory.{find_from}
+use Rattle.directory.specs.Inner.{rows_in}
 use Rattle.directory.specs.declared.directory.Found.TheVariants.{At}
 use Rattle.directory.proofs.Numbers.{plain-hit, plain-miss, plain-past, plain-whole}
 use Rattle.directory.proofs.plain.find_in.Statement.{statement}
 use Rattle.directory.proofs.plain.find_in.Tie as tie
 
 abbrev invariant-loop : tie.invariant-loop
-invariant-loop t kind number name n i₀ i = findFrom i (drop i (take n (rowsIn t 0 16))) kind number ≡ findFrom 0 (take n (rowsIn t 0 16)) kind number
+invariant-loop t kind number name n i₀ i = find_from i (drop i (take n (rows_in t 0 16))) kind number ≡ find_from 0 (take n (rows_in t 0 16)) kind number
 
 abbrev decreases-loop : tie.decreases-loop
 decreases-loop t kind number name n i₀ i = n - i

@@ -3,20 +3,20 @@ use mathlib.Core.Path.{◌≡◌, refl}
 use Prim.Native.Nat.{◌-◌, ◌*◌, ◌≤◌}
 use native.Mathlib.Omega.{arith}
 use lib.ListN.{length, take, length-map}
-use Rattle.directory.specs.Directory.{sizesOf}
+use Rattle.directory.specs.Directory.{sizes_of}
 use Rattle.directory.specs.Inner.{Rows}
-use Rattle.directory.proofs.Numbers.{sizes-more, rows_more}
+use Rattle.directory.proofs.Numbers.{sizes_more, rows_more}
 use Rattle.directory.proofs.plain.put_rows.Statement.{statement}
 use Rattle.directory.proofs.plain.put_rows.Tie as tie
 
 abbrev invariant-loop : tie.invariant-loop
-invariant-loop d t₀ start₀ i₀ t start i = (length t ≡ 81) × (i ≤ 16) × (start ≤ i * 4294967296) × (start ≡ sizesOf (take i d.tables)) × Rows t d.tables i
+invariant-loop d t₀ start₀ i₀ t start i = (length t ≡ 81) × (i ≤ 16) × (start ≤ i * 4294967296) × (start ≡ sizes_of (take i d.tables)) × Rows t d.tables i
 
 abbrev decreases-loop : tie.decreases-loop
 decreases-loop d t₀ start₀ i₀ t start i = 16 - i
 
 loop-holds : tie.Need-loop-init invariant-loop decreases-loop
-unfolding sizesOf
+unfolding sizes_of
 loop-holds c = (refl, omega arith, omega arith, refl, record { row = λ k h. absurd (omega arith) })
 
 mul-x : tie.Need-overflow-mul-x invariant-loop decreases-loop
@@ -48,7 +48,7 @@ loop-again c =
       c.before.put-row.ensures.0,
       omega arith,
       omega arith,
-      omega (arith, sizes-more ts l.loop.i (omega arith), c.size.ensures.0, l.loop.invariant.3),
+      omega (arith, sizes_more ts l.loop.i (omega arith), c.size.ensures.0, l.loop.invariant.3),
       rows_more c.before.put-row.new.0 l.loop.t ts l.loop.i l.loop.start l.loop.invariant.4 c.before.put-row.ensures.1 l.loop.invariant.3 c.before.put-row.ensures.2,
     )
 

@@ -1,6 +1,6 @@
 -- `code_of` meets its contract. Assumes nothing.
 use native.Mathlib.Omega.{arith}
-use Rattle.directory_text.proofs.Parts.{empty_code, some-code}
+use Rattle.directory_text.proofs.Parts.{empty_code, some_code}
 use borrow.Author.Rules.{rules}
 use Rattle.directory_text.proofs.line.code_of.Statement.{statement}
 use Rattle.directory_text.proofs.line.code_of.Tie as tie
@@ -27,7 +27,7 @@ table-for-requires : tie.Need-table-for-requires
 table-for-requires c κs = search rules
 
 returns-2 : tie.Need-returns-2
-returns-2 c = some-code _ c.before.before.before.before.pass-over.result c.before.before.before.pass-over2.result c.before.before.before.before.pass-over.ensures.2 c.before.before.before.pass-over2.ensures.2 c.before.before.if1.false (omega arith) (omega arith) c.table-for.ensures
+returns-2 c = some_code _ c.before.before.before.before.pass-over.result c.before.before.before.pass-over2.result c.before.before.before.before.pass-over.ensures.2 c.before.before.before.pass-over2.ensures.2 c.before.before.if1.false (omega arith) (omega arith) c.table-for.ensures
 
 pub code-of-spec : {M : Type 1} → statement M
 code-of-spec =

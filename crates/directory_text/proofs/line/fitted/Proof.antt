@@ -1,6 +1,6 @@
 -- `fitted` meets its contract. Assumes nothing.
 use native.Mathlib.Omega.{arith}
-use Rattle.directory_text.proofs.Parts.{fit_none, fit-large, fit-over, fit_is}
+use Rattle.directory_text.proofs.Parts.{fit_none, fit_large, fit-over, fit_is}
 use borrow.Author.Rules.{rules}
 use Rattle.directory_text.proofs.line.fitted.Statement.{statement}
 use Rattle.directory_text.proofs.line.fitted.Tie as tie
@@ -30,7 +30,7 @@ returns-2 : tie.Need-returns-2
 returns-2 c = fit_none _ _ _ c.before.enum_told.given.1 c.broken.ensures
 
 returns-3 : tie.Need-returns-3
-returns-3 c = fit-large _ _ _ c.before.enum-told2.given.1 c.broken2.ensures
+returns-3 c = fit_large _ _ _ c.before.enum-told2.given.1 c.broken2.ensures
 
 returns-4 : tie.Need-returns-4
 returns-4 c = fit_is _ _ _ _ c.before.before.number.given.1 (omega arith)

@@ -1,6 +1,6 @@
 -- `number_at` meets its contract. Assumes nothing.
 use native.Mathlib.Omega.{arith}
-use Rattle.directory_text.proofs.Parts.{took-none, took_one}
+use Rattle.directory_text.proofs.Parts.{took_none, took_one}
 use borrow.Author.Rules.{rules}
 use Rattle.directory_text.proofs.line.number_at.Statement.{statement}
 use Rattle.directory_text.proofs.line.number_at.Tie as tie
@@ -15,7 +15,7 @@ broken-requires : tie.Need-broken-requires
 broken-requires c κs = search rules
 
 returns : tie.Need-returns
-returns c = took-none _ _ c.before.before.before.pass-over.result c.before.before.pass-over2.result c.before.before.before.pass-over.ensures.2 c.before.before.pass-over2.ensures.2 _ _ (omega arith) c.before.if1.true c.broken.ensures
+returns c = took_none _ _ c.before.before.before.pass-over.result c.before.before.pass-over2.result c.before.before.before.pass-over.ensures.2 c.before.before.pass-over2.ensures.2 _ _ (omega arith) c.before.if1.true c.broken.ensures
 
 sub-number-of : tie.Need-overflow-sub-number-of
 sub-number-of c = search rules

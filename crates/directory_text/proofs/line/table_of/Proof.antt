@@ -1,6 +1,6 @@
 -- `table_of` meets its contract. Assumes nothing.
 use mathlib.Core.Path.{◌≡◌, refl, sym, ap, ◌∙◌}
-use Rattle.directory_text.proofs.Parts.{table-faulty, table-whole}
+use Rattle.directory_text.proofs.Parts.{table_faulty, table-whole}
 use borrow.Author.Rules.{rules}
 use Rattle.directory_text.proofs.line.table_of.Statement.{statement}
 use Rattle.directory_text.proofs.line.table_of.Tie as tie
@@ -24,7 +24,7 @@ is-any-requires : tie.Need-is-any-requires
 is-any-requires c κs = search rules
 
 returns : tie.Need-returns
-returns c = table-faulty _ _ _ _ _ _ _ _ c.before.before.before.before.before.before.number_at.ensures c.before.before.before.before.before.number_behind.ensures c.before.before.before.before.number-behind2.ensures c.before.before.before.length-behind.ensures c.before.before.fault-at-end.ensures (sym c.before.is_any.ensures ∙ c.if1.true)
+returns c = table_faulty _ _ _ _ _ _ _ _ c.before.before.before.before.before.before.number_at.ensures c.before.before.before.before.before.number_behind.ensures c.before.before.before.before.number-behind2.ensures c.before.before.before.length-behind.ensures c.before.before.fault-at-end.ensures (sym c.before.is_any.ensures ∙ c.if1.true)
 
 cast-new : tie.Need-overflow-cast-new
 cast-new c = search rules

@@ -8,44 +8,44 @@ use borrow.Author.Rules.{rules}
 use borrow.Author.Tests.{lt-ltb, le-ltb}
 use lib.ListN.{length, drop, get_or, drop_of_length-le}
 use lib.Seq.{drop-cons}
-use Rattle.directory_text.specs.Number.{decimalDigit, numberFrom, wordNumber}
+use Rattle.directory_text.specs.Number.{decimal_digit, number_from, word_number}
 use Rattle.directory_text.specs.declared.number.Number.{Number}
 use Rattle.directory_text.specs.declared.number.Number.TheVariants.{Is, NotDecimal, TooLarge}
 use Rattle.directory_text.proofs.number.number_of.Statement.{statement}
 use Rattle.directory_text.proofs.number.number_of.Tie as tie
 
 abbrev invariant-loop : tie.invariant-loop
-invariant-loop word number₀ i₀ number i = (i ≤ length word) × (numberFrom number (drop i word) ≡ wordNumber word)
+invariant-loop word number₀ i₀ number i = (i ≤ length word) × (number_from number (drop i word) ≡ word_number word)
 
 abbrev decreases-loop : tie.decreases-loop
 decreases-loop word number₀ i₀ number i = length word - i
 
-none : (w : List ℕ) → length w ≡ 0 → NotDecimal ≡ wordNumber w
-unfolding wordNumber
+none : (w : List ℕ) → length w ≡ 0 → NotDecimal ≡ word_number w
+unfolding word_number
 none [] e = refl
 none (b ∷ bs) e = absurd (omega arith)
 
-some : (w : List ℕ) → 0 < length w → numberFrom 0 w ≡ wordNumber w
-unfolding wordNumber
+some : (w : List ℕ) → 0 < length w → number_from 0 w ≡ word_number w
+unfolding word_number
 some [] h = absurd (omega arith)
 some (b ∷ bs) h = refl
 
 -- one digit more, or a fault
-module _ (w : List ℕ) (i acc d : ℕ) (r : Number) (h : i < length w) (e : d ≡ decimalDigit (get_or w i 0)) (so_far : numberFrom acc (drop i w) ≡ r) where
+module _ (w : List ℕ) (i acc d : ℕ) (r : Number) (h : i < length w) (e : d ≡ decimal_digit (get_or w i 0)) (so_far : number_from acc (drop i w) ≡ r) where
   no_digit : 9 < d → NotDecimal ≡ r
-  unfolding numberFrom
+  unfolding number_from
   no_digit k = sym (rw (drop-cons w i 0 h, ← e, lt-ltb 9 d k)) ∙ so_far
 
   too_large : d ≤ 9 → 18446744073709551615 < 10 * acc + d → TooLarge ≡ r
-  unfolding numberFrom
+  unfolding number_from
   too_large k l = sym (rw (drop-cons w i 0 h, ← e, le-ltb 9 d k, lt-ltb 18446744073709551615 (10 * acc + d) l)) ∙ so_far
 
-  goes : d ≤ 9 → 10 * acc + d ≤ 18446744073709551615 → numberFrom (10 * acc + d) (drop (i + 1) w) ≡ r
-  unfolding numberFrom
+  goes : d ≤ 9 → 10 * acc + d ≤ 18446744073709551615 → number_from (10 * acc + d) (drop (i + 1) w) ≡ r
+  unfolding number_from
   goes k l = sym (rw (drop-cons w i 0 h, ← e, le-ltb 9 d k, le-ltb 18446744073709551615 (10 * acc + d) l, add-one i)) ∙ so_far
 
-done : (w : List ℕ) (i acc : ℕ) (r : Number) → length w ≤ i → numberFrom acc (drop i w) ≡ r → Is acc ≡ r
-unfolding numberFrom
+done : (w : List ℕ) (i acc : ℕ) (r : Number) → length w ≤ i → number_from acc (drop i w) ≡ r → Is acc ≡ r
+unfolding number_from
 done w i acc r h e =
     let d : drop i w ≡ [] = drop_of_length-le w {i = i} h in
     sym (rw d) ∙ e

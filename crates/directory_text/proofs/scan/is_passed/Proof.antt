@@ -3,23 +3,23 @@ use mathlib.Core.Path.{◌≡◌, ap, ◌∙◌}
 use mathlib.Core.Bool.{Bool, not}
 use Prim.Native.Nat.{ℕ}
 use lib.Dec.{eqb}
-use Rattle.directory_text.specs.Scan.{isBlank, scansPast}
+use Rattle.directory_text.specs.Scan.{is_blank, scans_past}
 use Rattle.directory_text.specs.declared.scan.Pass.{Pass}
 use Rattle.directory_text.specs.declared.scan.Pass.TheVariants.{Blanks, Word, Before}
 use borrow.Author.Rules.{rules}
 use Rattle.directory_text.proofs.scan.is_passed.Statement.{statement}
 use Rattle.directory_text.proofs.scan.is_passed.Tie as tie
 
-blanks : (p : Pass) (b : ℕ) (r : Bool) → p ≡ Blanks → r ≡ isBlank b → r ≡ scansPast p b
-unfolding scansPast
+blanks : (p : Pass) (b : ℕ) (r : Bool) → p ≡ Blanks → r ≡ is_blank b → r ≡ scans_past p b
+unfolding scans_past
 blanks p b r e f = f ∙ rw e
 
-of_word : (p : Pass) (b : ℕ) (r : Bool) → p ≡ Word → r ≡ isBlank b → not r ≡ scansPast p b
-unfolding scansPast
+of_word : (p : Pass) (b : ℕ) (r : Bool) → p ≡ Word → r ≡ is_blank b → not r ≡ scans_past p b
+unfolding scans_past
 of_word p b r e f = ap not f ∙ rw e
 
-other : (p : Pass) (b c : ℕ) → p ≡ Before c → not (eqb b c) ≡ scansPast p b
-unfolding scansPast
+other : (p : Pass) (b c : ℕ) → p ≡ Before c → not (eqb b c) ≡ scans_past p b
+unfolding scans_past
 other p b c e = rw e
 
 enum_told : tie.Need-enum-told

@@ -5,14 +5,14 @@ use native.Mathlib.Omega.{arith}
 use borrow.Author.Rules.{rules}
 use borrow.Author.Tests.{not-true, not-false}
 use lib.ListN.{length, drop}
-use Rattle.directory_text.specs.Scan.{scansPast, front}
+use Rattle.directory_text.specs.Scan.{scans_past, front}
 use Rattle.directory_text.proofs.Laws.{front_goes, front-stops, front-end}
 use Rattle.directory_text.proofs.scan.pass_over.Statement.{statement}
 use Rattle.directory_text.proofs.scan.pass_over.Tie as tie
 
 abbrev invariant-loop : tie.invariant-loop
 invariant-loop text from pass at₀ at =
-    (from ≤ at) × (at ≤ length text) × (at + length (front (scansPast pass) (drop at text)) ≡ from + length (front (scansPast pass) (drop from text)))
+    (from ≤ at) × (at ≤ length text) × (at + length (front (scans_past pass) (drop at text)) ≡ from + length (front (scans_past pass) (drop from text)))
 
 abbrev decreases-loop : tie.decreases-loop
 decreases-loop text from pass at₀ at = length text - at
@@ -35,19 +35,19 @@ loop-less c = omega arith
 loop-again : tie.Need-loop-preserved invariant-loop decreases-loop
 loop-again c =
     let a = c.before.before.before.before.before.before.args in
-    let e = front_goes (scansPast a.pass) a.text.now c.before.before.before.before.loop.at (omega arith) (sym c.before.is-passed.ensures ∙ not-false _ c.if1.false) in
+    let e = front_goes (scans_past a.pass) a.text.now c.before.before.before.before.loop.at (omega arith) (sym c.before.is-passed.ensures ∙ not-false _ c.if1.false) in
     (omega arith, omega arith, omega (arith, e, c.before.before.before.before.loop.invariant.2))
 
 returns : tie.Need-returns invariant-loop decreases-loop
 returns c =
     let a = c.before.before.before.args in
-    let e = front-end (scansPast a.pass) a.text.now c.before.loop.at (omega arith) in
+    let e = front-end (scans_past a.pass) a.text.now c.before.loop.at (omega arith) in
     (omega arith, omega arith, omega (arith, e, c.before.loop.invariant.2))
 
 returns-2 : tie.Need-returns-2 invariant-loop decreases-loop
 returns-2 c =
     let a = c.before.before.before.before.before.before.args in
-    let e = front-stops (scansPast a.pass) a.text.now c.before.before.before.before.loop.at (omega arith) (sym c.before.is-passed.ensures ∙ not-true _ c.if1.true) in
+    let e = front-stops (scans_past a.pass) a.text.now c.before.before.before.before.loop.at (omega arith) (sym c.before.is-passed.ensures ∙ not-true _ c.if1.true) in
     (omega arith, omega arith, omega (arith, e, c.before.before.before.before.loop.invariant.2))
 
 pub pass-over-spec : {M : Type 1} → statement M

@@ -4,13 +4,13 @@ use Prim.Native.Nat.{◌-◌, ◌≤◌}
 use native.Mathlib.Omega.{arith}
 use borrow.Author.Rules.{rules}
 use lib.ListN.{length, drop}
-use Rattle.directory_text.specs.Scan.{sameBytes}
+use Rattle.directory_text.specs.Scan.{same_bytes}
 use Rattle.directory_text.proofs.Laws.{unlike, same-goes, same-stops, same_ends}
 use Rattle.directory_text.proofs.scan.same.Statement.{statement}
 use Rattle.directory_text.proofs.scan.same.Tie as tie
 
 abbrev invariant-loop : tie.invariant-loop
-invariant-loop word other i₀ i = (i ≤ length word) × (length word ≡ length other) × (sameBytes (drop i word) (drop i other) ≡ sameBytes word other)
+invariant-loop word other i₀ i = (i ≤ length word) × (length word ≡ length other) × (same_bytes (drop i word) (drop i other) ≡ same_bytes word other)
 
 abbrev decreases-loop : tie.decreases-loop
 decreases-loop word other i₀ i = length word - i

@@ -4,14 +4,14 @@ use Prim.Native.Nat.{◌+◌, ◌-◌, ◌≤◌}
 use native.Mathlib.Omega.{arith}
 use borrow.Author.Rules.{rules}
 use lib.ListN.{length, drop}
-use Rattle.directory_text.specs.Scan.{textLines}
-use Rattle.directory_text.specs.Text.{fromLines, parsed}
+use Rattle.directory_text.specs.Scan.{text_lines}
+use Rattle.directory_text.specs.Text.{from_lines, parsed}
 use Rattle.directory_text.proofs.Whole.{line-stops, line-goes, line-counts, lines_end, all_lines}
 use Rattle.directory_text.proofs.text.directory_of.Statement.{statement}
 use Rattle.directory_text.proofs.text.directory_of.Tie as tie
 
 abbrev invariant-loop : tie.invariant-loop
-invariant-loop text so-far₀ at₀ so_far at = (so_far.line ≤ at) × (at ≤ length text + 1) × (fromLines so_far (textLines (drop at text)) ≡ parsed text)
+invariant-loop text so-far₀ at₀ so_far at = (so_far.line ≤ at) × (at ≤ length text + 1) × (from_lines so_far (text_lines (drop at text)) ≡ parsed text)
 
 abbrev decreases-loop : tie.decreases-loop
 decreases-loop text so-far₀ at₀ so_far at = length text + 1 - at

@@ -2,7 +2,7 @@
 use mathlib.Core.Path.{◌≡◌, refl, sym, ap, ◌∙◌}
 use native.Mathlib.Omega.{arith}
 use borrow.Author.Tests.{not-true, not-false}
-use Rattle.directory_text.proofs.Whole.{no_room, rule-broken, name-taken, name_free}
+use Rattle.directory_text.proofs.Whole.{no_room, rule_broken, name-taken, name_free}
 use borrow.Author.Rules.{rules}
 use Rattle.directory_text.proofs.text.fault_of.Statement.{statement}
 use Rattle.directory_text.proofs.text.fault_of.Tie as tie
@@ -14,7 +14,7 @@ kept-requires : tie.Need-kept-requires
 kept-requires c κs = search rules
 
 returns-2 : tie.Need-returns-2
-returns-2 c = rule-broken _ _ (omega arith) (sym c.before.kept.ensures ∙ not-true _ c.if2.true)
+returns-2 c = rule_broken _ _ (omega arith) (sym c.before.kept.ensures ∙ not-true _ c.if2.true)
 
 find-requires : tie.Need-find-requires
 find-requires c κs = search rules

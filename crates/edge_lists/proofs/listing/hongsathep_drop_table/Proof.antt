@@ -2,8 +2,8 @@
 use mathlib.Core.Path.{◌∙◌}
 use Rattle.directory.specs.declared.directory.Directory.{Directory}
 use Rattle.change.specs.Change.{Change}
-use Rattle.change.specs.Drop.{tableDropped}
-use Rattle.edge_lists.proofs.Lists.{loaded, drop-left}
+use Rattle.change.specs.Drop.{table_dropped}
+use Rattle.edge_lists.proofs.Lists.{loaded, drop_left}
 use Rattle.edge_lists.proofs.listing.hongsathep_drop_table.Statement.{statement}
 use Rattle.edge_lists.proofs.listing.hongsathep_drop_table.Tie as tie
 
@@ -25,8 +25,8 @@ same_length c = c.before.list.given
 returns : tie.Need-returns
 returns c =
     let a = c.before.before.before.before.before.before.before.before.before.before.before.before.args in
-    let e = c.before.before.before.before.drop-table.ensures ∙ loaded (λ (d : Directory) (l : Change). tableDropped d l a.table) a.items.now a.chunks.now c.before.before.before.before.before.before.before.directory-of.ensures c.before.before.before.before.before.list_of.ensures in
-    drop-left a.list.now a.items.now a.chunks.now c.before.before.before.before.drop-table.result e c.before.before.keep-changed.ensures
+    let e = c.before.before.before.before.drop-table.ensures ∙ loaded (λ (d : Directory) (l : Change). table_dropped d l a.table) a.items.now a.chunks.now c.before.before.before.before.before.before.before.directory-of.ensures c.before.before.before.before.before.list_of.ensures in
+    drop_left a.list.now a.items.now a.chunks.now c.before.before.before.before.drop-table.result e c.before.before.keep-changed.ensures
 
 pub hongsathep-drop-table-spec : {M : Type 1} → statement M
 hongsathep-drop-table-spec =

@@ -1,9 +1,9 @@
 -- `hongsathep_drop_table_kept` meets its contract. Assumes nothing.
 use mathlib.Core.Path.{◌∙◌}
 use Rattle.directory.specs.declared.directory.Directory.{Directory}
-use Rattle.change.specs.Change.{Change, changeKept}
-use Rattle.change.specs.Drop.{tableDroppedKept}
-use Rattle.edge_lists.proofs.Lists.{loaded, drop-left}
+use Rattle.change.specs.Change.{Change, change_kept}
+use Rattle.change.specs.Drop.{table_dropped_kept}
+use Rattle.edge_lists.proofs.Lists.{loaded, drop_left}
 use Rattle.edge_lists.proofs.listing.hongsathep_drop_table_kept.Statement.{statement}
 use Rattle.edge_lists.proofs.listing.hongsathep_drop_table_kept.Tie as tie
 
@@ -16,7 +16,7 @@ list-of-requires c κs = tt
 drop-table-kept-requires : tie.Need-drop-table-kept-requires
 drop-table-kept-requires c κs =
     let a = c.before.before.before.before.before.before.before.args in
-    loaded changeKept a.items.now a.chunks.now c.before.before.directory-of.ensures c.list_of.ensures ∙ c.before.before.before.before.before.before.before.requires
+    loaded change_kept a.items.now a.chunks.now c.before.before.directory-of.ensures c.list_of.ensures ∙ c.before.before.before.before.before.before.before.requires
 
 keep-changed-requires : tie.Need-keep-changed-requires
 keep-changed-requires c κs = tt
@@ -27,8 +27,8 @@ same_length c = c.before.list.given
 returns : tie.Need-returns
 returns c =
     let a = c.before.before.before.before.before.before.before.before.before.before.before.before.args in
-    let e = c.before.before.before.before.drop-table-kept.ensures ∙ loaded (λ (d : Directory) (l : Change). tableDroppedKept d l a.table) a.items.now a.chunks.now c.before.before.before.before.before.before.before.directory-of.ensures c.before.before.before.before.before.list_of.ensures in
-    drop-left a.list.now a.items.now a.chunks.now c.before.before.before.before.drop-table-kept.result e c.before.before.keep-changed.ensures
+    let e = c.before.before.before.before.drop-table-kept.ensures ∙ loaded (λ (d : Directory) (l : Change). table_dropped_kept d l a.table) a.items.now a.chunks.now c.before.before.before.before.before.before.before.directory-of.ensures c.before.before.before.before.before.list_of.ensures in
+    drop_left a.list.now a.items.now a.chunks.now c.before.before.before.before.drop-table-kept.result e c.before.before.keep-changed.ensures
 
 pub hongsathep-drop-table-kept-spec : {M : Type 1} → statement M
 hongsathep-drop-table-kept-spec =

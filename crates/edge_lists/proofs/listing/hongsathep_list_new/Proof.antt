@@ -2,11 +2,11 @@
 use mathlib.Core.Path.{◌≡◌, sym, ap, ap₂, ◌∙◌}
 use Rattle.answer.specs.Answer.{number_of}
 use Rattle.directory.specs.declared.directory.Directory.{Directory}
-use Rattle.change.specs.Change.{changeOf, changeRuled, changeKept}
+use Rattle.change.specs.Change.{change_of, change_ruled, change_kept}
 use Rattle.change.specs.declared.change.LogChange.{LogChange}
 use Rattle.answer.specs.declared.answer.Answer.{Answer}
-use Rattle.host_words.specs.Head.{headAfter}
-use Rattle.host_words.specs.Change.{listSize, listWords}
+use Rattle.host_words.specs.Head.{head_after}
+use Rattle.host_words.specs.Change.{list_size, list_words_of}
 use borrow.Author.Rules.{rules}
 use Rattle.edge_lists.proofs.listing.hongsathep_list_new.Statement.{statement}
 use Rattle.edge_lists.proofs.listing.hongsathep_list_new.Tie as tie
@@ -36,7 +36,7 @@ same_length c = search rules
 returns : tie.Need-returns
 returns c = (
   c.before.before.keep-list.ensures.0 ∙ ap number_of c.before.before.before.before.before.head-room.ensures,
-  c.before.before.keep-list.ensures.1 ∙ ap₂ (λ (a : Answer) (l : LogChange). headAfter listSize (number_of a) c.before.before.before.before.before.before.before.before.args.list.now (listWords l)) c.before.before.before.before.before.head-room.ensures c.before.before.before.new.ensures,
+  c.before.before.keep-list.ensures.1 ∙ ap₂ (λ (a : Answer) (l : LogChange). head_after list_size (number_of a) c.before.before.before.before.before.before.before.before.args.list.now (list_words_of l)) c.before.before.before.before.before.head-room.ensures c.before.before.before.new.ensures,
 )
 
 pub hongsathep-list-new-spec : {M : Type 1} → statement M

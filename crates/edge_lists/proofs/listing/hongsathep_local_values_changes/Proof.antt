@@ -1,9 +1,9 @@
 -- `hongsathep_local_values_changes` meets its contract. Assumes nothing.
 use mathlib.Core.Path.{ap, ◌∙◌}
 use Rattle.change.specs.declared.change.LogChange.{LogChange}
-use Rattle.change.specs.Change.{changeOf}
+use Rattle.change.specs.Change.{change_of}
 use Rattle.change.specs.Values.{values_of}
-use Rattle.edge_lists.proofs.Lists.{values-left}
+use Rattle.edge_lists.proofs.Lists.{values_left}
 use Rattle.edge_lists.proofs.listing.hongsathep_local_values_changes.Statement.{statement}
 use Rattle.edge_lists.proofs.listing.hongsathep_local_values_changes.Tie as tie
 
@@ -19,7 +19,7 @@ keep-values-requires c κs = tt
 returns : tie.Need-returns
 returns c =
     let a = c.before.before.before.before.before.before.before.before.args in
-    values-left (c.before.before.before.local-values-changes.ensures ∙ ap (λ (l : LogChange). values_of (changeOf l a.items.now a.chunks.now) a.table) c.before.before.before.before.list_of.ensures) c.keep-values.ensures
+    values_left (c.before.before.before.local-values-changes.ensures ∙ ap (λ (l : LogChange). values_of (change_of l a.items.now a.chunks.now) a.table) c.before.before.before.before.list_of.ensures) c.keep-values.ensures
 
 pub hongsathep-local-values-changes-spec : {M : Type 1} → statement M
 hongsathep-local-values-changes-spec =

@@ -3,10 +3,10 @@ use mathlib.Core.Path.{◌≡◌, sym, ap, ap₂, ◌∙◌}
 use Rattle.answer.specs.Answer.{number_of}
 use Rattle.directory.specs.declared.directory.Directory.{Directory}
 use Rattle.memory.specs.declared.overlays.LogOverlays.{LogOverlays}
-use Rattle.host_words.specs.Head.{headAfter}
-use Rattle.host_words.specs.Overlays.{overlaysSize, overlaysWords, overlaysLeft}
+use Rattle.host_words.specs.Head.{head_after}
+use Rattle.host_words.specs.Overlays.{overlays_size, overlays_words, overlays_left}
 use Rattle.log.specs.declared.begin.Begun.{Begun}
-use Rattle.host_words.specs.Change.{listSize, listWords}
+use Rattle.host_words.specs.Change.{list_size, list_words_of}
 use borrow.Author.Rules.{rules}
 use Rattle.edge_log.proofs.ending_words.hongsathep_begin_record.Statement.{statement}
 use Rattle.edge_log.proofs.ending_words.hongsathep_begin_record.Tie as tie
@@ -34,7 +34,7 @@ returns c =
       c.before.before.keep-list.ensures.0 ∙ ap (λ (x : Begun). number_of x.answer) e,
       (
         ap (λ (x : Begun). x.next_record_id) e,
-        c.before.before.keep-list.ensures.1 ∙ ap (λ (x : Begun). headAfter listSize (number_of x.answer) c.before.before.before.before.before.before.before.before.args.list.now (listWords x.list)) e,
+        c.before.before.keep-list.ensures.1 ∙ ap (λ (x : Begun). head_after list_size (number_of x.answer) c.before.before.before.before.before.before.before.before.args.list.now (list_words_of x.list)) e,
       ),
     )
 

@@ -2,7 +2,7 @@
 use mathlib.Core.Path.{ap₂, ◌∙◌}
 use Rattle.memory.specs.declared.overlays.LogOverlays.{LogOverlays}
 use Rattle.files.specs.declared.queues.Queues.{Queues}
-use Rattle.log.specs.ClearReplay.{logsCleared}
+use Rattle.log.specs.ClearReplay.{logs_cleared}
 use Rattle.edge_log.proofs.Memories.{clear-left}
 use Rattle.edge_log.proofs.ending_words.hongsathep_clear_replay_logs.Statement.{statement}
 use Rattle.edge_log.proofs.ending_words.hongsathep_clear_replay_logs.Tie as tie
@@ -28,7 +28,7 @@ same-length-2 c = c.before.queues.given
 returns : tie.Need-returns
 returns c =
     let a = c.before.before.before.before.before.before.before.before.before.before.before.before.before.before.before.before.args in
-    clear-left (c.before.before.before.before.before.before.before.clear-replay-logs.ensures ∙ ap₂ (λ (o : LogOverlays) (q : Queues). logsCleared o a.words.now a.bytes.now q) c.before.before.before.before.before.before.before.before.before.before.overlays-of.ensures c.before.before.before.before.before.before.before.before.queues-of.ensures) c.before.before.before.before.keep_cleared.ensures
+    clear-left (c.before.before.before.before.before.before.before.clear-replay-logs.ensures ∙ ap₂ (λ (o : LogOverlays) (q : Queues). logs_cleared o a.words.now a.bytes.now q) c.before.before.before.before.before.before.before.before.before.before.overlays-of.ensures c.before.before.before.before.before.before.before.before.queues-of.ensures) c.before.before.before.before.keep_cleared.ensures
 
 pub hongsathep-clear-replay-logs-spec : {M : Type 1} → statement M
 hongsathep-clear-replay-logs-spec =

@@ -3,14 +3,14 @@ use mathlib.Core.Path.{◌≡◌, sym, ap, ap₂, ◌∙◌}
 use Rattle.answer.specs.Answer.{number_of}
 use Rattle.directory.specs.declared.directory.Directory.{Directory}
 use Rattle.memory.specs.declared.overlays.LogOverlays.{LogOverlays}
-use Rattle.host_words.specs.Head.{headAfter}
-use Rattle.host_words.specs.Overlays.{overlaysSize, overlaysWords, overlaysLeft}
-use Rattle.directory.specs.Directory.{directoryKept}
-use Rattle.memory.specs.Parts.{parts_of, partsKept}
-use Rattle.memory.specs.Overlays.{Overlays, overlaysOf}
+use Rattle.host_words.specs.Head.{head_after}
+use Rattle.host_words.specs.Overlays.{overlays_size, overlays_words, overlays_left}
+use Rattle.directory.specs.Directory.{directory_kept}
+use Rattle.memory.specs.Parts.{parts_of, parts_kept}
+use Rattle.memory.specs.Overlays.{Overlays, overlays_of}
 use Rattle.memory.specs.declared.span.Holder.TheVariants as holder
-use Rattle.clearing.specs.EndRead.{Ending, recordAgain, clearable, endReadBy, endRead}
-use Rattle.edge_log.proofs.Memories.{left-memory}
+use Rattle.clearing.specs.EndRead.{Ending, record_again, clearable, end_read_by, end_read_of}
+use Rattle.edge_log.proofs.Memories.{left_memory}
 use borrow.Author.Rules.{rules}
 use Rattle.edge_log.proofs.ending_words.hongsathep_end_read_kept.Statement.{statement}
 use Rattle.edge_log.proofs.ending_words.hongsathep_end_read_kept.Tie as tie
@@ -32,7 +32,7 @@ overlays-of-requires c κs = search rules
 -- src/ending_words.rt:241:9
 end-read-kept-requires : tie.Need-end-read-kept-requires
 end-read-kept-requires c κs =
-    (ap directoryKept c.before.before.before.before.before.directory-of.ensures ∙ c.before.before.before.before.before.before.before.before.before.before.before.requires.0, ap (λ (o : LogOverlays). partsKept holder.Shared (parts_of holder.Shared o.counts c.before.before.before.before.before.before.before.before.before.before.before.args.words.now c.before.before.before.before.before.before.before.before.before.before.before.args.bytes.now)) c.before.before.before.overlays-of.ensures ∙ c.before.before.before.before.before.before.before.before.before.before.before.requires.1, c.before.before.before.before.before.before.before.before.before.before.before.requires.2)
+    (ap directory_kept c.before.before.before.before.before.directory-of.ensures ∙ c.before.before.before.before.before.before.before.before.before.before.before.requires.0, ap (λ (o : LogOverlays). parts_kept holder.Shared (parts_of holder.Shared o.counts c.before.before.before.before.before.before.before.before.before.before.before.args.words.now c.before.before.before.before.before.before.before.before.before.before.before.args.bytes.now)) c.before.before.before.overlays-of.ensures ∙ c.before.before.before.before.before.before.before.before.before.before.before.requires.1, c.before.before.before.before.before.before.before.before.before.before.before.requires.2)
 
 -- src/ending_words.rt:255:5
 keep-overlays-requires : tie.Need-keep-overlays-requires
@@ -53,19 +53,19 @@ same-length-3 c = search rules
 -- src/ending_words.rt:221:1
 returns : tie.Need-returns
 returns c =
-    let e = c.before.before.before.before.before.before.before.before.before.end-read-kept.ensures ∙ ap₂ (λ (d : Directory) (o : LogOverlays). endReadBy c.before.before.before.before.before.before.before.before.before.before.before.before.before.before.before.before.before.before.before.before.before.args.position (overlaysOf o c.before.before.before.before.before.before.before.before.before.before.before.before.before.before.before.before.before.before.before.before.before.args.words.now c.before.before.before.before.before.before.before.before.before.before.before.before.before.before.before.before.before.before.before.before.before.args.bytes.now) c.before.before.before.before.before.before.before.before.before.before.before.before.before.before.before.before.before.before.before.before.before.args.next.now (clearable (recordAgain d c.before.before.before.before.before.before.before.before.before.before.before.before.before.before.before.before.before.before.before.before.before.args.log.now c.before.before.before.before.before.before.before.before.before.before.before.before.before.before.before.before.before.before.before.before.before.args.position))) c.before.before.before.before.before.before.before.before.before.before.before.before.before.before.before.directory-of.ensures c.before.before.before.before.before.before.before.before.before.before.before.before.before.overlays-of.ensures in (
+    let e = c.before.before.before.before.before.before.before.before.before.end-read-kept.ensures ∙ ap₂ (λ (d : Directory) (o : LogOverlays). end_read_by c.before.before.before.before.before.before.before.before.before.before.before.before.before.before.before.before.before.before.before.before.before.args.position (overlays_of o c.before.before.before.before.before.before.before.before.before.before.before.before.before.before.before.before.before.before.before.before.before.args.words.now c.before.before.before.before.before.before.before.before.before.before.before.before.before.before.before.before.before.before.before.before.before.args.bytes.now) c.before.before.before.before.before.before.before.before.before.before.before.before.before.before.before.before.before.before.before.before.before.args.next.now (clearable (record_again d c.before.before.before.before.before.before.before.before.before.before.before.before.before.before.before.before.before.before.before.before.before.args.log.now c.before.before.before.before.before.before.before.before.before.before.before.before.before.before.before.before.before.before.before.before.before.args.position))) c.before.before.before.before.before.before.before.before.before.before.before.before.before.before.before.directory-of.ensures c.before.before.before.before.before.before.before.before.before.before.before.before.before.overlays-of.ensures in (
       c.before.before.keep-overlays.ensures.0 ∙ ap (λ (x : Ending). number_of x.answer) e,
       (
-        c.before.before.keep-overlays.ensures.1 ∙ ap (λ (x : Ending). headAfter overlaysSize (number_of x.answer) c.before.before.before.before.before.before.before.before.before.before.before.before.before.before.before.before.before.before.before.before.before.args.overlays.now (overlaysWords (overlaysLeft x.overlays))) e,
+        c.before.before.keep-overlays.ensures.1 ∙ ap (λ (x : Ending). head_after overlays_size (number_of x.answer) c.before.before.before.before.before.before.before.before.before.before.before.before.before.before.before.before.before.before.before.before.before.args.overlays.now (overlays_words (overlays_left x.overlays))) e,
         (
-          left-memory c.before.before.before.before.before.before.before.before.before.end-read-kept.new.1.1.1.1.0 c.before.before.before.before.before.before.before.before.before.end-read-kept.new.1.1.1.1.1.0 c.before.before.before.before.before.before.before.before.before.end-read-kept.result.overlays _ (ap (λ (x : Ending). x.overlays) e),
+          left_memory c.before.before.before.before.before.before.before.before.before.end-read-kept.new.1.1.1.1.0 c.before.before.before.before.before.before.before.before.before.end-read-kept.new.1.1.1.1.1.0 c.before.before.before.before.before.before.before.before.before.end-read-kept.result.overlays _ (ap (λ (x : Ending). x.overlays) e),
           (
-            ap (λ (x : Ending). x.nextRecordId) e,
+            ap (λ (x : Ending). x.next_record_id) e,
             (
               ap (λ (x : Ending). x.position) e,
               (
-                ap (λ (x : Ending). x.recordId) e,
-                ap (λ (x : Ending). x.faultAt) e,
+                ap (λ (x : Ending). x.record_id) e,
+                ap (λ (x : Ending). x.fault_at) e,
               ),
             ),
           ),

@@ -1,6 +1,6 @@
 -- `hongsathep_end_record` meets its contract. Assumes nothing.
 use mathlib.Core.Path.{◌∙◌}
-use Rattle.ending.specs.EndRecord.{endRecord}
+use Rattle.ending.specs.EndRecord.{end_record}
 use Rattle.edge_log.proofs.Memories.{handed, end-left}
 use Rattle.edge_log.proofs.ending_words.hongsathep_end_record.Statement.{statement}
 use Rattle.edge_log.proofs.ending_words.hongsathep_end_record.Tie as tie
@@ -42,7 +42,7 @@ returns : tie.Need-returns
 returns c =
     let a = c.before.before.before.before.before.before.before.before.before.before.before.before.before.before.before.before.before.before.before.before.before.before.before.before.before.before.before.before.before.before.before.before.before.before.before.args in
     end-left c.before.before.before.before.before.before.before.before.before.before.before.before.before.before.before.before.end-record.result c.before.before.before.before.before.before.before.before.before.before.before.before.before.before.before.before.end-record.new.1.1.1.1.1.0 c.before.before.before.before.before.before.before.before.before.before.before.before.before.before.before.before.end-record.new.1.1.1.1.1.1.0 c.before.before.before.before.before.before.before.before.before.before.before.before.before.before.before.before.end-record.new.1.1.1.1.1.1.1.1.1.0
-    (c.before.before.before.before.before.before.before.before.before.before.before.before.before.before.before.before.end-record.ensures ∙ handed endRecord a.items.now a.chunks.now a.words.now a.bytes.now a.next a.out.now c.before.before.before.before.before.before.before.before.before.before.before.before.before.before.before.before.before.before.before.before.before.before.before.before.before.directory-of.ensures c.before.before.before.before.before.before.before.before.before.before.before.before.before.before.before.before.before.before.before.before.before.before.before.before.list_of.ensures c.before.before.before.before.before.before.before.before.before.before.before.before.before.before.before.before.before.before.before.before.before.before.overlays-of.ensures c.before.before.before.before.before.before.before.before.before.before.before.before.before.before.before.before.before.before.before.before.queues-of.ensures) c.before.before.before.before.keep-ended.ensures
+    (c.before.before.before.before.before.before.before.before.before.before.before.before.before.before.before.before.end-record.ensures ∙ handed end_record a.items.now a.chunks.now a.words.now a.bytes.now a.next a.out.now c.before.before.before.before.before.before.before.before.before.before.before.before.before.before.before.before.before.before.before.before.before.before.before.before.before.directory-of.ensures c.before.before.before.before.before.before.before.before.before.before.before.before.before.before.before.before.before.before.before.before.before.before.before.before.list_of.ensures c.before.before.before.before.before.before.before.before.before.before.before.before.before.before.before.before.before.before.before.before.before.before.overlays-of.ensures c.before.before.before.before.before.before.before.before.before.before.before.before.before.before.before.before.before.before.before.before.queues-of.ensures) c.before.before.before.before.keep-ended.ensures
 
 pub hongsathep-end-record-spec : {M : Type 1} → statement M
 hongsathep-end-record-spec =

@@ -1,6 +1,6 @@
 -- `hongsathep_end_record_kept` meets its contract. Assumes nothing.
 use mathlib.Core.Path.{◌∙◌}
-use Rattle.ending.specs.EndRecord.{handedKept, endRecord}
+use Rattle.ending.specs.EndRecord.{handed_kept, end_record}
 use Rattle.edge_log.proofs.Memories.{handed, end-left}
 use Rattle.edge_log.proofs.ending_words.hongsathep_end_record_kept.Statement.{statement}
 use Rattle.edge_log.proofs.ending_words.hongsathep_end_record_kept.Tie as tie
@@ -20,7 +20,7 @@ queues-of-requires c κs = tt
 end-record-kept-requires : tie.Need-end-record-kept-requires
 end-record-kept-requires c κs =
     let a = c.before.before.before.before.before.before.before.before.before.before.before.before.before.before.before.before.before.before.args in
-    handed handedKept a.items.now a.chunks.now a.words.now a.bytes.now a.next a.out.now c.before.before.before.before.before.before.before.before.directory-of.ensures c.before.before.before.before.before.before.before.list_of.ensures c.before.before.before.before.before.overlays-of.ensures c.before.before.before.queues-of.ensures ∙ c.before.before.before.before.before.before.before.before.before.before.before.before.before.before.before.before.before.before.requires
+    handed handed_kept a.items.now a.chunks.now a.words.now a.bytes.now a.next a.out.now c.before.before.before.before.before.before.before.before.directory-of.ensures c.before.before.before.before.before.before.before.list_of.ensures c.before.before.before.before.before.overlays-of.ensures c.before.before.before.queues-of.ensures ∙ c.before.before.before.before.before.before.before.before.before.before.before.before.before.before.before.before.before.before.requires
 
 keep-ended-requires : tie.Need-keep-ended-requires
 keep-ended-requires c κs = tt
@@ -44,7 +44,7 @@ returns : tie.Need-returns
 returns c =
     let a = c.before.before.before.before.before.before.before.before.before.before.before.before.before.before.before.before.before.before.before.before.before.before.before.before.before.before.before.before.before.before.before.before.before.before.before.args in
     end-left c.before.before.before.before.before.before.before.before.before.before.before.before.before.before.before.before.end-record-kept.result c.before.before.before.before.before.before.before.before.before.before.before.before.before.before.before.before.end-record-kept.new.1.1.1.1.1.0 c.before.before.before.before.before.before.before.before.before.before.before.before.before.before.before.before.end-record-kept.new.1.1.1.1.1.1.0 c.before.before.before.before.before.before.before.before.before.before.before.before.before.before.before.before.end-record-kept.new.1.1.1.1.1.1.1.1.1.0
-    (c.before.before.before.before.before.before.before.before.before.before.before.before.before.before.before.before.end-record-kept.ensures ∙ handed endRecord a.items.now a.chunks.now a.words.now a.bytes.now a.next a.out.now c.before.before.before.before.before.before.before.before.before.before.before.before.before.before.before.before.before.before.before.before.before.before.before.before.before.directory-of.ensures c.before.before.before.before.before.before.before.before.before.before.before.before.before.before.before.before.before.before.before.before.before.before.before.before.list_of.ensures c.before.before.before.before.before.before.before.before.before.before.before.before.before.before.before.before.before.before.before.before.before.before.overlays-of.ensures c.before.before.before.before.before.before.before.before.before.before.before.before.before.before.before.before.before.before.before.before.queues-of.ensures) c.before.before.before.before.keep-ended.ensures
+    (c.before.before.before.before.before.before.before.before.before.before.before.before.before.before.before.before.end-record-kept.ensures ∙ handed end_record a.items.now a.chunks.now a.words.now a.bytes.now a.next a.out.now c.before.before.before.before.before.before.before.before.before.before.before.before.before.before.before.before.before.before.before.before.before.before.before.before.before.directory-of.ensures c.before.before.before.before.before.before.before.before.before.before.before.before.before.before.before.before.before.before.before.before.before.before.before.before.list_of.ensures c.before.before.before.before.before.before.before.before.before.before.before.before.before.before.before.before.before.before.before.before.before.before.overlays-of.ensures c.before.before.before.before.before.before.before.before.before.before.before.before.before.before.before.before.before.before.before.before.queues-of.ensures) c.before.before.before.before.keep-ended.ensures
 
 pub hongsathep-end-record-kept-spec : {M : Type 1} → statement M
 hongsathep-end-record-kept-spec =

@@ -3,8 +3,8 @@ use mathlib.Core.Path.{◌≡◌, sym, ap, ap₂, ◌∙◌}
 use Rattle.answer.specs.Answer.{number_of}
 use Rattle.directory.specs.declared.directory.Directory.{Directory}
 use Rattle.memory.specs.declared.overlays.LogOverlays.{LogOverlays}
-use Rattle.host_words.specs.Head.{headAfter}
-use Rattle.host_words.specs.Overlays.{overlaysSize, overlaysWords, overlaysLeft}
+use Rattle.host_words.specs.Head.{head_after}
+use Rattle.host_words.specs.Overlays.{overlays_size, overlays_words, overlays_left}
 use Rattle.answer.specs.declared.answer.Answer.{Answer}
 use borrow.Author.Rules.{rules}
 use Rattle.edge_log.proofs.ending_words.hongsathep_overlays_new.Statement.{statement}
@@ -35,7 +35,7 @@ same_length c = search rules
 returns : tie.Need-returns
 returns c = (
   c.before.before.keep-overlays.ensures.0 ∙ ap number_of c.before.before.before.before.before.head-room.ensures,
-  c.before.before.keep-overlays.ensures.1 ∙ ap₂ (λ (a : Answer) (o : LogOverlays). headAfter overlaysSize (number_of a) c.before.before.before.before.before.before.before.before.args.overlays.now (overlaysWords o)) c.before.before.before.before.before.head-room.ensures c.before.before.before.new.ensures,
+  c.before.before.keep-overlays.ensures.1 ∙ ap₂ (λ (a : Answer) (o : LogOverlays). head_after overlays_size (number_of a) c.before.before.before.before.before.before.before.before.args.overlays.now (overlays_words o)) c.before.before.before.before.before.head-room.ensures c.before.before.before.new.ensures,
 )
 
 pub hongsathep-overlays-new-spec : {M : Type 1} → statement M

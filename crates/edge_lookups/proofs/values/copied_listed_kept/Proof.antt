@@ -4,7 +4,7 @@ use native.Mathlib.Omega.{arith}
 use Rattle.directory.specs.declared.table.TableKind.TheVariants.{Value}
 use Rattle.memory.specs.declared.span.Holder.TheVariants as holder
 use Rattle.memory.proofs.Lent.{Fits, fits}
-use Rattle.edge_lookups.proofs.Places.{Ready, shared-ready}
+use Rattle.edge_lookups.proofs.Places.{Ready, shared_ready}
 use Rattle.edge_lookups.proofs.Copies.{copies_as, listed_kept, lent-kept}
 use borrow.Author.Rules.{rules}
 use Rattle.edge_lookups.proofs.values.copied_listed_kept.Statement.{statement}
@@ -14,7 +14,7 @@ span-of-requires : tie.Need-span-of-requires
 span-of-requires c κs = search rules
 
 mul-value-kept : tie.Need-overflow-mul-value-kept
-mul-value-kept c = let l = fits holder.Shared Value c.Span-of.result c.Span-of.ensures in omega (arith, l.words-rise, l.words-in, l.words-most)
+mul-value-kept c = let l = fits holder.Shared Value c.Span-of.result c.Span-of.ensures in omega (arith, l.words-rise, l.words_in, l.words-most)
 
 sub-value-kept : tie.Need-overflow-sub-value-kept
 sub-value-kept c = (fits holder.Shared Value c.Span-of.result c.Span-of.ensures).words-rise
@@ -23,7 +23,7 @@ part-value-kept-start : tie.Need-slice-bounds-value-kept-start
 part-value-kept-start c = (fits holder.Shared Value c.Span-of.result c.Span-of.ensures).words-rise
 
 part-value-kept-end : tie.Need-slice-bounds-value-kept-end
-part-value-kept-end c = omega (arith, (fits holder.Shared Value c.Span-of.result c.Span-of.ensures).words-in, (shared-ready Value c.before.before.before.before.before.before.args.overlays.counts c.before.before.before.before.before.before.args.words.now c.before.before.before.before.before.before.args.bytes.now c.before.before.before.before.before.before.requires.1).words_long)
+part-value-kept-end c = omega (arith, (fits holder.Shared Value c.Span-of.result c.Span-of.ensures).words_in, (shared_ready Value c.before.before.before.before.before.before.args.overlays.counts c.before.before.before.before.before.before.args.words.now c.before.before.before.before.before.before.args.bytes.now c.before.before.before.before.before.before.requires.1).words_long)
 
 sub-value-kept-2 : tie.Need-overflow-sub-value-kept-2
 sub-value-kept-2 c = (fits holder.Shared Value c.before.Span-of.result c.before.Span-of.ensures).bytes-rise
@@ -32,7 +32,7 @@ part-value-kept-start-2 : tie.Need-slice-bounds-value-kept-start-2
 part-value-kept-start-2 c = (fits holder.Shared Value c.before.Span-of.result c.before.Span-of.ensures).bytes-rise
 
 part-value-kept-end-2 : tie.Need-slice-bounds-value-kept-end-2
-part-value-kept-end-2 c = omega (arith, (fits holder.Shared Value c.before.Span-of.result c.before.Span-of.ensures).bytes-in, (shared-ready Value c.before.before.before.before.before.before.before.args.overlays.counts c.before.before.before.before.before.before.before.args.words.now c.before.before.before.before.before.before.before.args.bytes.now c.before.before.before.before.before.before.before.requires.1).bytes-long)
+part-value-kept-end-2 c = omega (arith, (fits holder.Shared Value c.before.Span-of.result c.before.Span-of.ensures).bytes_in, (shared_ready Value c.before.before.before.before.before.before.before.args.overlays.counts c.before.before.before.before.before.before.before.args.words.now c.before.before.before.before.before.before.before.args.bytes.now c.before.before.before.before.before.before.before.requires.1).bytes-long)
 
 value-kept-requires : tie.Need-value-kept-requires
 value-kept-requires c κs = let a = c.before.before.before.before.before.before.before.before.before.args in (c.before.before.before.before.before.before.before.before.before.requires.0, lent-kept a.overlays a.words.now a.bytes.now 0 c.before.before.before.before.before.before.before.before.before.requires.1 c.before.before.before.Span-of.result c.before.before.before.Span-of.ensures)

@@ -1,8 +1,8 @@
 -- `hongsathep_clean_logs` meets its contract. Assumes nothing.
 use mathlib.Core.Path.{ap, ◌∙◌}
-use Rattle.files.specs.Calls.{cleanLogs}
+use Rattle.files.specs.Calls.{clean_logs}
 use Rattle.files.specs.declared.queues.Queues.{Queues}
-use Rattle.edge_queues.proofs.Left.{clean-left}
+use Rattle.edge_queues.proofs.Left.{clean_left}
 use Rattle.edge_queues.proofs.queueing.hongsathep_clean_logs.Statement.{statement}
 use Rattle.edge_queues.proofs.queueing.hongsathep_clean_logs.Tie as tie
 
@@ -19,7 +19,7 @@ same_length : tie.Need-same-length
 same_length c = c.before.queues.given
 
 returns : tie.Need-returns
-returns c = clean-left (c.before.before.before.before.before.before.before.before.before.clean-logs.ensures ∙ ap (λ (q : Queues). cleanLogs q c.before.before.before.before.before.before.before.before.before.before.before.before.before.args.max) c.before.before.before.before.before.before.before.before.before.before.queues-of.ensures) c.before.before.keep-cleaned.ensures
+returns c = clean_left (c.before.before.before.before.before.before.before.before.before.clean-logs.ensures ∙ ap (λ (q : Queues). clean_logs q c.before.before.before.before.before.before.before.before.before.before.before.before.before.args.max) c.before.before.before.before.before.before.before.before.before.before.queues-of.ensures) c.before.before.keep-cleaned.ensures
 
 pub hongsathep-clean-logs-spec : {M : Type 1} → statement M
 hongsathep-clean-logs-spec =

@@ -1,8 +1,8 @@
 -- `hongsathep_flush_one` meets its contract. Assumes nothing.
 use mathlib.Core.Path.{ap, ◌∙◌}
-use Rattle.files.specs.Calls.{flushOne}
+use Rattle.files.specs.Calls.{flush_one}
 use Rattle.files.specs.declared.queues.Queues.{Queues}
-use Rattle.edge_queues.proofs.Left.{flush-left}
+use Rattle.edge_queues.proofs.Left.{flush_left}
 use Rattle.edge_queues.proofs.queueing.hongsathep_flush_one.Statement.{statement}
 use Rattle.edge_queues.proofs.queueing.hongsathep_flush_one.Tie as tie
 
@@ -19,7 +19,7 @@ same_length : tie.Need-same-length
 same_length c = c.before.queues.given
 
 returns : tie.Need-returns
-returns c = flush-left (c.before.before.before.before.before.before.flush-one.ensures ∙ ap (λ (q : Queues). flushOne q c.before.before.before.before.before.before.before.before.before.before.args.min) c.before.before.before.before.before.before.before.queues-of.ensures) c.before.before.keep-flush.ensures
+returns c = flush_left (c.before.before.before.before.before.before.flush-one.ensures ∙ ap (λ (q : Queues). flush_one q c.before.before.before.before.before.before.before.before.before.before.args.min) c.before.before.before.before.before.before.before.queues-of.ensures) c.before.before.keep-flush.ensures
 
 pub hongsathep-flush-one-spec : {M : Type 1} → statement M
 hongsathep-flush-one-spec =

@@ -1,8 +1,8 @@
 -- `hongsathep_has_log_files_to_read` meets its contract. Assumes nothing.
 use mathlib.Core.Path.{◌≡◌, refl, sym, ap, ap₂, ◌∙◌}
 use Rattle.answer.specs.Answer.{number_of}
-use Rattle.host_words.specs.Head.{headAfter}
-use Rattle.host_queues.specs.Queues.{queuesSize, queuesWords}
+use Rattle.host_words.specs.Head.{head_after}
+use Rattle.host_queues.specs.Queues.{queues_size, queues_words}
 use lib.Dec.{ltb}
 use Rattle.files.specs.declared.queues.Queues.{Queues}
 use borrow.Author.Rules.{rules}

@@ -1,7 +1,7 @@
 -- `hongsathep_kill_logs` meets its contract. Assumes nothing.
 use mathlib.Core.Path.{ap, ◌∙◌}
-use Rattle.files.specs.Calls.{killLogs}
-use Rattle.edge_queues.proofs.Left.{kill-left}
+use Rattle.files.specs.Calls.{kill_logs}
+use Rattle.edge_queues.proofs.Left.{kill_left}
 use Rattle.edge_queues.proofs.queueing.hongsathep_kill_logs.Statement.{statement}
 use Rattle.edge_queues.proofs.queueing.hongsathep_kill_logs.Tie as tie
 
@@ -18,7 +18,7 @@ same_length : tie.Need-same-length
 same_length c = c.before.queues.given
 
 returns : tie.Need-returns
-returns c = kill-left (c.before.before.before.before.before.before.kill-logs.ensures ∙ ap killLogs c.before.before.before.before.before.before.before.queues-of.ensures) c.before.before.keep-killed.ensures
+returns c = kill_left (c.before.before.before.before.before.before.kill-logs.ensures ∙ ap kill_logs c.before.before.before.before.before.before.before.queues-of.ensures) c.before.before.keep-killed.ensures
 
 pub hongsathep-kill-logs-spec : {M : Type 1} → statement M
 hongsathep-kill-logs-spec =

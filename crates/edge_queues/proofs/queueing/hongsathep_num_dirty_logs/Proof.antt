@@ -1,8 +1,8 @@
 -- `hongsathep_num_dirty_logs` meets its contract. Assumes nothing.
 use mathlib.Core.Path.{◌≡◌, refl, sym, ap, ap₂, ◌∙◌}
 use Rattle.answer.specs.Answer.{number_of}
-use Rattle.host_words.specs.Head.{headAfter}
-use Rattle.host_queues.specs.Queues.{queuesSize, queuesWords}
+use Rattle.host_words.specs.Head.{head_after}
+use Rattle.host_queues.specs.Queues.{queues_size, queues_words}
 use Rattle.files.specs.declared.queues.Queues.{Queues}
 use borrow.Author.Rules.{rules}
 use Rattle.edge_queues.proofs.queueing.hongsathep_num_dirty_logs.Statement.{statement}

@@ -1,10 +1,10 @@
 -- `hongsathep_open` meets its contract. Assumes nothing.
 use mathlib.Core.Path.{◌≡◌, refl, sym, ap, ap₂, ◌∙◌}
 use Rattle.answer.specs.Answer.{number_of}
-use Rattle.host_words.specs.Head.{headAfter}
-use Rattle.host_queues.specs.Queues.{queuesSize, queuesWords}
+use Rattle.host_words.specs.Head.{head_after}
+use Rattle.host_queues.specs.Queues.{queues_size, queues_words}
 use Rattle.numbers.specs.Numbers.{over}
-use Rattle.found.specs.Names.{saidBy}
+use Rattle.found.specs.Names.{said_by}
 use Rattle.found.specs.Logs.{removed}
 use Rattle.files.specs.declared.open.Opened.{Opened}
 use borrow.Author.Rules.{rules}
@@ -37,10 +37,10 @@ returns c =
     let e = c.before.before.before.before.before.before.before.opened.ensures.0 in (
       c.before.before.keep-queues.ensures.0 ∙ ap (λ (x : Opened). number_of x.answer) e,
       (
-        c.before.before.before.before.before.before.before.opened.ensures.1 ∙ ap (λ (x : Opened). over c.before.before.before.before.before.before.before.before.before.before.before.before.before.before.before.args.remove.now (removed (saidBy c.before.before.before.before.before.before.before.before.before.before.before.before.before.before.before.args.names.now c.before.before.before.before.before.before.before.before.before.before.before.before.before.before.before.args.name-lengths.now) c.before.before.before.before.before.before.before.before.before.before.before.before.before.before.before.args.lengths.now) x.remove_count) e,
+        c.before.before.before.before.before.before.before.opened.ensures.1 ∙ ap (λ (x : Opened). over c.before.before.before.before.before.before.before.before.before.before.before.before.before.before.before.args.remove.now (removed (said_by c.before.before.before.before.before.before.before.before.before.before.before.before.before.before.before.args.names.now c.before.before.before.before.before.before.before.before.before.before.before.before.before.before.before.args.name-lengths.now) c.before.before.before.before.before.before.before.before.before.before.before.before.before.before.before.args.lengths.now) x.remove_count) e,
         (
           ap (λ (x : Opened). x.remove_count) e,
-          c.before.before.keep-queues.ensures.1 ∙ ap (λ (x : Opened). headAfter queuesSize (number_of x.answer) c.before.before.before.before.before.before.before.before.before.before.before.before.before.before.before.args.queues.now (queuesWords x.queues)) e,
+          c.before.before.keep-queues.ensures.1 ∙ ap (λ (x : Opened). head_after queues_size (number_of x.answer) c.before.before.before.before.before.before.before.before.before.before.before.before.before.before.before.args.queues.now (queues_words x.queues)) e,
         ),
       ),
     )

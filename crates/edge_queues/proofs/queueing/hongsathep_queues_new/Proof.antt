@@ -1,8 +1,8 @@
 -- `hongsathep_queues_new` meets its contract. Assumes nothing.
 use mathlib.Core.Path.{◌≡◌, refl, sym, ap, ap₂, ◌∙◌}
 use Rattle.answer.specs.Answer.{number_of}
-use Rattle.host_words.specs.Head.{headAfter}
-use Rattle.host_queues.specs.Queues.{queuesSize, queuesWords}
+use Rattle.host_words.specs.Head.{head_after}
+use Rattle.host_queues.specs.Queues.{queues_size, queues_words}
 use Rattle.answer.specs.declared.answer.Answer.{Answer}
 use Rattle.files.specs.declared.queues.Queues.{Queues}
 use borrow.Author.Rules.{rules}
@@ -34,7 +34,7 @@ same_length c = search rules
 returns : tie.Need-returns
 returns c = (
   c.before.before.keep-queues.ensures.0 ∙ ap number_of c.before.before.before.before.before.head-room.ensures,
-  c.before.before.keep-queues.ensures.1 ∙ ap₂ (λ (a : Answer) (q : Queues). headAfter queuesSize (number_of a) c.before.before.before.before.before.before.before.before.args.queues.now (queuesWords q)) c.before.before.before.before.before.head-room.ensures c.before.before.before.new.ensures,
+  c.before.before.keep-queues.ensures.1 ∙ ap₂ (λ (a : Answer) (q : Queues). head_after queues_size (number_of a) c.before.before.before.before.before.before.before.before.args.queues.now (queues_words q)) c.before.before.before.before.before.head-room.ensures c.before.before.before.new.ensures,
 )
 
 pub hongsathep-queues-new-spec : {M : Type 1} → statement M

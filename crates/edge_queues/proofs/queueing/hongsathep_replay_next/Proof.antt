@@ -1,6 +1,6 @@
 -- `hongsathep_replay_next` meets its contract. Assumes nothing.
 use mathlib.Core.Path.{ap, ◌∙◌}
-use Rattle.files.specs.Calls.{replayNext}
+use Rattle.files.specs.Calls.{replay_next}
 use Rattle.edge_queues.proofs.Left.{replay-left}
 use Rattle.edge_queues.proofs.queueing.hongsathep_replay_next.Statement.{statement}
 use Rattle.edge_queues.proofs.queueing.hongsathep_replay_next.Tie as tie
@@ -18,7 +18,7 @@ same_length : tie.Need-same-length
 same_length c = c.before.queues.given
 
 returns : tie.Need-returns
-returns c = replay-left (c.before.before.before.before.before.before.replay-next.ensures ∙ ap replayNext c.before.before.before.before.before.before.before.queues-of.ensures) c.before.before.keep-replay.ensures
+returns c = replay-left (c.before.before.before.before.before.before.replay-next.ensures ∙ ap replay_next c.before.before.before.before.before.before.before.queues-of.ensures) c.before.before.keep-replay.ensures
 
 pub hongsathep-replay-next-spec : {M : Type 1} → statement M
 hongsathep-replay-next-spec =

@@ -1,9 +1,9 @@
 -- `hongsathep_replay_record_id` meets its contract. Assumes nothing.
 use mathlib.Core.Path.{◌≡◌, refl, sym, ap, ap₂, ◌∙◌}
 use Rattle.answer.specs.Answer.{number_of}
-use Rattle.host_words.specs.Head.{headAfter}
-use Rattle.host_queues.specs.Queues.{queuesSize, queuesWords}
-use Rattle.files.specs.Calls.{replayRecordId}
+use Rattle.host_words.specs.Head.{head_after}
+use Rattle.host_queues.specs.Queues.{queues_size, queues_words}
+use Rattle.files.specs.Calls.{replay_record_id}
 use Rattle.files.specs.declared.reading.FirstId.{FirstId}
 use borrow.Author.Rules.{rules}
 use Rattle.edge_queues.proofs.queueing.hongsathep_replay_record_id.Statement.{statement}
@@ -24,7 +24,7 @@ replay-record-id-requires c κs = search rules
 -- src/queueing.rt:345:1
 returns : tie.Need-returns
 returns c =
-    let e = c.replay-record-id.ensures ∙ ap replayRecordId c.before.queues-of.ensures in
+    let e = c.replay-record-id.ensures ∙ ap replay_record_id c.before.queues-of.ensures in
     (ap (λ (x : FirstId). x.found) e, ap (λ (x : FirstId). x.id) e)
 
 pub hongsathep-replay-record-id-spec : {M : Type 1} → statement M

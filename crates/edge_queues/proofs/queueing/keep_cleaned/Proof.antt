@@ -13,7 +13,7 @@ same_length : tie.Need-same-length
 same_length c = c.before.queues.given
 
 returns : tie.Need-returns
-returns c = record { queues = c.before.before.keep-queues.ensures; some = c.before.before.before.before.before.before.before.flag.ensures; to-empty = refl; empty-count = refl; to-remove = refl; remove-count = refl }
+returns c = record { queues = c.before.before.keep-queues.ensures; some = c.before.before.before.before.before.before.before.flag.ensures; to_empty = refl; empty_count = refl; to_remove = refl; remove_count = refl }
 
 pub keep-cleaned-spec : {M : Type 1} → statement M
 keep-cleaned-spec = tie.close (tie.spec flag-requires keep-queues-requires same_length returns)

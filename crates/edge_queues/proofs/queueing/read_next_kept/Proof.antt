@@ -1,16 +1,16 @@
 -- `read_next_kept` meets its contract. Assumes nothing.
 use mathlib.Core.Path.{◌≡◌, refl, sym, ap, ap₂, ◌∙◌}
 use Rattle.answer.specs.Answer.{number_of}
-use Rattle.host_words.specs.Head.{headAfter}
-use Rattle.host_queues.specs.Queues.{queuesSize, queuesWords}
+use Rattle.host_words.specs.Head.{head_after}
+use Rattle.host_queues.specs.Queues.{queues_size, queues_words}
 use borrow.Author.Tests.{eq-eqb, ne_eqb}
-use Rattle.words.proofs.Choices.{if-true, if-false}
+use Rattle.words.proofs.Choices.{if_true, if_false}
 use Rattle.answer.specs.declared.answer.Answer.TheVariants.{BadState}
 use Rattle.record.specs.declared.reader.LogReader.{LogReader}
-use Rattle.files.specs.Queues.{queuesKept}
-use Rattle.files.specs.Read.{notRead, readNextKept}
+use Rattle.files.specs.Queues.{queues_kept}
+use Rattle.files.specs.Read.{not_read, read_next_kept}
 use Rattle.files.specs.declared.queues.Queues.{Queues}
-use Rattle.edge_queues.specs.Queueing.{readNextKeptIn}
+use Rattle.edge_queues.specs.Queueing.{read_next_kept_in}
 use borrow.Author.Rules.{rules}
 use Rattle.edge_queues.proofs.queueing.read_next_kept.Statement.{statement}
 use Rattle.edge_queues.proofs.queueing.read_next_kept.Tie as tie
@@ -30,19 +30,19 @@ new-requires c κs = search rules
 
 -- src/queueing.rt:309:9
 returns : tie.Need-returns
-unfolding readNextKeptIn
-returns c = ap₂ (λ (r : LogReader) (q : Queues). notRead BadState r q) c.new.ensures c.before.before.queues-of.ensures ∙ sym (if-false _ _ _ (ne_eqb _ _ c.before.if1.true))
+unfolding read_next_kept_in
+returns c = ap₂ (λ (r : LogReader) (q : Queues). not_read BadState r q) c.new.ensures c.before.before.queues-of.ensures ∙ sym (if_false _ _ _ (ne_eqb _ _ c.before.if1.true))
 
 -- src/queueing.rt:316:5
 read-next-kept-requires : tie.Need-read-next-kept-requires
-read-next-kept-requires c κs = ap queuesKept c.before.queues-of.ensures ∙ c.before.before.before.before.requires
+read-next-kept-requires c κs = ap queues_kept c.before.queues-of.ensures ∙ c.before.before.before.before.requires
 
 -- src/queueing.rt:303:1
 returns-2 : tie.Need-returns-2
-unfolding readNextKeptIn
+unfolding read_next_kept_in
 returns-2 c =
-    c.read-next-kept.ensures ∙ ap (λ (q : Queues). readNextKept q c.before.before.before.before.before.args.log.now c.before.before.before.before.before.args.position c.before.before.before.before.before.args.validate) c.before.before.queues-of.ensures
-    ∙ sym (if-true _ _ _ (eq-eqb _ _ c.before.if1.false))
+    c.read-next-kept.ensures ∙ ap (λ (q : Queues). read_next_kept q c.before.before.before.before.before.args.log.now c.before.before.before.before.before.args.position c.before.before.before.before.before.args.validate) c.before.before.queues-of.ensures
+    ∙ sym (if_true _ _ _ (eq-eqb _ _ c.before.if1.false))
 
 pub read-next-kept-spec : {M : Type 1} → statement M
 read-next-kept-spec =

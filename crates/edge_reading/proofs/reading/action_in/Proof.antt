@@ -1,6 +1,6 @@
 -- `action_in` meets its contract. Assumes nothing.
 use mathlib.Core.Path.{sym, ap}
-use Rattle.edge_reading.specs.Reading.{actionNumbers}
+use Rattle.edge_reading.specs.Reading.{action_numbers}
 use borrow.Author.Rules.{rules}
 use Rattle.edge_reading.proofs.reading.action_in.Statement.{statement}
 use Rattle.edge_reading.proofs.reading.action_in.Tie as tie
@@ -40,11 +40,11 @@ enum-known-step-2 c = search rules
 
 -- src/reading.rt:62:1
 returns : tie.Need-returns
-returns c = rw (c.before.before.before.tag.ensures, c.before.table-in.ensures, c.index_in.ensures) (ap actionNumbers (sym c.before.before.before.before.before.step.given.1))
+returns c = rw (c.before.before.before.tag.ensures, c.before.table-in.ensures, c.index_in.ensures) (ap action_numbers (sym c.before.before.before.before.before.step.given.1))
 
 -- src/reading.rt:62:1
 returns-2 : tie.Need-returns-2
-returns-2 c = ap actionNumbers (sym c.before.step2.given.1)
+returns-2 c = ap action_numbers (sym c.before.step2.given.1)
 
 pub action-in-spec : {M : Type 1} → statement M
 action-in-spec =

@@ -3,8 +3,8 @@ use mathlib.Core.Path.{ap, ap₂, ◌∙◌}
 use Rattle.answer.specs.Answer.{number_of}
 use Rattle.answer.specs.declared.answer.Answer.{Answer}
 use Rattle.record.specs.declared.reader.LogReader.{LogReader}
-use Rattle.host_words.specs.Head.{headAfter}
-use Rattle.host_words.specs.Reader.{readerWords}
+use Rattle.host_words.specs.Head.{head_after}
+use Rattle.host_words.specs.Reader.{reader_words}
 use borrow.Author.Rules.{rules}
 use Rattle.edge_reading.proofs.reading.hongsathep_reader_new.Statement.{statement}
 use Rattle.edge_reading.proofs.reading.hongsathep_reader_new.Tie as tie
@@ -35,7 +35,7 @@ returns : tie.Need-returns
 returns c =
     let w = c.before.before.before.before.before.before.before.before.args.reader.now in (
       c.before.before.keep-reader.ensures.0 ∙ ap number_of c.before.before.before.before.before.head-room.ensures,
-      c.before.before.keep-reader.ensures.1 ∙ ap₂ (λ (a : Answer) (x : LogReader). headAfter 5 (number_of a) w (readerWords x)) c.before.before.before.before.before.head-room.ensures c.before.before.before.new.ensures,
+      c.before.before.keep-reader.ensures.1 ∙ ap₂ (λ (a : Answer) (x : LogReader). head_after 5 (number_of a) w (reader_words x)) c.before.before.before.before.before.head-room.ensures c.before.before.before.new.ensures,
     )
 
 pub hongsathep-reader-new-spec : {M : Type 1} → statement M

@@ -1,6 +1,6 @@
 -- `keep_step` meets its contract. Assumes nothing.
 use mathlib.Core.Path.{sym, ap, ◌∙◌}
-use Rattle.edge_reading.specs.Reading.{readerLeft}
+use Rattle.edge_reading.specs.Reading.{reader_left}
 use borrow.Author.Rules.{rules}
 use Rattle.edge_reading.proofs.reading.keep_step.Statement.{statement}
 use Rattle.edge_reading.proofs.reading.keep_step.Tie as tie
@@ -30,7 +30,7 @@ same_length c = search rules
 
 -- src/reading.rt:99:1
 returns-2 : tie.Need-returns-2
-returns-2 c = c.before.before.keep-reader.ensures.1 ∙ ap (readerLeft c.before.before.before.before.before.before.before.before.before.args.reader.now) (sym c.before.before.before.before.before.before.step.given.1)
+returns-2 c = c.before.before.keep-reader.ensures.1 ∙ ap (reader_left c.before.before.before.before.before.before.before.before.before.args.reader.now) (sym c.before.before.before.before.before.before.step.given.1)
 
 pub keep-step-spec : {M : Type 1} → statement M
 keep-step-spec =

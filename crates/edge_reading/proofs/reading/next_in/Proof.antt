@@ -1,11 +1,11 @@
 -- `next_in` meets its contract. Assumes nothing.
 use mathlib.Core.Path.{sym, ap, ap₂, ◌∙◌}
-use Rattle.words.proofs.Choices.{if-true, if-false}
-use Rattle.directory.specs.Directory.{directoryKept}
+use Rattle.words.proofs.Choices.{if_true, if_false}
+use Rattle.directory.specs.Directory.{directory_kept}
 use Rattle.directory.specs.declared.directory.Directory.{Directory}
 use Rattle.record.specs.Next.{next_of}
 use Rattle.record.specs.declared.reader.LogReader.{LogReader}
-use Rattle.edge_reading.specs.Reading.{nextIn}
+use Rattle.edge_reading.specs.Reading.{next_in}
 use borrow.Author.Rules.{rules}
 use Rattle.edge_reading.proofs.reading.next_in.Statement.{statement}
 use Rattle.edge_reading.proofs.reading.next_in.Tie as tie
@@ -35,10 +35,10 @@ next-requires c κs = search rules
 
 -- src/reading.rt:119:9
 returns : tie.Need-returns
-unfolding nextIn
+unfolding next_in
 returns c =
     c.next.ensures ∙ ap₂ (λ (d : Directory) (x : LogReader). next_of d c.before.before.before.before.before.before.before.before.args.log.now x) c.before.directory-of.ensures c.before.before.reader-of.ensures
-    ∙ sym (if-true _ _ _ (sym c.before.before.before.before.reader-formed.ensures ∙ c.before.before.before.if1.true))
+    ∙ sym (if_true _ _ _ (sym c.before.before.before.before.reader-formed.ensures ∙ c.before.before.before.if1.true))
 
 -- src/reading.rt:121:5
 no-reader-requires : tie.Need-no-reader-requires
@@ -46,8 +46,8 @@ no-reader-requires c κs = search rules
 
 -- src/reading.rt:115:1
 returns-2 : tie.Need-returns-2
-unfolding nextIn
-returns-2 c = c.no_reader.ensures ∙ sym (if-false _ _ _ (sym c.before.before.reader-formed.ensures ∙ c.before.if1.false))
+unfolding next_in
+returns-2 c = c.no_reader.ensures ∙ sym (if_false _ _ _ (sym c.before.before.reader-formed.ensures ∙ c.before.if1.false))
 
 pub next-in-spec : {M : Type 1} → statement M
 next-in-spec =

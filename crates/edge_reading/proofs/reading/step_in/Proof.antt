@@ -1,11 +1,11 @@
 -- `step_in` meets its contract. Assumes nothing.
 use mathlib.Core.Path.{sym, ap, ap₂, ◌∙◌}
-use Rattle.words.proofs.Choices.{if-true, if-false}
-use Rattle.directory.specs.Directory.{directoryKept}
+use Rattle.words.proofs.Choices.{if_true, if_false}
+use Rattle.directory.specs.Directory.{directory_kept}
 use Rattle.directory.specs.declared.directory.Directory.{Directory}
 use Rattle.record.specs.Next.{step_of}
 use Rattle.record.specs.declared.reader.LogReader.{LogReader}
-use Rattle.edge_reading.specs.Reading.{stepIn}
+use Rattle.edge_reading.specs.Reading.{step_in}
 use borrow.Author.Rules.{rules}
 use Rattle.edge_reading.proofs.reading.step_in.Statement.{statement}
 use Rattle.edge_reading.proofs.reading.step_in.Tie as tie
@@ -31,14 +31,14 @@ directory-of-requires c κs = search rules
 
 -- src/reading.rt:129:9
 next-kept-requires : tie.Need-next-kept-requires
-next-kept-requires c κs = ap directoryKept c.directory-of.ensures ∙ c.before.before.before.before.before.before.before.requires
+next-kept-requires c κs = ap directory_kept c.directory-of.ensures ∙ c.before.before.before.before.before.before.before.requires
 
 -- src/reading.rt:129:9
 returns : tie.Need-returns
-unfolding stepIn
+unfolding step_in
 returns c =
     c.next-kept.ensures ∙ ap₂ (λ (d : Directory) (x : LogReader). step_of d c.before.before.before.before.before.before.before.before.args.log.now x) c.before.directory-of.ensures c.before.before.reader-of.ensures
-    ∙ sym (if-true _ _ _ (sym c.before.before.before.before.reader-formed.ensures ∙ c.before.before.before.if1.true))
+    ∙ sym (if_true _ _ _ (sym c.before.before.before.before.reader-formed.ensures ∙ c.before.before.before.if1.true))
 
 -- src/reading.rt:131:5
 no-reader-requires : tie.Need-no-reader-requires
@@ -46,8 +46,8 @@ no-reader-requires c κs = search rules
 
 -- src/reading.rt:124:1
 returns-2 : tie.Need-returns-2
-unfolding stepIn
-returns-2 c = c.no_reader.ensures ∙ sym (if-false _ _ _ (sym c.before.before.reader-formed.ensures ∙ c.before.if1.false))
+unfolding step_in
+returns-2 c = c.no_reader.ensures ∙ sym (if_false _ _ _ (sym c.before.before.reader-formed.ensures ∙ c.before.if1.false))
 
 pub step-in-spec : {M : Type 1} → statement M
 step-in-spec =

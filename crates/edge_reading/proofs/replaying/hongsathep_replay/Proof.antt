@@ -1,7 +1,7 @@
 -- `hongsathep_replay` meets its contract. Assumes nothing.
 use mathlib.Core.Path.{ap, ◌∙◌}
 use Rattle.directory.specs.declared.directory.Directory.{Directory}
-use Rattle.replay.specs.Replay.{judged, replayedAs, imageAfter}
+use Rattle.replay.specs.Replay.{judged, replayed_as, image_after}
 use Rattle.edge_reading.proofs.Left.{replayed-left}
 use Rattle.edge_reading.proofs.replaying.hongsathep_replay.Statement.{statement}
 use Rattle.edge_reading.proofs.replaying.hongsathep_replay.Tie as tie
@@ -22,7 +22,7 @@ returns : tie.Need-returns
 returns c =
     let a = c.before.before.before.before.before.before.before.before.before.before.before.args in
     let d = c.before.before.before.before.before.before.before.directory-of.ensures in
-    (replayed-left (c.before.before.before.before.before.replay.ensures.0 ∙ ap (λ (x : Directory). replayedAs a.position (judged x a.log.now a.position a.expected a.image.now)) d) c.keep-replayed.ensures, c.before.before.before.before.before.replay.ensures.1 ∙ ap (λ (x : Directory). imageAfter x a.image.now (judged x a.log.now a.position a.expected a.image.now)) d)
+    (replayed-left (c.before.before.before.before.before.replay.ensures.0 ∙ ap (λ (x : Directory). replayed_as a.position (judged x a.log.now a.position a.expected a.image.now)) d) c.keep-replayed.ensures, c.before.before.before.before.before.replay.ensures.1 ∙ ap (λ (x : Directory). image_after x a.image.now (judged x a.log.now a.position a.expected a.image.now)) d)
 
 pub hongsathep-replay-spec : {M : Type 1} → statement M
 hongsathep-replay-spec =

@@ -1,9 +1,9 @@
 -- `hongsathep_salvage_kept` meets its contract. Assumes nothing.
 use mathlib.Core.Path.{ap, ◌∙◌}
-use Rattle.directory.specs.Directory.{directoryKept}
+use Rattle.directory.specs.Directory.{directory_kept}
 use Rattle.directory.specs.declared.directory.Directory.{Directory}
-use Rattle.salvaging.specs.Salvage.{linesOf, salvageBy}
-use Rattle.edge_reading.proofs.SalvageLeft.{left-fields}
+use Rattle.salvaging.specs.Salvage.{lines_of, salvage_by}
+use Rattle.edge_reading.proofs.SalvageLeft.{left_fields}
 use borrow.Author.Rules.{rules}
 use Rattle.edge_reading.proofs.salvage.hongsathep_salvage_kept.Statement.{statement}
 use Rattle.edge_reading.proofs.salvage.hongsathep_salvage_kept.Tie as tie
@@ -12,7 +12,7 @@ directory-of-requires : tie.Need-directory-of-requires
 directory-of-requires c κs = search rules
 
 salvage-kept-requires : tie.Need-salvage-kept-requires
-salvage-kept-requires c κs = (ap directoryKept c.before.before.directory-of.ensures ∙ c.before.before.before.before.before.before.before.requires.0, c.before.before.before.before.before.before.before.requires.1)
+salvage-kept-requires c κs = (ap directory_kept c.before.before.directory-of.ensures ∙ c.before.before.before.before.before.before.before.requires.0, c.before.before.before.before.before.before.before.requires.1)
 
 number-requires : tie.Need-number-requires
 number-requires c κs = search rules
@@ -26,8 +26,8 @@ same-length-2 c = search rules
 returns : tie.Need-returns
 returns c =
     let a = c.before.before.before.before.before.before.before.before.before.before.before.before.before.args in
-    let e = c.before.before.before.before.before.salvage-kept.ensures ∙ ap (λ (x : Directory). salvageBy a.log.now (linesOf x a.log.now) a.out.now a.list.now) c.before.before.before.before.before.before.before.before.directory-of.ensures in
-    left-fields _ _ _ _ _ c.number.ensures e
+    let e = c.before.before.before.before.before.salvage-kept.ensures ∙ ap (λ (x : Directory). salvage_by a.log.now (lines_of x a.log.now) a.out.now a.list.now) c.before.before.before.before.before.before.before.before.directory-of.ensures in
+    left_fields _ _ _ _ _ c.number.ensures e
 
 pub hongsathep-salvage-kept-spec : {M : Type 1} → statement M
 hongsathep-salvage-kept-spec = tie.close (tie.spec directory-of-requires salvage-kept-requires number-requires same_length same-length-2 returns)

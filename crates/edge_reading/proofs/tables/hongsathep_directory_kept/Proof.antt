@@ -1,7 +1,7 @@
 -- `hongsathep_directory_kept` meets its contract. Assumes nothing.
 use mathlib.Core.Path.{sym, ap, ◌∙◌}
-use Rattle.words.proofs.Choices.{if-true, if-false}
-use Rattle.directory.specs.Directory.{directoryKept}
+use Rattle.words.proofs.Choices.{if_true, if_false}
+use Rattle.directory.specs.Directory.{directory_kept}
 use borrow.Author.Rules.{rules}
 use Rattle.edge_reading.proofs.tables.hongsathep_directory_kept.Statement.{statement}
 use Rattle.edge_reading.proofs.tables.hongsathep_directory_kept.Tie as tie
@@ -20,11 +20,11 @@ kept-requires c κs = search rules
 
 -- src/tables.rt:21:9
 returns : tie.Need-returns
-returns c = sym (if-true _ _ _ (sym (ap directoryKept c.before.before.directory-of.ensures) ∙ sym c.before.kept.ensures ∙ c.if1.true))
+returns c = sym (if_true _ _ _ (sym (ap directory_kept c.before.before.directory-of.ensures) ∙ sym c.before.kept.ensures ∙ c.if1.true))
 
 -- src/tables.rt:16:1
 returns-2 : tie.Need-returns-2
-returns-2 c = sym (if-false _ _ _ (sym (ap directoryKept c.before.before.directory-of.ensures) ∙ sym c.before.kept.ensures ∙ c.if1.false))
+returns-2 c = sym (if_false _ _ _ (sym (ap directory_kept c.before.before.directory-of.ensures) ∙ sym c.before.kept.ensures ∙ c.if1.false))
 
 pub hongsathep-directory-kept-spec : {M : Type 1} → statement M
 hongsathep-directory-kept-spec =

@@ -1,6 +1,6 @@
 -- `hongsathep_image_length` meets its contract. Assumes nothing.
 use mathlib.Core.Path.{ap, ◌∙◌}
-use Rattle.directory.specs.Directory.{imageLength}
+use Rattle.directory.specs.Directory.{image_length}
 use borrow.Author.Rules.{rules}
 use Rattle.edge_reading.proofs.tables.hongsathep_image_length.Statement.{statement}
 use Rattle.edge_reading.proofs.tables.hongsathep_image_length.Tie as tie
@@ -19,7 +19,7 @@ image-length-requires c κs = search rules
 
 -- src/tables.rt:26:1
 returns : tie.Need-returns
-returns c = c.image-length.ensures ∙ ap imageLength c.before.directory-of.ensures
+returns c = c.image-length.ensures ∙ ap image_length c.before.directory-of.ensures
 
 pub hongsathep-image-length-spec : {M : Type 1} → statement M
 hongsathep-image-length-spec =

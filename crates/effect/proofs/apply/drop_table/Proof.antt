@@ -1,5 +1,5 @@
 -- `drop_table` meets its contract. Assumes nothing.
-use Rattle.effect.proofs.Spots.{row_room, puts-undropped, puts-dropped}
+use Rattle.effect.proofs.Spots.{row_room, puts_undropped, puts-dropped}
 use mathlib.Core.Path.{sym, ◌∙◌}
 use native.Mathlib.Omega.{arith}
 use Rattle.directory.proofs.Numbers.{plain-found}
@@ -28,7 +28,7 @@ zero-requires : tie.Need-zero-requires
 zero-requires c κs = let h = row_room _ _ _ _ _ (sym c.before.before.before.before.before.before.find-in.ensures ∙ c.before.before.before.before.row.given.1) in omega (arith, h, c.before.size.ensures.0)
 
 returns : tie.Need-returns
-returns c = puts-undropped _ _ _ _ (sym c.before.before.find-in.ensures ∙ c.enum_told.given.1)
+returns c = puts_undropped _ _ _ _ (sym c.before.before.find-in.ensures ∙ c.enum_told.given.1)
 
 same_length : tie.Need-same-length
 same_length c = search rules

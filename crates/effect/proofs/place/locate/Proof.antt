@@ -2,8 +2,8 @@
 use mathlib.Core.Path.{sym, ◌∙◌}
 use Prim.Native.Nat.{◌+◌, ◌*◌, ◌≤◌}
 use native.Mathlib.Omega.{arith}
-use Rattle.directory.specs.Directory.{imageLength}
-use Rattle.directory.specs.Inner.{directoryIn}
+use Rattle.directory.specs.Directory.{image_length}
+use Rattle.directory.specs.Inner.{directory_in}
 use Rattle.directory.proofs.Numbers.{plain-found}
 use Rattle.effect.proofs.Spots.{spot-room, spot-at, spot_past, spot-none}
 use borrow.Author.Rules.{rules}
@@ -32,7 +32,7 @@ start-in-requires c κs =
 
 -- what lies under the index lies within the image
 room : (c : tie.After-start-in) → c.start-in.result + c.before.before.before.before.before.before.before.before.args.index * c.before.slot-length.result + c.before.slot-length.result
-    ≤ imageLength (directoryIn c.before.before.before.before.before.before.before.before.args.t.now)
+    ≤ image_length (directory_in c.before.before.before.before.before.before.before.before.args.t.now)
 room c = spot-room _ _ _ _ _ (sym c.before.before.before.before.before.before.before.find-in.ensures ∙ c.before.before.before.before.before.row.given.1) _ c.before.before.if1.true _ _ c.start-in.ensures c.before.slot-length.ensures.0
 
 mul-t15 : tie.Need-overflow-mul-t15

@@ -7,14 +7,14 @@ use lib.Count.{ones}
 use lib.ListN.{length, drop}
 use lib.Seq.{length-sets}
 use Rattle.words.proofs.Runs.{Turn, turn}
-use Rattle.effect.specs.Effect.{slotStrokes, puts}
+use Rattle.effect.specs.Effect.{slot_strokes, puts}
 use Rattle.effect.proofs.Steps.{slots-first, slots-run, slots-last}
 use Rattle.effect.proofs.store.put_slots.Statement.{statement}
 use Rattle.effect.proofs.store.put_slots.Tie as tie
 
 abbrev invariant-loop : tie.invariant-loop
 invariant-loop image₀ at w mask log from m₀ slot₀ f₀ image m slot f =
-    (puts (slotStrokes (64 - slot) w (at + slot * w) m (drop f log)) image ≡ puts (slotStrokes 64 w at mask (drop from log)) image₀)
+    (puts (slot_strokes (64 - slot) w (at + slot * w) m (drop f log)) image ≡ puts (slot_strokes 64 w at mask (drop from log)) image₀)
     × (length image ≡ length image₀) × (slot ≤ 64) × (m < 2 ^ (64 - slot)) × (f + ones m * w ≤ length log)
 
 abbrev decreases-loop : tie.decreases-loop

@@ -1,6 +1,6 @@
 -- `end_record_kept` meets its contract: refused, or written and put. Assumes nothing.
 use mathlib.Core.Path.{sym, ◌∙◌}
-use Rattle.ending.proofs.Tests.{list-ruled, list-parts, shared-parts}
+use Rattle.ending.proofs.Tests.{list-ruled, list-parts, shared_parts}
 use Rattle.ending.proofs.Left.{left-refused, is_free, left-done}
 use borrow.Author.Rules.{rules}
 use Rattle.ending.proofs.record_end.end_record_kept.Statement.{statement}
@@ -31,7 +31,7 @@ flush-to-file-kept-requires : tie.Need-flush-to-file-kept-requires
 flush-to-file-kept-requires c κs = let a = c.before.before.before.before.before.before.before.before.before.before.before.before.before.args in list-ruled a.directory a.list a.list-words.now a.list-bytes.now a.overlays a.words.now a.bytes.now a.queues a.next a.out.now c.before.before.before.before.before.before.before.before.before.before.before.before.before.requires
 
 put-list-requires : tie.Need-put-list-requires
-put-list-requires c κs = let a = c.before.before.before.before.before.before.before.before.before.before.before.before.before.before.before.before.before.before.before.args in (list-parts a.directory a.list a.list-words.now a.list-bytes.now a.overlays a.words.now a.bytes.now a.queues a.next a.out.now c.before.before.before.before.before.before.before.before.before.before.before.before.before.before.before.before.before.before.before.requires, shared-parts a.directory a.list a.list-words.now a.list-bytes.now a.overlays a.words.now a.bytes.now a.queues a.next a.out.now c.before.before.before.before.before.before.before.before.before.before.before.before.before.before.before.before.before.before.before.requires, is_free a.directory a.list a.list-words.now a.list-bytes.now a.overlays a.words.now a.bytes.now a.queues a.next a.out.now _ c.before.before.before.before.before.before.before.before.before.before.file-for.ensures (sym c.before.before.before.before.before.before.before.before.number.ensures ∙ c.before.before.before.before.before.before.before.if1.false))
+put-list-requires c κs = let a = c.before.before.before.before.before.before.before.before.before.before.before.before.before.before.before.before.before.before.before.args in (list-parts a.directory a.list a.list-words.now a.list-bytes.now a.overlays a.words.now a.bytes.now a.queues a.next a.out.now c.before.before.before.before.before.before.before.before.before.before.before.before.before.before.before.before.before.before.before.requires, shared_parts a.directory a.list a.list-words.now a.list-bytes.now a.overlays a.words.now a.bytes.now a.queues a.next a.out.now c.before.before.before.before.before.before.before.before.before.before.before.before.before.before.before.before.before.before.before.requires, is_free a.directory a.list a.list-words.now a.list-bytes.now a.overlays a.words.now a.bytes.now a.queues a.next a.out.now _ c.before.before.before.before.before.before.before.before.before.before.file-for.ensures (sym c.before.before.before.before.before.before.before.before.number.ensures ∙ c.before.before.before.before.before.before.before.if1.false))
 
 same-length-4 : tie.Need-same-length-4
 same-length-4 c = search rules

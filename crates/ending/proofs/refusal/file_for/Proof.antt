@@ -2,7 +2,7 @@
 use mathlib.Core.Path.{sym, ◌∙◌}
 use native.Mathlib.Omega.{arith}
 use Rattle.ending.proofs.Decided.{queues-of, next_of}
-use Rattle.ending.proofs.Tests.{list-ruled, list-keys, shared-keys, test-11, test-9, test-file, test-10, test-0}
+use Rattle.ending.proofs.Tests.{list-ruled, list-keys, shared_keys, test-11, test-9, test-file, test-10, test-0}
 use borrow.Author.Rules.{rules}
 use Rattle.ending.proofs.refusal.file_for.Statement.{statement}
 use Rattle.ending.proofs.refusal.file_for.Tie as tie
@@ -17,7 +17,7 @@ returns : tie.Need-returns
 returns c = let a = c.before.before.before.before.before.before.before.before.args in test-11 a.directory a.list a.list-words.now a.list-bytes.now a.overlays a.words.now a.bytes.now a.queues a.next a.out.now c.before.before.before.before.before.before.before.before.requires c.before.if1.true _ c.not_taken.ensures
 
 any-crowded-requires : tie.Need-any-crowded-requires
-any-crowded-requires c κs = let a = c.before.before.before.before.before.before.before.before.before.args in (list-keys a.directory a.list a.list-words.now a.list-bytes.now a.overlays a.words.now a.bytes.now a.queues a.next a.out.now c.before.before.before.before.before.before.before.before.before.requires, shared-keys a.directory a.list a.list-words.now a.list-bytes.now a.overlays a.words.now a.bytes.now a.queues a.next a.out.now c.before.before.before.before.before.before.before.before.before.requires)
+any-crowded-requires c κs = let a = c.before.before.before.before.before.before.before.before.before.args in (list-keys a.directory a.list a.list-words.now a.list-bytes.now a.overlays a.words.now a.bytes.now a.queues a.next a.out.now c.before.before.before.before.before.before.before.before.before.requires, shared_keys a.directory a.list a.list-words.now a.list-bytes.now a.overlays a.words.now a.bytes.now a.queues a.next a.out.now c.before.before.before.before.before.before.before.before.before.requires)
 
 not-taken-requires-2 : tie.Need-not-taken-requires-2
 not-taken-requires-2 c κs = search rules

@@ -3,13 +3,13 @@ use Prim.Native.Nat.{◌+◌, ◌-◌, ◌*◌, ◌≤◌, ◌<◌}
 use mathlib.Core.Path.{◌≡◌, refl, sym, ◌∙◌}
 use native.Mathlib.Omega.{arith}
 use lib.ListN.{length, drop}
-use Rattle.found.specs.Names.{decimalFrom}
-use Rattle.found.proofs.NameLaws.{digit-is, digit_not, digits-large, digits-end, digits_more, digits-stop}
+use Rattle.found.specs.Names.{decimal_from}
+use Rattle.found.proofs.NameLaws.{digit-is, digit_not, digits_large, digits-end, digits_more, digits-stop}
 use Rattle.found.proofs.name.decimal.Statement.{statement}
 use Rattle.found.proofs.name.decimal.Tie as tie
 
 abbrev invariant-loop : tie.invariant-loop
-invariant-loop name n₀ i₀ n i = (3 ≤ i) × (i ≤ length name) × (n < 4294967296) × (decimalFrom n (drop i name) ≡ decimalFrom 0 (drop 3 name))
+invariant-loop name n₀ i₀ n i = (3 ≤ i) × (i ≤ length name) × (n < 4294967296) × (decimal_from n (drop i name) ≡ decimal_from 0 (drop 3 name))
 
 abbrev decreases-loop : tie.decreases-loop
 decreases-loop name n₀ i₀ n i = length name - i
@@ -37,7 +37,7 @@ add-n c = omega arith
 returns-2 : tie.Need-returns-2 invariant-loop decreases-loop
 returns-2 c =
     let l = c.before.before.before.before.before.loop in
-    sym (digits_more l.n c.before.before.before.before.before.before.before.args.name.now l.i c.before.before.before.before.loop-test.true c.before.before.digit.result (digit-is _ _ c.before.before.digit.ensures c.before.if1.false) ∙ digits-large (10 * l.n + c.before.before.digit.result) (drop (l.i + 1) c.before.before.before.before.before.before.before.args.name.now) (omega (arith, c.if2.true)))
+    sym (digits_more l.n c.before.before.before.before.before.before.before.args.name.now l.i c.before.before.before.before.loop-test.true c.before.before.digit.result (digit-is _ _ c.before.before.digit.ensures c.before.if1.false) ∙ digits_large (10 * l.n + c.before.before.digit.result) (drop (l.i + 1) c.before.before.before.before.before.before.before.args.name.now) (omega (arith, c.if2.true)))
     ∙ l.invariant.3
 
 add-i : tie.Need-overflow-add-i invariant-loop decreases-loop

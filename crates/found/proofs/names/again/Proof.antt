@@ -4,14 +4,14 @@ use mathlib.Core.Path.{◌≡◌, refl, sym, ap, ◌∙◌}
 use native.Mathlib.Omega.{arith}
 use lib.ListN.{length, take, drop}
 use Rattle.numbers.specs.Numbers.{has}
-use Rattle.found.specs.Names.{saidBy}
-use Rattle.found.specs.Logs.{takenNumbers, total}
+use Rattle.found.specs.Names.{said_by}
+use Rattle.found.specs.Logs.{taken_numbers, total}
 use Rattle.found.proofs.Steps.{name-fits, name-end, again-hit, again-skip, taken-end}
 use Rattle.found.proofs.names.again.Statement.{statement}
 use Rattle.found.proofs.names.again.Tie as tie
 
 abbrev invariant-loop : tie.invariant-loop
-invariant-loop names name-lengths from i number at₀ j₀ at j = (j ≤ length name-lengths) × (at ≡ total (take j name-lengths)) × (has number (takenNumbers (drop j (saidBy names name-lengths))) ≡ has number (takenNumbers (drop i (saidBy names name-lengths))))
+invariant-loop names name-lengths from i number at₀ j₀ at j = (j ≤ length name-lengths) × (at ≡ total (take j name-lengths)) × (has number (taken_numbers (drop j (said_by names name-lengths))) ≡ has number (taken_numbers (drop i (said_by names name-lengths))))
 
 abbrev decreases-loop : tie.decreases-loop
 decreases-loop names name-lengths from i number at₀ j₀ at j = length name-lengths - j

@@ -4,14 +4,14 @@ use mathlib.Core.Path.{◌≡◌, refl, sym, ap, ◌∙◌}
 use native.Mathlib.Omega.{arith}
 use lib.ListN.{length, take, drop}
 use Rattle.numbers.specs.Numbers.{distinct}
-use Rattle.found.specs.Names.{saidBy}
-use Rattle.found.specs.Logs.{takenNumbers, total}
+use Rattle.found.specs.Names.{said_by}
+use Rattle.found.specs.Logs.{taken_numbers, total}
 use Rattle.found.proofs.Steps.{name-fits, name-end, twice-fails, twice-goes, taken-end}
 use Rattle.found.proofs.names.no_name_twice.Statement.{statement}
 use Rattle.found.proofs.names.no_name_twice.Tie as tie
 
 abbrev invariant-loop : tie.invariant-loop
-invariant-loop names name-lengths at₀ i₀ at i = (i ≤ length name-lengths) × (at ≡ total (take i name-lengths)) × (distinct (takenNumbers (drop i (saidBy names name-lengths))) ≡ distinct (takenNumbers (saidBy names name-lengths)))
+invariant-loop names name-lengths at₀ i₀ at i = (i ≤ length name-lengths) × (at ≡ total (take i name-lengths)) × (distinct (taken_numbers (drop i (said_by names name-lengths))) ≡ distinct (taken_numbers (said_by names name-lengths)))
 
 abbrev decreases-loop : tie.decreases-loop
 decreases-loop names name-lengths at₀ i₀ at i = length name-lengths - i

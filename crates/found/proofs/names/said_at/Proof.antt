@@ -2,7 +2,7 @@
 use Prim.Native.Nat.{ℕ, ◌+◌, ◌-◌}
 use mathlib.Core.Path.{◌≡◌, ap, ◌∙◌}
 use lib.ListN.{take, drop}
-use Rattle.found.specs.Names.{logName}
+use Rattle.found.specs.Names.{log_name}
 use native.Mathlib.Omega.{arith}
 use borrow.Author.Rules.{rules}
 use Rattle.found.proofs.names.said_at.Statement.{statement}
@@ -26,7 +26,7 @@ log-name-requires c κs = search rules
 returns : tie.Need-returns
 returns c =
     let e : c.before.before.before.args.at + c.before.before.before.args.n - c.before.before.before.args.at ≡ c.before.before.before.args.n = omega arith in
-    c.log-name.ensures ∙ ap (λ (m : ℕ). logName (take m (drop c.before.before.before.args.at c.before.before.before.args.names.now))) e
+    c.log-name.ensures ∙ ap (λ (m : ℕ). log_name (take m (drop c.before.before.before.args.at c.before.before.before.args.names.now))) e
 
 pub said-at-spec : {M : Type 1} → statement M
 said-at-spec =

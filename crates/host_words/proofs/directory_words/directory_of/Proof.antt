@@ -4,7 +4,7 @@ use Prim.Native.Nat.{ℕ, ◌+◌, ◌-◌, ◌/◌, ◌≤◌}
 use native.Mathlib.Omega.{arith}
 use lib.ListN.{length}
 use borrow.Author.Rules.{rules}
-use Rattle.directory.specs.Directory.{noTables}
+use Rattle.directory.specs.Directory.{no_tables}
 use Rattle.directory.specs.declared.directory.Directory.{Directory}
 use Rattle.host_words.specs.Tables.{rows_from}
 use Rattle.host_words.proofs.Rows.{rows-turn, rows_end, directory-whole, directory-odd}
@@ -17,7 +17,7 @@ use Rattle.host_words.proofs.directory_words.broken.Reads as broken-reads
 use Rattle.host_words.proofs.directory_words.with_row.Reads as with-row-reads
 
 abbrev invariant-loop : tie.invariant-loop
-invariant-loop w n d₀ i₀ d i = (i ≤ n) × (rows_from (n - i) i w d ≡ rows_from n 0 w noTables)
+invariant-loop w n d₀ i₀ d i = (i ≤ n) × (rows_from (n - i) i w d ≡ rows_from n 0 w no_tables)
 
 abbrev decreases-loop : tie.decreases-loop
 decreases-loop w n d₀ i₀ d i = n - i

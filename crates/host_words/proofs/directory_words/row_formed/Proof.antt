@@ -1,6 +1,6 @@
 -- `row_formed` meets its contract: one test a word. Assumes nothing.
 use borrow.Author.Tests.{lt-ltb, le-ltb}
-use Rattle.host_words.specs.Tables.{rowFormed}
+use Rattle.host_words.specs.Tables.{row_formed}
 use borrow.Author.Rules.{rules}
 use Rattle.host_words.proofs.directory_words.row_formed.Statement.{statement}
 use Rattle.host_words.proofs.directory_words.row_formed.Tie as tie
@@ -17,7 +17,7 @@ shared-slice-read-if1 c = search rules
 
 -- src/directory_words.rt:28:9
 returns : tie.Need-returns
-unfolding rowFormed
+unfolding row_formed
 returns c = rw (le-ltb _ _ c.if1.true)
 
 -- src/directory_words.rt:30:19
@@ -34,7 +34,7 @@ shared-slice-read-if2 c = search rules
 
 -- src/directory_words.rt:31:9
 returns-2 : tie.Need-returns-2
-unfolding rowFormed
+unfolding row_formed
 returns-2 c = rw (lt-ltb _ _ c.before.before.if1.false, le-ltb _ _ c.if2.true)
 
 -- src/directory_words.rt:33:17
@@ -51,7 +51,7 @@ shared-slice-read-if3 c = search rules
 
 -- src/directory_words.rt:34:9
 returns-3 : tie.Need-returns-3
-unfolding rowFormed
+unfolding row_formed
 returns-3 c = rw (lt-ltb _ _ c.before.before.before.before.if1.false, lt-ltb _ _ c.before.before.if2.false, le-ltb _ _ c.if3.true)
 
 -- src/directory_words.rt:36:19
@@ -68,7 +68,7 @@ shared-slice-read-if4 c = search rules
 
 -- src/directory_words.rt:37:9
 returns-4 : tie.Need-returns-4
-unfolding rowFormed
+unfolding row_formed
 returns-4 c = rw (lt-ltb _ _ c.before.before.before.before.before.before.if1.false, lt-ltb _ _ c.before.before.before.before.if2.false, lt-ltb _ _ c.before.before.if3.false, le-ltb _ _ c.if4.true)
 
 -- src/directory_words.rt:39:19
@@ -85,7 +85,7 @@ shared-slice-read-if5 c = search rules
 
 -- src/directory_words.rt:40:9
 returns-5 : tie.Need-returns-5
-unfolding rowFormed
+unfolding row_formed
 returns-5 c = rw (lt-ltb _ _ c.before.before.before.before.before.before.before.before.if1.false, lt-ltb _ _ c.before.before.before.before.before.before.if2.false, lt-ltb _ _ c.before.before.before.before.if3.false, lt-ltb _ _ c.before.before.if4.false, le-ltb _ _ c.if5.true)
 
 -- src/directory_words.rt:42:7
@@ -102,7 +102,7 @@ shared-slice-read-result c = search rules
 
 -- src/directory_words.rt:23:1
 returns-6 : tie.Need-returns-6
-unfolding rowFormed
+unfolding row_formed
 returns-6 c = rw (lt-ltb _ _ c.before.before.before.before.before.before.before.before.before.if1.false, lt-ltb _ _ c.before.before.before.before.before.before.before.if2.false, lt-ltb _ _ c.before.before.before.before.before.if3.false, lt-ltb _ _ c.before.before.before.if4.false, lt-ltb _ _ c.before.if5.false)
 
 pub row-formed-spec : {M : Type 1} → statement M

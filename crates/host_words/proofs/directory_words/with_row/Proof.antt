@@ -1,8 +1,8 @@
 -- `with_row` meets its contract: full, ill formed, or one table more. Assumes nothing.
 use mathlib.Core.Path.{sym, ap, ◌∙◌}
 use borrow.Author.Tests.{not-true, not-false}
-use Rattle.host_words.specs.Tables.{tableAdded}
-use Rattle.host_words.proofs.Rows.{with-full, with-ill, with-next}
+use Rattle.host_words.specs.Tables.{table_added}
+use Rattle.host_words.proofs.Rows.{with_full, with_ill, with_next_lem}
 use borrow.Author.Rules.{rules}
 use Rattle.host_words.proofs.directory_words.with_row.Statement.{statement}
 use Rattle.host_words.proofs.directory_words.with_row.Tie as tie
@@ -18,7 +18,7 @@ broken-requires c κs = search rules
 
 -- src/directory_words.rt:73:9
 returns : tie.Need-returns
-returns c = c.broken.ensures ∙ sym (with-full _ _ _ c.before.if1.true)
+returns c = c.broken.ensures ∙ sym (with_full _ _ _ c.before.if1.true)
 
 -- src/directory_words.rt:75:9
 row-formed-requires : tie.Need-row-formed-requires
@@ -30,7 +30,7 @@ broken-requires-2 c κs = search rules
 
 -- src/directory_words.rt:76:9
 returns-2 : tie.Need-returns-2
-returns-2 c = c.broken2.ensures ∙ sym (with-ill _ _ _ (sym c.before.before.row-formed.ensures ∙ not-true _ c.before.if2.true))
+returns-2 c = c.broken2.ensures ∙ sym (with_ill _ _ _ (sym c.before.before.row-formed.ensures ∙ not-true _ c.before.if2.true))
 
 -- src/directory_words.rt:79:22
 row-of-requires : tie.Need-row-of-requires
@@ -50,7 +50,7 @@ add-more c = search rules
 
 -- src/directory_words.rt:67:1
 returns-3 : tie.Need-returns-3
-returns-3 c = ap (tableAdded c.before.before.before.before.before.args.d) c.row_of.ensures ∙ sym (with-next _ _ _ c.before.before.before.if1.false (sym c.before.before.row-formed.ensures ∙ not-false _ c.before.if2.false))
+returns-3 c = ap (table_added c.before.before.before.before.before.args.d) c.row_of.ensures ∙ sym (with_next_lem _ _ _ c.before.before.before.if1.false (sym c.before.before.row-formed.ensures ∙ not-false _ c.before.if2.false))
 
 pub with-row-spec : {M : Type 1} → statement M
 with-row-spec =

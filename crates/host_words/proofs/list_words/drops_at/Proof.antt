@@ -4,7 +4,7 @@ use Prim.Native.Nat.{◌+◌, ◌-◌, ◌≤◌}
 use native.Mathlib.Omega.{arith}
 use lib.ListN.{length, take, drop, length-set}
 use lib.Seq.{take_all}
-use Rattle.host_words.proofs.Laws.{fill-turn, below_in}
+use Rattle.host_words.proofs.Laws.{fill_turn, below_in}
 use Rattle.host_words.proofs.list_words.drops_at.Statement.{statement}
 use Rattle.host_words.proofs.list_words.drops_at.Tie as tie
 use Rattle.host_words.proofs.list_words.drops_at.Reads as reads
@@ -59,7 +59,7 @@ loop-less c = omega arith
 -- src/list_words.rt:48:5
 loop-again : tie.Need-loop-preserved invariant-loop decreases-loop
 loop-again c =
-    (omega arith, simp length-set c.before.before.loop.invariant.1, fill-turn _ _ (c.before.before.before.args.at + 1) c.before.before.loop.i (omega arith) (omega (arith, c.before.before.before.requires.0)) c.before.before.loop.invariant.2)
+    (omega arith, simp length-set c.before.before.loop.invariant.1, fill_turn _ _ (c.before.before.before.args.at + 1) c.before.before.loop.i (omega arith) (omega (arith, c.before.before.before.requires.0)) c.before.before.loop.invariant.2)
 
 -- src/list_words.rt:54:16
 mul-t16 : tie.Need-overflow-mul-t16 invariant-loop decreases-loop

@@ -6,9 +6,9 @@ use Prim.Native.Nat.{ℕ}
 use lib.ListN.{take}
 use Rattle.numbers.specs.Numbers.{all_below}
 use Rattle.overlay.proofs.Parts.{rest_part}
-use Rattle.host_words.proofs.Heads.{list-ill, list-rest}
+use Rattle.host_words.proofs.Heads.{list_ill, list-rest}
 use borrow.Author.Tests.{eq-eqb, ne_eqb, not-true, not-false}
-use Rattle.host_words.specs.Change.{listFormed}
+use Rattle.host_words.specs.Change.{list_formed}
 use borrow.Author.Rules.{rules}
 use Rattle.host_words.proofs.list_words.formed.Statement.{statement}
 use Rattle.host_words.proofs.list_words.formed.Tie as tie
@@ -18,7 +18,7 @@ use Rattle.numbers.proofs.all_below.Reads as all-below-reads
 
 -- src/list_words.rt:23:9
 returns : tie.Need-returns
-unfolding listFormed
+unfolding list_formed
 returns c = rw (ne_eqb _ _ c.if1.true)
 
 -- src/list_words.rt:25:28
@@ -41,7 +41,7 @@ all-below-requires c κs = search rules
 returns-2 : tie.Need-returns-2
 returns-2 c =
     let f : List ℕ → Bool = λ (l : List ℕ). all_below 65536 (take 16 l) in
-    list-ill _ c.before.before.before.if1.false _ (c.before.all-below.ensures ∙ ap f (rest_part 5 c.before.before.before.before.before.args.words.now)) (not-true _ c.if2.true)
+    list_ill _ c.before.before.before.if1.false _ (c.before.all-below.ensures ∙ ap f (rest_part 5 c.before.before.before.before.before.args.words.now)) (not-true _ c.if2.true)
 
 -- src/list_words.rt:28:24
 sub-all-below-2 : tie.Need-overflow-sub-all-below-2

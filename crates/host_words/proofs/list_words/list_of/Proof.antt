@@ -1,6 +1,6 @@
 -- `list_of` meets its contract. Assumes nothing.
 use mathlib.Core.Path.{sym, ◌∙◌}
-use Rattle.words.proofs.Choices.{if-true, if-false}
+use Rattle.words.proofs.Choices.{if_true, if_false}
 use Rattle.host_words.specs.Change.{list_from}
 use borrow.Author.Rules.{rules}
 use Rattle.host_words.proofs.list_words.list_of.Statement.{statement}
@@ -22,7 +22,7 @@ loaded-requires c κs = sym c.before.formed.ensures ∙ c.if1.true
 -- src/list_words.rt:84:9
 returns : tie.Need-returns
 unfolding list_from
-returns c = c.loaded.ensures ∙ sym (if-true _ _ _ (sym c.before.before.formed.ensures ∙ c.before.if1.true))
+returns c = c.loaded.ensures ∙ sym (if_true _ _ _ (sym c.before.before.formed.ensures ∙ c.before.if1.true))
 
 -- src/list_words.rt:86:5
 broken-requires : tie.Need-broken-requires
@@ -31,7 +31,7 @@ broken-requires c κs = search rules
 -- src/list_words.rt:80:1
 returns-2 : tie.Need-returns-2
 unfolding list_from
-returns-2 c = c.broken.ensures ∙ sym (if-false _ _ _ (sym c.before.before.formed.ensures ∙ c.before.if1.false))
+returns-2 c = c.broken.ensures ∙ sym (if_false _ _ _ (sym c.before.before.formed.ensures ∙ c.before.if1.false))
 
 pub list-of-spec : {M : Type 1} → statement M
 list-of-spec =

@@ -7,7 +7,7 @@ use borrow.Author.Rules.{rules}
 use lib.ListN.{length, drop, length-set, drop_of_length-le}
 use Rattle.output.specs.Put.{put, Wrote}
 use Rattle.output.proofs.Laws.{all_left, none_left}
-use Rattle.host_words.proofs.Laws.{write-turn}
+use Rattle.host_words.proofs.Laws.{write_turn}
 use Rattle.host_words.proofs.list_words.put_tables.Statement.{statement}
 use Rattle.host_words.proofs.list_words.put_tables.Tie as tie
 use Rattle.host_words.proofs.list_words.put_tables.Reads as reads
@@ -60,7 +60,7 @@ loop-less c = omega arith
 
 -- src/list_words.rt:110:5
 loop-again : tie.Need-loop-preserved invariant-loop decreases-loop
-loop-again c = (search rules, simp length-set (search rules), write-turn _ _ _ _ _ _ _ (search rules) (search rules) c.wide.ensures c.before.before.before.loop.invariant.2)
+loop-again c = (search rules, simp length-set (search rules), write_turn _ _ _ _ _ _ _ (search rules) (search rules) c.wide.ensures c.before.before.before.loop.invariant.2)
 
 -- src/list_words.rt:114:5
 add-result : tie.Need-overflow-add-result invariant-loop decreases-loop

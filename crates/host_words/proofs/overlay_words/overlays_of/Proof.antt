@@ -5,7 +5,7 @@ use mathlib.Core.List.{List}
 use Prim.Native.Nat.{ℕ}
 use borrow.Author.Tests.{eq-eqb, ne_eqb}
 use Rattle.memory.specs.declared.counts.Counts.{Counts}
-use Rattle.host_words.specs.Overlays.{overlaysHead, overlaysFrom}
+use Rattle.host_words.specs.Overlays.{overlays_head, overlays_from}
 use Rattle.host_words.proofs.Laws.{paste_all}
 use borrow.Author.Rules.{rules}
 use Rattle.host_words.proofs.overlay_words.overlays_of.Statement.{statement}
@@ -22,7 +22,7 @@ broken-requires c κs = search rules
 
 -- src/overlay_words.rt:33:9
 returns : tie.Need-returns
-unfolding overlaysFrom
+unfolding overlays_from
 returns c = rw (ne_eqb _ _ c.before.if1.true) c.broken.ensures
 
 -- src/overlay_words.rt:36:19
@@ -39,9 +39,9 @@ counts-at-requires c κs = search rules
 
 -- src/overlay_words.rt:29:1
 returns-2 : tie.Need-returns-2
-unfolding overlaysFrom
+unfolding overlays_from
 returns-2 c =
-    let f = ap₂ overlaysHead c.counts-at.ensures (c.before.before.copy.ensures ∙ paste_all (replicate 8 0) (drop 3 c.before.before.before.before.before.before.args.words.now) 8 refl) in
+    let f = ap₂ overlays_head c.counts-at.ensures (c.before.before.copy.ensures ∙ paste_all (replicate 8 0) (drop 3 c.before.before.before.before.before.before.args.words.now) 8 refl) in
     rw (eq-eqb _ _ c.before.before.before.before.if1.false) f
 
 pub overlays-of-spec : {M : Type 1} → statement M

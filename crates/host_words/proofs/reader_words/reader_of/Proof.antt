@@ -1,6 +1,6 @@
 -- `reader_of` meets its contract. Assumes nothing.
 use native.Mathlib.Omega.{arith}
-use Rattle.host_words.proofs.Heads.{reader-length, reader-register}
+use Rattle.host_words.proofs.Heads.{reader-length, reader_register}
 use borrow.Author.Rules.{rules}
 use Rattle.host_words.proofs.reader_words.reader_of.Statement.{statement}
 use Rattle.host_words.proofs.reader_words.reader_of.Tie as tie
@@ -21,7 +21,7 @@ shared-slice-read-t8 c = omega (arith, reader-length _ c.before.before.before.re
 
 -- src/reader_words.rt:32:16
 cast-t9 : tie.Need-overflow-cast-t9
-cast-t9 c = omega (arith, reader-register _ c.before.before.before.requires)
+cast-t9 c = omega (arith, reader_register _ c.before.before.before.requires)
 
 -- src/reader_words.rt:33:19
 shared-slice-read-t11 : tie.Need-shared-slice-read-t11

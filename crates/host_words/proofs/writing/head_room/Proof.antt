@@ -1,15 +1,15 @@
 -- `head_room` meets its contract. Assumes nothing.
 use borrow.Author.Tests.{eq-eqb, ne_eqb}
-use Rattle.host_words.specs.Head.{headRoom}
+use Rattle.host_words.specs.Head.{head_room}
 use Rattle.host_words.proofs.writing.head_room.Statement.{statement}
 use Rattle.host_words.proofs.writing.head_room.Tie as tie
 
 returns : tie.Need-returns
-unfolding headRoom
+unfolding head_room
 returns c = rw (eq-eqb _ _ c.if1.true)
 
 returns-2 : tie.Need-returns-2
-unfolding headRoom
+unfolding head_room
 returns-2 c = rw (ne_eqb _ _ c.if1.false)
 
 pub head-room-spec : {M : Type 1} → statement M

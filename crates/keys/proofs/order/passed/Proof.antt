@@ -1,5 +1,5 @@
 -- `keys::passed` meets its contract: the key at j is below exactly if j is before the place. Assumes nothing.
-use Rattle.numbers.specs.Numbers.{oneIf}
+use Rattle.numbers.specs.Numbers.{one_if}
 use Rattle.keys.specs.Keys.{rank}
 use Rattle.keys.proofs.Places.{in_use}
 use Rattle.keys.proofs.Turns.{below_as, one_at_most}
@@ -27,7 +27,7 @@ returns : tie.Need-returns
 returns c =
     let a = c.before.before.before.before.before.args in (
       c.count.ensures
-          ∙ ap oneIf (c.before.is_below.ensures
+          ∙ ap one_if (c.before.is_below.ensures
           ∙ below_as a.rows.now a.order.now a.n (rank a.t a.x) a.j (omega arith) (omega arith) c.before.before.before.before.before.requires.1),
       one_at_most c.count.result c.before.is_below.result c.count.ensures,
     )

@@ -36,7 +36,7 @@ use denote.Exit.{yes}
 use Rattle.directory.specs.declared.table.TableDescription.{TableDescription}
 use Rattle.directory.specs.declared.directory.Directory.{Directory}
 use Rattle.lent.specs.Lent.{gathered}
-use Rattle.lent.proofs.Held.{Held, heldStruct, heldEnum, Tab, Dir, lentVal}
+use Rattle.lent.proofs.Held.{Held, held_struct, held_enum, Tab, Dir, lent_val}
 use Rattle.lent.proofs.Entry.{Gather, gathers}
 use Rattle.lent.proofs.slice.gather.Symbol as gather-def
 use Rattle.lent.proofs.slice.gather.Symbol.{name as #gather}
@@ -56,10 +56,10 @@ use Rattle.lent.proofs.entries.next.Statement as stated
 use Rattle.lent.proofs.entries.next.Code as code
 
 abbrev LogReaderᴴ : Held
-LogReaderᴴ = heldStruct LogReader.the_type LogReader'.the_laws LogReader'.the_plain
+LogReaderᴴ = held_struct LogReader.the_type LogReader'.the_laws LogReader'.the_plain
 
 abbrev Stepᴴ : Held
-Stepᴴ = heldEnum Step.the_type Step'.the_laws Step'.the_plain tt
+Stepᴴ = held_enum Step.the_type Step'.the_laws Step'.the_plain tt
 
 abbrev stayed : Stays (entry.ended).signature.params (entry.ended).kept
 stayed = (stay_dropped (plain (λ _. LogReaderᴴ.row)) yes, (stay_dropped (shr_slice_of (0 ∷ []) tt (plain (λ _. Tab.row))) yes, (stay_dropped (shr_slice_of (1 ∷ []) tt (plain (λ _. u8))) yes, tt)))
@@ -76,7 +76,7 @@ module _ {M : Type 1} {𝓤 : Ura M} (𝓛 : Logic 𝓤) (mem : Memory → SProp
   Says r d = r ≡ next_of d log.now reader
 
   abbrev here : (walk_of 𝓛 entry.ended stayed (entry.clauses 𝓛 mem run)).Ghost
-  here = (((κ₀, (κ₁, tt)), (q₀, (q₁, tt)), tt, (reader, (tables, (log, tt))), (LogReaderᴴ.val reader ∷ [], (lentVal tables ∷ [], (lentVal log ∷ [], tt)))), tt)
+  here = (((κ₀, (κ₁, tt)), (q₀, (q₁, tt)), tt, (reader, (tables, (log, tt))), (LogReaderᴴ.val reader ∷ [], (lent_val tables ∷ [], (lent_val log ∷ [], tt)))), tt)
 
   abbrev Post : Val → SProp 𝓤
   Post = (walk_of 𝓛 entry.ended stayed (entry.clauses 𝓛 mem run)).post here
@@ -92,12 +92,12 @@ module _ {M : Type 1} {𝓤 : Ura M} (𝓛 : Logic 𝓤) (mem : Memory → SProp
   callee-args d = (reader, (d, (log, tt)))
 
   abbrev to-callee : Directory → Val → (Callee 𝓛 mem run).Ghost
-  to-callee d v = (((κ₁, tt), (q₁, tt), tt, callee-args d, (LogReaderᴴ.val reader ∷ [], (v ∷ [], (lentVal log ∷ [], tt)))), tt)
+  to-callee d v = (((κ₁, tt), (q₁, tt), tt, callee-args d, (LogReaderᴴ.val reader ∷ [], (v ∷ [], (lent_val log ∷ [], tt)))), tt)
 
   module _ (C : Calls 𝓤 H) (Λ : Loops 𝓤 H) (fm : FmC 𝓤 H 𝓛.laws C) (known-gather : Triple 𝓤 (C #gather) (Gather 𝓛 mem run)) (known-callee : Triple 𝓤 (C #callee) (Callee 𝓛 mem run)) where
-    walk : Room Tab.row (length tables.now) → Room u8 (length log.now) → ent 𝓤 ((walk_of 𝓛 entry.ended stayed (entry.clauses 𝓛 mem run)).pre here) (WpFn 𝓤 H C Λ code.function (LogReaderᴴ.val reader ∷ lentVal tables ∷ lentVal log ∷ []) Post)
+    walk : Room Tab.row (length tables.now) → Room u8 (length log.now) → ent 𝓤 ((walk_of 𝓛 entry.ended stayed (entry.clauses 𝓛 mem run)).pre here) (WpFn 𝓤 H C Λ code.function (LogReaderᴴ.val reader ∷ lent_val tables ∷ lent_val log ∷ []) Post)
     walk tables-room log-room =
-        via 𝓤 _ (fst∗ 𝓤 _ (emp 𝓤)) ∵ qed 𝓛 ((‵ (flft κ₀ q₀) ⊛ (‵ (flft κ₁ q₁) ⊛ (‵ ftrue))) ∷ ‵ (owns (LogReaderᴴ.row ∷ ShrSlice (named 0) κ₀ Tab.row ∷ ShrSlice (named 1) κ₁ u8 ∷ []) (reader, (tables, (log, tt))) (LogReaderᴴ.val reader ∷ [], (lentVal tables ∷ [], (lentVal log ∷ [], tt)))) ∷ []) ∵ enter ! C Λ code.function (LogReaderᴴ.val reader ∷ lentVal tables ∷ lentVal log ∷ []) _ $
+        via 𝓤 _ (fst∗ 𝓤 _ (emp 𝓤)) ∵ qed 𝓛 ((‵ (flft κ₀ q₀) ⊛ (‵ (flft κ₁ q₁) ⊛ (‵ ftrue))) ∷ ‵ (owns (LogReaderᴴ.row ∷ ShrSlice (named 0) κ₀ Tab.row ∷ ShrSlice (named 1) κ₁ u8 ∷ []) (reader, (tables, (log, tt))) (LogReaderᴴ.val reader ∷ [], (lent_val tables ∷ [], (lent_val log ∷ [], tt)))) ∷ []) ∵ enter ! C Λ code.function (LogReaderᴴ.val reader ∷ lent_val tables ∷ lent_val log ∷ []) _ $
         alloc1 ! (λ l₀. alloc1 ! (λ l₁. alloc1 ! (λ l₂. alloc1 ! (λ l₃. alloc1 ! (λ l₄. alloc0 ! $ params1 ! $ pass1 ! (init ! 6 refl ((LogReaderᴴ.lawful 𝓛).typed reader _ reader-is).0) $
         pass1 ! (init ! 4 refl (tt, (tt, (record { fits = tables-room.0 }, tt)))) $ pass1 ! (init ! 2 refl (tt, (tt, (record { fits = log-room.0 }, tt)))) $ pass0 ! $
         -- each token and what each reference owns by itself

@@ -37,7 +37,7 @@ use denote.Exit.{yes}
 use Rattle.directory.specs.declared.table.TableDescription.{TableDescription}
 use Rattle.directory.specs.declared.directory.Directory.{Directory}
 use Rattle.lent.specs.Lent.{gathered}
-use Rattle.lent.proofs.Held.{Held, heldNumber, heldStruct, Tab, Dir, lentVal}
+use Rattle.lent.proofs.Held.{Held, held_number, held_struct, Tab, Dir, lent_val}
 use Rattle.lent.proofs.Entry.{Gather, gathers}
 use Rattle.lent.proofs.slice.gather.Symbol as gather-def
 use Rattle.lent.proofs.slice.gather.Symbol.{name as #gather}
@@ -55,24 +55,24 @@ use Rattle.lent.proofs.entries.run.Statement as stated
 use Rattle.lent.proofs.entries.run.Code as code
 
 abbrev Ranᴴ : Held
-Ranᴴ = heldStruct Ran.the_type Ran'.the_laws Ran'.the_plain
+Ranᴴ = held_struct Ran.the_type Ran'.the_laws Ran'.the_plain
 
 abbrev stayed : Stays (entry.ended).signature.params (entry.ended).kept
-stayed = (stay_dropped (shr_slice_of (0 ∷ []) tt (plain (λ _. Tab.row))) yes, (stay_dropped (shr_slice_of (1 ∷ []) tt (plain (λ _. u8))) yes, (stay_dropped (plain (λ _. (heldNumber w64).row)) yes, (stay_dropped (plain (λ _. (heldNumber w64).row)) yes, (gave_slice (2 ∷ []) tt (plain (λ _. u8)), tt)))))
+stayed = (stay_dropped (shr_slice_of (0 ∷ []) tt (plain (λ _. Tab.row))) yes, (stay_dropped (shr_slice_of (1 ∷ []) tt (plain (λ _. u8))) yes, (stay_dropped (plain (λ _. (held_number w64).row)) yes, (stay_dropped (plain (λ _. (held_number w64).row)) yes, (gave_slice (2 ∷ []) tt (plain (λ _. u8)), tt)))))
 
 module _ {M : Type 1} {𝓤 : Ura M} (𝓛 : Logic 𝓤) (mem : Memory → SProp 𝓤) (run : Routine → Fun 𝓤) where
   abbrev Callee : Contract 𝓤
   Callee = triple_of 𝓛 callee.signature (callee.spec 𝓛 mem run)
 
 module _ {M : Type 1} {𝓤 : Ura M} (𝓛 : Logic 𝓤) (mem : Memory → SProp 𝓤) (run : Routine → Fun 𝓤) (κ₀ κ₁ κ₂ : Lft) (q₀ q₁ q₂ : Share)
-    (tables : Bor (List TableDescription)) (log : Bor (List ℕ)) (at : (heldNumber w64).row.Denot) (expected : (heldNumber w64).row.Denot) (image : Bor (List ℕ)) (at-is : Is (heldNumber w64).row at ((heldNumber w64).val at ∷ [])) (expected-is : Is (heldNumber w64).row expected ((heldNumber w64).val expected ∷ [])) where
+    (tables : Bor (List TableDescription)) (log : Bor (List ℕ)) (at : (held_number w64).row.Denot) (expected : (held_number w64).row.Denot) (image : Bor (List ℕ)) (at-is : Is (held_number w64).row at ((held_number w64).val at ∷ [])) (expected-is : Is (held_number w64).row expected ((held_number w64).val expected ∷ [])) where
   open 𝓛 use {H}
 
   abbrev Says : Ranᴴ.row.Denot → List ℕ → Directory → Type 0
   Says r image' d = (r ≡ (run_of d log.now at expected image.now).ran) × (image' ≡ (run_of d log.now at expected image.now).image)
 
   abbrev here : (walk_of 𝓛 entry.ended stayed (entry.clauses 𝓛 mem run)).Ghost
-  here = (((κ₀, (κ₁, (κ₂, tt))), (q₀, (q₁, (q₂, tt))), tt, (tables, (log, (at, (expected, (image, tt))))), (lentVal tables ∷ [], (lentVal log ∷ [], ((heldNumber w64).val at ∷ [], ((heldNumber w64).val expected ∷ [], (lentVal image ∷ [], tt)))))), tt)
+  here = (((κ₀, (κ₁, (κ₂, tt))), (q₀, (q₁, (q₂, tt))), tt, (tables, (log, (at, (expected, (image, tt))))), (lent_val tables ∷ [], (lent_val log ∷ [], ((held_number w64).val at ∷ [], ((held_number w64).val expected ∷ [], (lent_val image ∷ [], tt)))))), tt)
 
   abbrev Post : Val → SProp 𝓤
   Post = (walk_of 𝓛 entry.ended stayed (entry.clauses 𝓛 mem run)).post here
@@ -89,15 +89,15 @@ module _ {M : Type 1} {𝓤 : Ura M} (𝓛 : Logic 𝓤) (mem : Memory → SProp
   callee-args d = (d, (log, (at, (expected, (image, tt)))))
 
   abbrev to-callee : Directory → Val → (Callee 𝓛 mem run).Ghost
-  to-callee d v = (((κ₁, (κ₂, tt)), (q₁, (q₂, tt)), tt, callee-args d, (v ∷ [], (lentVal log ∷ [], ((heldNumber w64).val at ∷ [], ((heldNumber w64).val expected ∷ [], (lentVal image ∷ [], tt)))))), tt)
+  to-callee d v = (((κ₁, (κ₂, tt)), (q₁, (q₂, tt)), tt, callee-args d, (v ∷ [], (lent_val log ∷ [], ((held_number w64).val at ∷ [], ((held_number w64).val expected ∷ [], (lent_val image ∷ [], tt)))))), tt)
 
   module _ (C : Calls 𝓤 H) (Λ : Loops 𝓤 H) (fm : FmC 𝓤 H 𝓛.laws C) (known-gather : Triple 𝓤 (C #gather) (Gather 𝓛 mem run)) (known-callee : Triple 𝓤 (C #callee) (Callee 𝓛 mem run)) where
-    walk : Room Tab.row (length tables.now) → Room u8 (length log.now) → Room u8 (length image.now) → ent 𝓤 ((walk_of 𝓛 entry.ended stayed (entry.clauses 𝓛 mem run)).pre here) (WpFn 𝓤 H C Λ code.function (lentVal tables ∷ lentVal log ∷ (heldNumber w64).val at ∷ (heldNumber w64).val expected ∷ lentVal image ∷ []) Post)
+    walk : Room Tab.row (length tables.now) → Room u8 (length log.now) → Room u8 (length image.now) → ent 𝓤 ((walk_of 𝓛 entry.ended stayed (entry.clauses 𝓛 mem run)).pre here) (WpFn 𝓤 H C Λ code.function (lent_val tables ∷ lent_val log ∷ (held_number w64).val at ∷ (held_number w64).val expected ∷ lent_val image ∷ []) Post)
     walk tables-room log-room image-room =
-        via 𝓤 _ (fst∗ 𝓤 _ (emp 𝓤)) ∵ qed 𝓛 ((‵ (flft κ₀ q₀) ⊛ (‵ (flft κ₁ q₁) ⊛ (‵ (flft κ₂ q₂) ⊛ (‵ ftrue)))) ∷ ‵ (owns (ShrSlice (named 0) κ₀ Tab.row ∷ ShrSlice (named 1) κ₁ u8 ∷ (heldNumber w64).row ∷ (heldNumber w64).row ∷ MutSlice (named 2) κ₂ u8 ∷ []) (tables, (log, (at, (expected, (image, tt))))) (lentVal tables ∷ [], (lentVal log ∷ [], ((heldNumber w64).val at ∷ [], ((heldNumber w64).val expected ∷ [], (lentVal image ∷ [], tt)))))) ∷ []) ∵ enter ! C Λ code.function (lentVal tables ∷ lentVal log ∷ (heldNumber w64).val at ∷ (heldNumber w64).val expected ∷ lentVal image ∷ []) _ $
+        via 𝓤 _ (fst∗ 𝓤 _ (emp 𝓤)) ∵ qed 𝓛 ((‵ (flft κ₀ q₀) ⊛ (‵ (flft κ₁ q₁) ⊛ (‵ (flft κ₂ q₂) ⊛ (‵ ftrue)))) ∷ ‵ (owns (ShrSlice (named 0) κ₀ Tab.row ∷ ShrSlice (named 1) κ₁ u8 ∷ (held_number w64).row ∷ (held_number w64).row ∷ MutSlice (named 2) κ₂ u8 ∷ []) (tables, (log, (at, (expected, (image, tt))))) (lent_val tables ∷ [], (lent_val log ∷ [], ((held_number w64).val at ∷ [], ((held_number w64).val expected ∷ [], (lent_val image ∷ [], tt)))))) ∷ []) ∵ enter ! C Λ code.function (lent_val tables ∷ lent_val log ∷ (held_number w64).val at ∷ (held_number w64).val expected ∷ lent_val image ∷ []) _ $
         alloc1 ! (λ l₀. alloc1 ! (λ l₁. alloc1 ! (λ l₂. alloc1 ! (λ l₃. alloc1 ! (λ l₄. alloc1 ! (λ l₅. alloc1 ! (λ l₆. alloc1 ! (λ l₇. alloc1 ! (λ l₈. alloc0 ! $ params1 ! $
         pass1 ! (init ! 14 refl (tt, (tt, (record { fits = tables-room.0 }, tt)))) $ pass1 ! (init ! 12 refl (tt, (tt, (record { fits = log-room.0 }, tt)))) $
-        pass1 ! (init ! 10 refl (((heldNumber w64).lawful 𝓛).typed at _ at-is).0) $ pass1 ! (init ! 8 refl (((heldNumber w64).lawful 𝓛).typed expected _ expected-is).0) $
+        pass1 ! (init ! 10 refl (((held_number w64).lawful 𝓛).typed at _ at-is).0) $ pass1 ! (init ! 8 refl (((held_number w64).lawful 𝓛).typed expected _ expected-is).0) $
         pass1 ! (init ! 6 refl (tt, (tt, (record { fits = image-room.0 }, tt)))) $ pass0 ! $
         -- each token and what each reference owns by itself
         move ! (18 ∷ []) $ split ! $ move ! (1 ∷ []) $ split ! $ move ! (1 ∷ []) $ split ! $ move ! (1 ∷ []) $ drop ! $ move ! (21 ∷ []) $ fsplit ! $ move ! (1 ∷ []) $ fsplit ! $ move ! (1 ∷ []) $
@@ -109,8 +109,8 @@ module _ {M : Type 1} {𝓤 : Ura M} (𝓛 : Logic 𝓤) (mem : Memory → SProp
         assigns ! (agg ! (and_then ! (load ! (from ! (stop !)) (look ! 7 refl)) (and_then ! (load ! (from ! (fld ! refl (stop !))) (look_in ! 11 (sub ! 1 refl (whole !)))) (no_more !)))) (from ! (stop !)) (init ! 5 refl (tt, (tt, (record { fits = image-room.0 }, tt)))) $
         -- the call, with what it asks put together
         nothing ! $ nothing ! $ move ! (3 ∷ 0 ∷ []) $ fjoin ! $
-        owned ! (heldNumber w64).row (Is (heldNumber w64).row) ((heldNumber w64).makes 𝓛) expected ((heldNumber w64).val expected ∷ []) expected-is $ fjoin ! $
-        owned ! (heldNumber w64).row (Is (heldNumber w64).row) ((heldNumber w64).makes 𝓛) at ((heldNumber w64).val at ∷ []) at-is $ fjoin ! $ move ! (3 ∷ 0 ∷ []) $ fjoin ! $
+        owned ! (held_number w64).row (Is (held_number w64).row) ((held_number w64).makes 𝓛) expected ((held_number w64).val expected ∷ []) expected-is $ fjoin ! $
+        owned ! (held_number w64).row (Is (held_number w64).row) ((held_number w64).makes 𝓛) at ((held_number w64).val at ∷ []) at-is $ fjoin ! $ move ! (3 ∷ 0 ∷ []) $ fjoin ! $
         owned ! Dir.row (Is Dir.row) (Dir.makes 𝓛) d (v ∷ []) d-is $ fjoin ! $ nothing ! $ move ! (4 ∷ 0 ∷ []) $ join ! $ move ! (4 ∷ 0 ∷ []) $ join ! $ join ! $ join ! $
         use1 𝓛 (raw ((Callee 𝓛 mem run).pre (to-callee d v))) (id⊢ 𝓤 _) $
         calls_at ! fm (Callee 𝓛 mem run) known-callee (to-callee d v) (and_then ! (load ! (from ! (stop !)) (look ! 6 refl)) (and_then ! (load ! (from ! (stop !)) (look ! 14 refl)) (and_then ! (load ! (from ! (stop !)) (look ! 12 refl)) (and_then ! (load ! (from ! (stop !)) (look ! 10 refl)) (and_then ! (load ! (from ! (stop !)) (look ! 2 refl)) (no_more !)))))) (λ w.
@@ -127,10 +127,10 @@ module _ {M : Type 1} {𝓤 : Ura M} (𝓛 : Logic 𝓤) (mem : Memory → SProp
 meets : {M : Type 1} {𝓤 : Ura M} (𝓛 : Logic 𝓤) → (mem : Memory → SProp 𝓤) (run : Routine → Fun 𝓤) (𝓣 : Tables 𝓤 𝓛.H) → Triple 𝓤 (𝓣.C #gather) (Gather 𝓛 mem run) → Triple 𝓤 (𝓣.C #callee) (Callee 𝓛 mem run)
     → Meets 𝓛 entry.signature (WpFn 𝓤 𝓛.H 𝓣.C 𝓣.Λ code.function) (entry.spec 𝓛 mem run)
 meets {𝓤 = 𝓤} 𝓛 mem run 𝓣 known-gather known-callee =
-    walk_Meets 𝓛 entry.ended stayed (Goes-dropped 𝓛 3 (shr_slice_of (0 ∷ []) tt (plain (λ _. Tab.row))) yes (λ κs x f. refl), (Goes-dropped 𝓛 3 (shr_slice_of (1 ∷ []) tt (plain (λ _. u8))) yes (λ κs x f. refl), (Goes-dropped 𝓛 3 (plain (λ _. (heldNumber w64).row)) yes (λ κs x f. refl), (Goes-dropped 𝓛 3 (plain (λ _. (heldNumber w64).row)) yes (λ κs x f. refl), (Goes-gave_slice 𝓛 3 2 tt (plain (λ _. u8)), tt)))))
+    walk_Meets 𝓛 entry.ended stayed (Goes-dropped 𝓛 3 (shr_slice_of (0 ∷ []) tt (plain (λ _. Tab.row))) yes (λ κs x f. refl), (Goes-dropped 𝓛 3 (shr_slice_of (1 ∷ []) tt (plain (λ _. u8))) yes (λ κs x f. refl), (Goes-dropped 𝓛 3 (plain (λ _. (held_number w64).row)) yes (λ κs x f. refl), (Goes-dropped 𝓛 3 (plain (λ _. (held_number w64).row)) yes (λ κs x f. refl), (Goes-gave_slice 𝓛 3 2 tt (plain (λ _. u8)), tt)))))
     (entry.clauses 𝓛 mem run) (WpFn 𝓤 𝓛.H 𝓣.C 𝓣.Λ code.function) (WpFn-mono 𝓤 𝓛.H 𝓛.laws 𝓣 code.function)
-    (walked 𝓛 entry.ended stayed (entry.clauses 𝓛 mem run) (WpFn 𝓤 𝓛.H 𝓣.C 𝓣.Λ code.function) (λ κs. (shr_slice_vals, (shr_slice_vals, ((λ x. (heldNumber w64).val x ∷ []), ((λ x. (heldNumber w64).val x ∷ []), (shr_slice_vals, tt))))))
-    (λ κs. (shr_slice_Tells (named 0) κs.0 Tab.row, (shr_slice_Tells (named 1) κs.1.0 u8, ((heldNumber w64).tells, ((heldNumber w64).tells, (mut_slice_Tells (named 2) κs.1.1.0 u8, tt))))))
+    (walked 𝓛 entry.ended stayed (entry.clauses 𝓛 mem run) (WpFn 𝓤 𝓛.H 𝓣.C 𝓣.Λ code.function) (λ κs. (shr_slice_vals, (shr_slice_vals, ((λ x. (held_number w64).val x ∷ []), ((λ x. (held_number w64).val x ∷ []), (shr_slice_vals, tt))))))
+    (λ κs. (shr_slice_Tells (named 0) κs.0 Tab.row, (shr_slice_Tells (named 1) κs.1.0 u8, ((held_number w64).tells, ((held_number w64).tells, (mut_slice_Tells (named 2) κs.1.1.0 u8, tt))))))
     (λ κs qs bounds a g are. walk 𝓛 mem run κs.0 κs.1.0 κs.1.1.0 qs.0 qs.1.0 qs.1.1.0 a.0 a.1.0 a.1.1.0 a.1.1.1.0 a.1.1.1.1.0 are.1.1.0 are.1.1.1.0
     𝓣.C 𝓣.Λ (fm_of 𝓤 𝓛.H 𝓛.laws 𝓣) known-gather known-callee are.0.0.1 are.1.0.0.1 are.1.1.1.1.0.0.1))
 

@@ -37,12 +37,12 @@ use denote.Exit.{yes}
 use Rattle.directory.specs.declared.table.TableDescription.{TableDescription}
 use Rattle.directory.specs.declared.directory.Directory.{Directory}
 use Rattle.lent.specs.Lent.{gathered}
-use Rattle.lent.proofs.Held.{Held, heldStruct, Tab, Dir, lentVal}
+use Rattle.lent.proofs.Held.{Held, held_struct, Tab, Dir, lent_val}
 use Rattle.lent.proofs.Entry.{Gather, gathers}
 use Rattle.lent.proofs.slice.gather.Symbol as gather-def
 use Rattle.lent.proofs.slice.gather.Symbol.{name as #gather}
 use Rattle.lent.proofs.slice.gather.Met as gather-thm
-use Rattle.salvaging.specs.Salvage.{left_of, salvageOf}
+use Rattle.salvaging.specs.Salvage.{left_of, salvage_of}
 use Rattle.salvaging.specs.contracts.salvaged.Salvaged as Salvaged
 use Rattle.salvaging.proofs.salvaged.Salvaged.TheLaws as Salvaged'
 use Rattle.salvaging.specs.contracts.salvage as callee
@@ -55,7 +55,7 @@ use Rattle.lent.proofs.entries.salvage.Statement as stated
 use Rattle.lent.proofs.entries.salvage.Code as code
 
 abbrev Salvagedᴴ : Held
-Salvagedᴴ = heldStruct Salvaged.the_type Salvaged'.the_laws Salvaged'.the_plain
+Salvagedᴴ = held_struct Salvaged.the_type Salvaged'.the_laws Salvaged'.the_plain
 
 abbrev stayed : Stays (entry.ended).signature.params (entry.ended).kept
 stayed = (stay_dropped (shr_slice_of (0 ∷ []) tt (plain (λ _. Tab.row))) yes, (stay_dropped (shr_slice_of (1 ∷ []) tt (plain (λ _. u8))) yes, (gave_slice (2 ∷ []) tt (plain (λ _. u8)), (gave_slice (3 ∷ []) tt (plain (λ _. u64)), tt))))
@@ -69,10 +69,10 @@ module _ {M : Type 1} {𝓤 : Ura M} (𝓛 : Logic 𝓤) (mem : Memory → SProp
   open 𝓛 use {H}
 
   abbrev Says : Salvagedᴴ.row.Denot → List ℕ → List ℕ → Directory → Type 0
-  Says r out' list' d = left_of r out' list' ≡ salvageOf d log.now out.now list.now
+  Says r out' list' d = left_of r out' list' ≡ salvage_of d log.now out.now list.now
 
   abbrev here : (walk_of 𝓛 entry.ended stayed (entry.clauses 𝓛 mem run)).Ghost
-  here = (((κ₀, (κ₁, (κ₂, (κ₃, tt)))), (q₀, (q₁, (q₂, (q₃, tt)))), tt, (tables, (log, (out, (list, tt)))), (lentVal tables ∷ [], (lentVal log ∷ [], (lentVal out ∷ [], (lentVal list ∷ [], tt))))), tt)
+  here = (((κ₀, (κ₁, (κ₂, (κ₃, tt)))), (q₀, (q₁, (q₂, (q₃, tt)))), tt, (tables, (log, (out, (list, tt)))), (lent_val tables ∷ [], (lent_val log ∷ [], (lent_val out ∷ [], (lent_val list ∷ [], tt))))), tt)
 
   abbrev Post : Val → SProp 𝓤
   Post = (walk_of 𝓛 entry.ended stayed (entry.clauses 𝓛 mem run)).post here
@@ -90,12 +90,12 @@ module _ {M : Type 1} {𝓤 : Ura M} (𝓛 : Logic 𝓤) (mem : Memory → SProp
   callee-args d = (d, (log, (out, (list, tt))))
 
   abbrev to-callee : Directory → Val → (Callee 𝓛 mem run).Ghost
-  to-callee d v = (((κ₁, (κ₂, (κ₃, tt))), (q₁, (q₂, (q₃, tt))), tt, callee-args d, (v ∷ [], (lentVal log ∷ [], (lentVal out ∷ [], (lentVal list ∷ [], tt))))), tt)
+  to-callee d v = (((κ₁, (κ₂, (κ₃, tt))), (q₁, (q₂, (q₃, tt))), tt, callee-args d, (v ∷ [], (lent_val log ∷ [], (lent_val out ∷ [], (lent_val list ∷ [], tt))))), tt)
 
   module _ (C : Calls 𝓤 H) (Λ : Loops 𝓤 H) (fm : FmC 𝓤 H 𝓛.laws C) (known-gather : Triple 𝓤 (C #gather) (Gather 𝓛 mem run)) (known-callee : Triple 𝓤 (C #callee) (Callee 𝓛 mem run)) where
-    walk : Room Tab.row (length tables.now) → Room u8 (length log.now) → Room u8 (length out.now) → Room u64 (length list.now) → ent 𝓤 ((walk_of 𝓛 entry.ended stayed (entry.clauses 𝓛 mem run)).pre here) (WpFn 𝓤 H C Λ code.function (lentVal tables ∷ lentVal log ∷ lentVal out ∷ lentVal list ∷ []) Post)
+    walk : Room Tab.row (length tables.now) → Room u8 (length log.now) → Room u8 (length out.now) → Room u64 (length list.now) → ent 𝓤 ((walk_of 𝓛 entry.ended stayed (entry.clauses 𝓛 mem run)).pre here) (WpFn 𝓤 H C Λ code.function (lent_val tables ∷ lent_val log ∷ lent_val out ∷ lent_val list ∷ []) Post)
     walk tables-room log-room out-room list-room =
-        via 𝓤 _ (fst∗ 𝓤 _ (emp 𝓤)) ∵ qed 𝓛 ((‵ (flft κ₀ q₀) ⊛ (‵ (flft κ₁ q₁) ⊛ (‵ (flft κ₂ q₂) ⊛ (‵ (flft κ₃ q₃) ⊛ (‵ ftrue))))) ∷ ‵ (owns (ShrSlice (named 0) κ₀ Tab.row ∷ ShrSlice (named 1) κ₁ u8 ∷ MutSlice (named 2) κ₂ u8 ∷ MutSlice (named 3) κ₃ u64 ∷ []) (tables, (log, (out, (list, tt)))) (lentVal tables ∷ [], (lentVal log ∷ [], (lentVal out ∷ [], (lentVal list ∷ [], tt))))) ∷ []) ∵ enter ! C Λ code.function (lentVal tables ∷ lentVal log ∷ lentVal out ∷ lentVal list ∷ []) _ $
+        via 𝓤 _ (fst∗ 𝓤 _ (emp 𝓤)) ∵ qed 𝓛 ((‵ (flft κ₀ q₀) ⊛ (‵ (flft κ₁ q₁) ⊛ (‵ (flft κ₂ q₂) ⊛ (‵ (flft κ₃ q₃) ⊛ (‵ ftrue))))) ∷ ‵ (owns (ShrSlice (named 0) κ₀ Tab.row ∷ ShrSlice (named 1) κ₁ u8 ∷ MutSlice (named 2) κ₂ u8 ∷ MutSlice (named 3) κ₃ u64 ∷ []) (tables, (log, (out, (list, tt)))) (lent_val tables ∷ [], (lent_val log ∷ [], (lent_val out ∷ [], (lent_val list ∷ [], tt))))) ∷ []) ∵ enter ! C Λ code.function (lent_val tables ∷ lent_val log ∷ lent_val out ∷ lent_val list ∷ []) _ $
         alloc1 ! (λ l₀. alloc1 ! (λ l₁. alloc1 ! (λ l₂. alloc1 ! (λ l₃. alloc1 ! (λ l₄. alloc1 ! (λ l₅. alloc1 ! (λ l₆. alloc1 ! (λ l₇. alloc1 ! (λ l₈. alloc1 ! (λ l₉. alloc0 ! $ params1 ! $
         pass1 ! (init ! 16 refl (tt, (tt, (record { fits = tables-room.0 }, tt)))) $ pass1 ! (init ! 14 refl (tt, (tt, (record { fits = log-room.0 }, tt)))) $
         pass1 ! (init ! 12 refl (tt, (tt, (record { fits = out-room.0 }, tt)))) $ pass1 ! (init ! 10 refl (tt, (tt, (record { fits = list-room.0 }, tt)))) $ pass0 ! $

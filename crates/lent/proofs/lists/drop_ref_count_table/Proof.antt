@@ -36,14 +36,14 @@ use denote.Exit.{yes}
 use Rattle.directory.specs.declared.table.TableDescription.{TableDescription}
 use Rattle.directory.specs.declared.directory.Directory.{Directory}
 use Rattle.lent.specs.Lent.{gathered}
-use Rattle.lent.proofs.Held.{Held, heldStruct, Tab, Dir, lentVal}
+use Rattle.lent.proofs.Held.{Held, held_struct, Tab, Dir, lent_val}
 use Rattle.lent.proofs.Entry.{Gather, gathers}
 use Rattle.lent.proofs.slice.gather.Symbol as gather-def
 use Rattle.lent.proofs.slice.gather.Symbol.{name as #gather}
 use Rattle.lent.proofs.slice.gather.Met as gather-thm
-use Rattle.change.specs.Change.{changeOf}
+use Rattle.change.specs.Change.{change_of}
 use Rattle.change.specs.Insert.{made_of}
-use Rattle.change.specs.Drop.{countTableDropped}
+use Rattle.change.specs.Drop.{count_table_dropped}
 use Rattle.change.specs.contracts.change.Changed as Changed
 use Rattle.change.proofs.change.Changed.TheLaws as Changed'
 use Rattle.change.specs.contracts.change.LogChange as LogChange
@@ -60,13 +60,13 @@ use Rattle.lent.proofs.lists.drop_ref_count_table.Statement as stated
 use Rattle.lent.proofs.lists.drop_ref_count_table.Code as code
 
 abbrev Changedᴴ : Held
-Changedᴴ = heldStruct Changed.the_type Changed'.the_laws Changed'.the_plain
+Changedᴴ = held_struct Changed.the_type Changed'.the_laws Changed'.the_plain
 
 abbrev LogChangeᴴ : Held
-LogChangeᴴ = heldStruct LogChange.the_type LogChange'.the_laws LogChange'.the_plain
+LogChangeᴴ = held_struct LogChange.the_type LogChange'.the_laws LogChange'.the_plain
 
 abbrev RefCountTableIdᴴ : Held
-RefCountTableIdᴴ = heldStruct RefCountTableId.the_type RefCountTableId'.the_laws RefCountTableId'.the_plain
+RefCountTableIdᴴ = held_struct RefCountTableId.the_type RefCountTableId'.the_laws RefCountTableId'.the_plain
 
 abbrev stayed : Stays (entry.ended).signature.params (entry.ended).kept
 stayed = (stay_dropped (plain (λ _. LogChangeᴴ.row)) yes, (stay_dropped (shr_slice_of (0 ∷ []) tt (plain (λ _. Tab.row))) yes, (stay_dropped (shr_slice_of (1 ∷ []) tt (plain (λ _. u64))) yes, (stay_dropped (shr_slice_of (2 ∷ []) tt (plain (λ _. u8))) yes, (stay_dropped (plain (λ _. RefCountTableIdᴴ.row)) yes, tt)))))
@@ -80,10 +80,10 @@ module _ {M : Type 1} {𝓤 : Ura M} (𝓛 : Logic 𝓤) (mem : Memory → SProp
   open 𝓛 use {H}
 
   abbrev Says : Changedᴴ.row.Denot → Directory → Type 0
-  Says r d = made_of r words.now bytes.now ≡ countTableDropped d (changeOf list words.now bytes.now) id.0
+  Says r d = made_of r words.now bytes.now ≡ count_table_dropped d (change_of list words.now bytes.now) id.0
 
   abbrev here : (walk_of 𝓛 entry.ended stayed (entry.clauses 𝓛 mem run)).Ghost
-  here = (((κ₀, (κ₁, (κ₂, tt))), (q₀, (q₁, (q₂, tt))), tt, (list, (tables, (words, (bytes, (id, tt))))), (LogChangeᴴ.val list ∷ [], (lentVal tables ∷ [], (lentVal words ∷ [], (lentVal bytes ∷ [], (RefCountTableIdᴴ.val id ∷ [], tt)))))), tt)
+  here = (((κ₀, (κ₁, (κ₂, tt))), (q₀, (q₁, (q₂, tt))), tt, (list, (tables, (words, (bytes, (id, tt))))), (LogChangeᴴ.val list ∷ [], (lent_val tables ∷ [], (lent_val words ∷ [], (lent_val bytes ∷ [], (RefCountTableIdᴴ.val id ∷ [], tt)))))), tt)
 
   abbrev Post : Val → SProp 𝓤
   Post = (walk_of 𝓛 entry.ended stayed (entry.clauses 𝓛 mem run)).post here
@@ -100,12 +100,12 @@ module _ {M : Type 1} {𝓤 : Ura M} (𝓛 : Logic 𝓤) (mem : Memory → SProp
   callee-args d = (list, (d, (words, (bytes, (id, tt)))))
 
   abbrev to-callee : Directory → Val → (Callee 𝓛 mem run).Ghost
-  to-callee d v = (((κ₁, (κ₂, tt)), (q₁, (q₂, tt)), tt, callee-args d, (LogChangeᴴ.val list ∷ [], (v ∷ [], (lentVal words ∷ [], (lentVal bytes ∷ [], (RefCountTableIdᴴ.val id ∷ [], tt)))))), tt)
+  to-callee d v = (((κ₁, (κ₂, tt)), (q₁, (q₂, tt)), tt, callee-args d, (LogChangeᴴ.val list ∷ [], (v ∷ [], (lent_val words ∷ [], (lent_val bytes ∷ [], (RefCountTableIdᴴ.val id ∷ [], tt)))))), tt)
 
   module _ (C : Calls 𝓤 H) (Λ : Loops 𝓤 H) (fm : FmC 𝓤 H 𝓛.laws C) (known-gather : Triple 𝓤 (C #gather) (Gather 𝓛 mem run)) (known-callee : Triple 𝓤 (C #callee) (Callee 𝓛 mem run)) where
-    walk : Room Tab.row (length tables.now) → Room u64 (length words.now) → Room u8 (length bytes.now) → ent 𝓤 ((walk_of 𝓛 entry.ended stayed (entry.clauses 𝓛 mem run)).pre here) (WpFn 𝓤 H C Λ code.function (LogChangeᴴ.val list ∷ lentVal tables ∷ lentVal words ∷ lentVal bytes ∷ RefCountTableIdᴴ.val id ∷ []) Post)
+    walk : Room Tab.row (length tables.now) → Room u64 (length words.now) → Room u8 (length bytes.now) → ent 𝓤 ((walk_of 𝓛 entry.ended stayed (entry.clauses 𝓛 mem run)).pre here) (WpFn 𝓤 H C Λ code.function (LogChangeᴴ.val list ∷ lent_val tables ∷ lent_val words ∷ lent_val bytes ∷ RefCountTableIdᴴ.val id ∷ []) Post)
     walk tables-room words-room bytes-room =
-        via 𝓤 _ (fst∗ 𝓤 _ (emp 𝓤)) ∵ qed 𝓛 ((‵ (flft κ₀ q₀) ⊛ (‵ (flft κ₁ q₁) ⊛ (‵ (flft κ₂ q₂) ⊛ (‵ ftrue)))) ∷ ‵ (owns (LogChangeᴴ.row ∷ ShrSlice (named 0) κ₀ Tab.row ∷ ShrSlice (named 1) κ₁ u64 ∷ ShrSlice (named 2) κ₂ u8 ∷ RefCountTableIdᴴ.row ∷ []) (list, (tables, (words, (bytes, (id, tt))))) (LogChangeᴴ.val list ∷ [], (lentVal tables ∷ [], (lentVal words ∷ [], (lentVal bytes ∷ [], (RefCountTableIdᴴ.val id ∷ [], tt)))))) ∷ []) ∵ enter ! C Λ code.function (LogChangeᴴ.val list ∷ lentVal tables ∷ lentVal words ∷ lentVal bytes ∷ RefCountTableIdᴴ.val id ∷ []) _ $
+        via 𝓤 _ (fst∗ 𝓤 _ (emp 𝓤)) ∵ qed 𝓛 ((‵ (flft κ₀ q₀) ⊛ (‵ (flft κ₁ q₁) ⊛ (‵ (flft κ₂ q₂) ⊛ (‵ ftrue)))) ∷ ‵ (owns (LogChangeᴴ.row ∷ ShrSlice (named 0) κ₀ Tab.row ∷ ShrSlice (named 1) κ₁ u64 ∷ ShrSlice (named 2) κ₂ u8 ∷ RefCountTableIdᴴ.row ∷ []) (list, (tables, (words, (bytes, (id, tt))))) (LogChangeᴴ.val list ∷ [], (lent_val tables ∷ [], (lent_val words ∷ [], (lent_val bytes ∷ [], (RefCountTableIdᴴ.val id ∷ [], tt)))))) ∷ []) ∵ enter ! C Λ code.function (LogChangeᴴ.val list ∷ lent_val tables ∷ lent_val words ∷ lent_val bytes ∷ RefCountTableIdᴴ.val id ∷ []) _ $
         alloc1 ! (λ l₀. alloc1 ! (λ l₁. alloc1 ! (λ l₂. alloc1 ! (λ l₃. alloc1 ! (λ l₄. alloc1 ! (λ l₅. alloc1 ! (λ l₆. alloc0 ! $ params1 ! $
         pass1 ! (init ! 10 refl ((LogChangeᴴ.lawful 𝓛).typed list _ list-is).0) $ pass1 ! (init ! 8 refl (tt, (tt, (record { fits = tables-room.0 }, tt)))) $
         pass1 ! (init ! 6 refl (tt, (tt, (record { fits = words-room.0 }, tt)))) $ pass1 ! (init ! 4 refl (tt, (tt, (record { fits = bytes-room.0 }, tt)))) $

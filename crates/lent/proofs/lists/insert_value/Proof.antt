@@ -37,13 +37,13 @@ use denote.Exit.{yes}
 use Rattle.directory.specs.declared.table.TableDescription.{TableDescription}
 use Rattle.directory.specs.declared.directory.Directory.{Directory}
 use Rattle.lent.specs.Lent.{gathered}
-use Rattle.lent.proofs.Held.{Held, heldNumber, heldStruct, Tab, Dir, lentVal}
+use Rattle.lent.proofs.Held.{Held, held_number, held_struct, Tab, Dir, lent_val}
 use Rattle.lent.proofs.Entry.{Gather, gathers}
 use Rattle.lent.proofs.slice.gather.Symbol as gather-def
 use Rattle.lent.proofs.slice.gather.Symbol.{name as #gather}
 use Rattle.lent.proofs.slice.gather.Met as gather-thm
 use Rattle.directory.specs.declared.table.TableKind.TheVariants.{Value}
-use Rattle.change.specs.Change.{changeOf}
+use Rattle.change.specs.Change.{change_of}
 use Rattle.change.specs.Insert.{made_of, inserted}
 use Rattle.change.specs.contracts.change.Changed as Changed
 use Rattle.change.proofs.change.Changed.TheLaws as Changed'
@@ -61,30 +61,30 @@ use Rattle.lent.proofs.lists.insert_value.Statement as stated
 use Rattle.lent.proofs.lists.insert_value.Code as code
 
 abbrev Changedᴴ : Held
-Changedᴴ = heldStruct Changed.the_type Changed'.the_laws Changed'.the_plain
+Changedᴴ = held_struct Changed.the_type Changed'.the_laws Changed'.the_plain
 
 abbrev LogChangeᴴ : Held
-LogChangeᴴ = heldStruct LogChange.the_type LogChange'.the_laws LogChange'.the_plain
+LogChangeᴴ = held_struct LogChange.the_type LogChange'.the_laws LogChange'.the_plain
 
 abbrev ValueTableIdᴴ : Held
-ValueTableIdᴴ = heldStruct ValueTableId.the_type ValueTableId'.the_laws ValueTableId'.the_plain
+ValueTableIdᴴ = held_struct ValueTableId.the_type ValueTableId'.the_laws ValueTableId'.the_plain
 
 abbrev stayed : Stays (entry.ended).signature.params (entry.ended).kept
-stayed = (stay_dropped (plain (λ _. LogChangeᴴ.row)) yes, (stay_dropped (shr_slice_of (0 ∷ []) tt (plain (λ _. Tab.row))) yes, (gave_slice (1 ∷ []) tt (plain (λ _. u64)), (gave_slice (2 ∷ []) tt (plain (λ _. u8)), (stay_dropped (plain (λ _. ValueTableIdᴴ.row)) yes, (stay_dropped (plain (λ _. (heldNumber w64).row)) yes, (stay_dropped (shr_slice_of (3 ∷ []) tt (plain (λ _. u8))) yes, tt)))))))
+stayed = (stay_dropped (plain (λ _. LogChangeᴴ.row)) yes, (stay_dropped (shr_slice_of (0 ∷ []) tt (plain (λ _. Tab.row))) yes, (gave_slice (1 ∷ []) tt (plain (λ _. u64)), (gave_slice (2 ∷ []) tt (plain (λ _. u8)), (stay_dropped (plain (λ _. ValueTableIdᴴ.row)) yes, (stay_dropped (plain (λ _. (held_number w64).row)) yes, (stay_dropped (shr_slice_of (3 ∷ []) tt (plain (λ _. u8))) yes, tt)))))))
 
 module _ {M : Type 1} {𝓤 : Ura M} (𝓛 : Logic 𝓤) (mem : Memory → SProp 𝓤) (run : Routine → Fun 𝓤) where
   abbrev Callee : Contract 𝓤
   Callee = triple_of 𝓛 callee.signature (callee.spec 𝓛 mem run)
 
 module _ {M : Type 1} {𝓤 : Ura M} (𝓛 : Logic 𝓤) (mem : Memory → SProp 𝓤) (run : Routine → Fun 𝓤) (κ₀ κ₁ κ₂ κ₃ : Lft) (q₀ q₁ q₂ q₃ : Share)
-    (list : LogChangeᴴ.row.Denot) (tables : Bor (List TableDescription)) (words : Bor (List ℕ)) (bytes : Bor (List ℕ)) (table : ValueTableIdᴴ.row.Denot) (index : (heldNumber w64).row.Denot) («data» : Bor (List ℕ)) (list-is : Is LogChangeᴴ.row list (LogChangeᴴ.val list ∷ [])) (table_is : Is ValueTableIdᴴ.row table (ValueTableIdᴴ.val table ∷ [])) (index_is : Is (heldNumber w64).row index ((heldNumber w64).val index ∷ [])) where
+    (list : LogChangeᴴ.row.Denot) (tables : Bor (List TableDescription)) (words : Bor (List ℕ)) (bytes : Bor (List ℕ)) (table : ValueTableIdᴴ.row.Denot) (index : (held_number w64).row.Denot) («data» : Bor (List ℕ)) (list-is : Is LogChangeᴴ.row list (LogChangeᴴ.val list ∷ [])) (table_is : Is ValueTableIdᴴ.row table (ValueTableIdᴴ.val table ∷ [])) (index_is : Is (held_number w64).row index ((held_number w64).val index ∷ [])) where
   open 𝓛 use {H}
 
   abbrev Says : Changedᴴ.row.Denot → List ℕ → List ℕ → Directory → Type 0
-  Says r words' bytes' d = made_of r words' bytes' ≡ inserted Value d (changeOf list words.now bytes.now) table.0 index 0 «data».now
+  Says r words' bytes' d = made_of r words' bytes' ≡ inserted Value d (change_of list words.now bytes.now) table.0 index 0 «data».now
 
   abbrev here : (walk_of 𝓛 entry.ended stayed (entry.clauses 𝓛 mem run)).Ghost
-  here = (((κ₀, (κ₁, (κ₂, (κ₃, tt)))), (q₀, (q₁, (q₂, (q₃, tt)))), tt, (list, (tables, (words, (bytes, (table, (index, («data», tt))))))), (LogChangeᴴ.val list ∷ [], (lentVal tables ∷ [], (lentVal words ∷ [], (lentVal bytes ∷ [], (ValueTableIdᴴ.val table ∷ [], ((heldNumber w64).val index ∷ [], (lentVal «data» ∷ [], tt)))))))), tt)
+  here = (((κ₀, (κ₁, (κ₂, (κ₃, tt)))), (q₀, (q₁, (q₂, (q₃, tt)))), tt, (list, (tables, (words, (bytes, (table, (index, («data», tt))))))), (LogChangeᴴ.val list ∷ [], (lent_val tables ∷ [], (lent_val words ∷ [], (lent_val bytes ∷ [], (ValueTableIdᴴ.val table ∷ [], ((held_number w64).val index ∷ [], (lent_val «data» ∷ [], tt)))))))), tt)
 
   abbrev Post : Val → SProp 𝓤
   Post = (walk_of 𝓛 entry.ended stayed (entry.clauses 𝓛 mem run)).post here
@@ -102,17 +102,17 @@ module _ {M : Type 1} {𝓤 : Ura M} (𝓛 : Logic 𝓤) (mem : Memory → SProp
   callee-args d = (list, (d, (words, (bytes, (table, (index, («data», tt)))))))
 
   abbrev to-callee : Directory → Val → (Callee 𝓛 mem run).Ghost
-  to-callee d v = (((κ₁, (κ₂, (κ₃, tt))), (q₁, (q₂, (q₃, tt))), tt, callee-args d, (LogChangeᴴ.val list ∷ [], (v ∷ [], (lentVal words ∷ [], (lentVal bytes ∷ [], (ValueTableIdᴴ.val table ∷ [], ((heldNumber w64).val index ∷ [], (lentVal «data» ∷ [], tt)))))))), tt)
+  to-callee d v = (((κ₁, (κ₂, (κ₃, tt))), (q₁, (q₂, (q₃, tt))), tt, callee-args d, (LogChangeᴴ.val list ∷ [], (v ∷ [], (lent_val words ∷ [], (lent_val bytes ∷ [], (ValueTableIdᴴ.val table ∷ [], ((held_number w64).val index ∷ [], (lent_val «data» ∷ [], tt)))))))), tt)
 
   module _ (C : Calls 𝓤 H) (Λ : Loops 𝓤 H) (fm : FmC 𝓤 H 𝓛.laws C) (known-gather : Triple 𝓤 (C #gather) (Gather 𝓛 mem run)) (known-callee : Triple 𝓤 (C #callee) (Callee 𝓛 mem run)) where
-    walk : Room Tab.row (length tables.now) → Room u64 (length words.now) → Room u8 (length bytes.now) → Room u8 (length «data».now) → ent 𝓤 ((walk_of 𝓛 entry.ended stayed (entry.clauses 𝓛 mem run)).pre here) (WpFn 𝓤 H C Λ code.function (LogChangeᴴ.val list ∷ lentVal tables ∷ lentVal words ∷ lentVal bytes ∷ ValueTableIdᴴ.val table ∷ (heldNumber w64).val index ∷ lentVal «data» ∷ []) Post)
+    walk : Room Tab.row (length tables.now) → Room u64 (length words.now) → Room u8 (length bytes.now) → Room u8 (length «data».now) → ent 𝓤 ((walk_of 𝓛 entry.ended stayed (entry.clauses 𝓛 mem run)).pre here) (WpFn 𝓤 H C Λ code.function (LogChangeᴴ.val list ∷ lent_val tables ∷ lent_val words ∷ lent_val bytes ∷ ValueTableIdᴴ.val table ∷ (held_number w64).val index ∷ lent_val «data» ∷ []) Post)
     walk tables-room words-room bytes-room data-room =
-        via 𝓤 _ (fst∗ 𝓤 _ (emp 𝓤)) ∵ qed 𝓛 ((‵ (flft κ₀ q₀) ⊛ (‵ (flft κ₁ q₁) ⊛ (‵ (flft κ₂ q₂) ⊛ (‵ (flft κ₃ q₃) ⊛ (‵ ftrue))))) ∷ ‵ (owns (LogChangeᴴ.row ∷ ShrSlice (named 0) κ₀ Tab.row ∷ MutSlice (named 1) κ₁ u64 ∷ MutSlice (named 2) κ₂ u8 ∷ ValueTableIdᴴ.row ∷ (heldNumber w64).row ∷ ShrSlice (named 3) κ₃ u8 ∷ []) (list, (tables, (words, (bytes, (table, (index, («data», tt))))))) (LogChangeᴴ.val list ∷ [], (lentVal tables ∷ [], (lentVal words ∷ [], (lentVal bytes ∷ [], (ValueTableIdᴴ.val table ∷ [], ((heldNumber w64).val index ∷ [], (lentVal «data» ∷ [], tt)))))))) ∷ []) ∵ enter ! C Λ code.function (LogChangeᴴ.val list ∷ lentVal tables ∷ lentVal words ∷ lentVal bytes ∷ ValueTableIdᴴ.val table ∷ (heldNumber w64).val index ∷ lentVal «data» ∷ []) _ $
+        via 𝓤 _ (fst∗ 𝓤 _ (emp 𝓤)) ∵ qed 𝓛 ((‵ (flft κ₀ q₀) ⊛ (‵ (flft κ₁ q₁) ⊛ (‵ (flft κ₂ q₂) ⊛ (‵ (flft κ₃ q₃) ⊛ (‵ ftrue))))) ∷ ‵ (owns (LogChangeᴴ.row ∷ ShrSlice (named 0) κ₀ Tab.row ∷ MutSlice (named 1) κ₁ u64 ∷ MutSlice (named 2) κ₂ u8 ∷ ValueTableIdᴴ.row ∷ (held_number w64).row ∷ ShrSlice (named 3) κ₃ u8 ∷ []) (list, (tables, (words, (bytes, (table, (index, («data», tt))))))) (LogChangeᴴ.val list ∷ [], (lent_val tables ∷ [], (lent_val words ∷ [], (lent_val bytes ∷ [], (ValueTableIdᴴ.val table ∷ [], ((held_number w64).val index ∷ [], (lent_val «data» ∷ [], tt)))))))) ∷ []) ∵ enter ! C Λ code.function (LogChangeᴴ.val list ∷ lent_val tables ∷ lent_val words ∷ lent_val bytes ∷ ValueTableIdᴴ.val table ∷ (held_number w64).val index ∷ lent_val «data» ∷ []) _ $
         alloc1 ! (λ l₀. alloc1 ! (λ l₁. alloc1 ! (λ l₂. alloc1 ! (λ l₃. alloc1 ! (λ l₄. alloc1 ! (λ l₅. alloc1 ! (λ l₆. alloc1 ! (λ l₇. alloc1 ! (λ l₈. alloc1 ! (λ l₉. alloc1 ! (λ l₁₀.
         alloc1 ! (λ l₁₁. alloc1 ! (λ l₁₂. alloc0 ! $ params1 ! $ pass1 ! (init ! 22 refl ((LogChangeᴴ.lawful 𝓛).typed list _ list-is).0) $
         pass1 ! (init ! 20 refl (tt, (tt, (record { fits = tables-room.0 }, tt)))) $ pass1 ! (init ! 18 refl (tt, (tt, (record { fits = words-room.0 }, tt)))) $
         pass1 ! (init ! 16 refl (tt, (tt, (record { fits = bytes-room.0 }, tt)))) $ pass1 ! (init ! 14 refl ((ValueTableIdᴴ.lawful 𝓛).typed table _ table_is).0) $
-        pass1 ! (init ! 12 refl (((heldNumber w64).lawful 𝓛).typed index _ index_is).0) $ pass1 ! (init ! 10 refl (tt, (tt, (record { fits = data-room.0 }, tt)))) $ pass0 ! $
+        pass1 ! (init ! 12 refl (((held_number w64).lawful 𝓛).typed index _ index_is).0) $ pass1 ! (init ! 10 refl (tt, (tt, (record { fits = data-room.0 }, tt)))) $ pass0 ! $
         -- each token and what each reference owns by itself
         move ! (26 ∷ []) $ split ! $ move ! (1 ∷ []) $ split ! $ move ! (1 ∷ []) $ split ! $ move ! (1 ∷ []) $ split ! $ move ! (1 ∷ []) $ drop ! $ move ! (30 ∷ []) $ fsplit ! $ drop ! $ fsplit ! $
         move ! (1 ∷ []) $ fsplit ! $ move ! (1 ∷ []) $ fsplit ! $ move ! (1 ∷ []) $ fsplit ! $ drop ! $ fsplit ! $ drop ! $ fsplit ! $ move ! (1 ∷ []) $ drop ! $
@@ -125,7 +125,7 @@ module _ {M : Type 1} {𝓤 : Ura M} (𝓛 : Logic 𝓤) (mem : Memory → SProp
         assigns ! (agg ! (and_then ! (load ! (from ! (stop !)) (look ! 9 refl)) (and_then ! (load ! (from ! (fld ! refl (stop !))) (look_in ! 23 (sub ! 1 refl (whole !)))) (no_more !)))) (from ! (stop !)) (init ! 7 refl (tt, (tt, (record { fits = bytes-room.0 }, tt)))) $
         -- the call, with what it asks put together
         nothing ! $ nothing ! $ move ! (3 ∷ 0 ∷ []) $ fjoin ! $
-        owned ! (heldNumber w64).row (Is (heldNumber w64).row) ((heldNumber w64).makes 𝓛) index ((heldNumber w64).val index ∷ []) index_is $ fjoin ! $
+        owned ! (held_number w64).row (Is (held_number w64).row) ((held_number w64).makes 𝓛) index ((held_number w64).val index ∷ []) index_is $ fjoin ! $
         owned ! ValueTableIdᴴ.row (Is ValueTableIdᴴ.row) (ValueTableIdᴴ.makes 𝓛) table (ValueTableIdᴴ.val table ∷ []) table_is $ fjoin ! $ move ! (3 ∷ 0 ∷ []) $ fjoin ! $
         move ! (3 ∷ 0 ∷ []) $ fjoin ! $ owned ! Dir.row (Is Dir.row) (Dir.makes 𝓛) d (v ∷ []) d-is $ fjoin ! $
         owned ! LogChangeᴴ.row (Is LogChangeᴴ.row) (LogChangeᴴ.makes 𝓛) list (LogChangeᴴ.val list ∷ []) list-is $ fjoin ! $ nothing ! $ move ! (4 ∷ 0 ∷ []) $ join ! $
@@ -147,10 +147,10 @@ module _ {M : Type 1} {𝓤 : Ura M} (𝓛 : Logic 𝓤) (mem : Memory → SProp
 meets : {M : Type 1} {𝓤 : Ura M} (𝓛 : Logic 𝓤) → (mem : Memory → SProp 𝓤) (run : Routine → Fun 𝓤) (𝓣 : Tables 𝓤 𝓛.H) → Triple 𝓤 (𝓣.C #gather) (Gather 𝓛 mem run) → Triple 𝓤 (𝓣.C #callee) (Callee 𝓛 mem run)
     → Meets 𝓛 entry.signature (WpFn 𝓤 𝓛.H 𝓣.C 𝓣.Λ code.function) (entry.spec 𝓛 mem run)
 meets {𝓤 = 𝓤} 𝓛 mem run 𝓣 known-gather known-callee =
-    walk_Meets 𝓛 entry.ended stayed (Goes-dropped 𝓛 4 (plain (λ _. LogChangeᴴ.row)) yes (λ κs x f. refl), (Goes-dropped 𝓛 4 (shr_slice_of (0 ∷ []) tt (plain (λ _. Tab.row))) yes (λ κs x f. refl), (Goes-gave_slice 𝓛 4 1 tt (plain (λ _. u64)), (Goes-gave_slice 𝓛 4 2 tt (plain (λ _. u8)), (Goes-dropped 𝓛 4 (plain (λ _. ValueTableIdᴴ.row)) yes (λ κs x f. refl), (Goes-dropped 𝓛 4 (plain (λ _. (heldNumber w64).row)) yes (λ κs x f. refl), (Goes-dropped 𝓛 4 (shr_slice_of (3 ∷ []) tt (plain (λ _. u8))) yes (λ κs x f. refl), tt)))))))
+    walk_Meets 𝓛 entry.ended stayed (Goes-dropped 𝓛 4 (plain (λ _. LogChangeᴴ.row)) yes (λ κs x f. refl), (Goes-dropped 𝓛 4 (shr_slice_of (0 ∷ []) tt (plain (λ _. Tab.row))) yes (λ κs x f. refl), (Goes-gave_slice 𝓛 4 1 tt (plain (λ _. u64)), (Goes-gave_slice 𝓛 4 2 tt (plain (λ _. u8)), (Goes-dropped 𝓛 4 (plain (λ _. ValueTableIdᴴ.row)) yes (λ κs x f. refl), (Goes-dropped 𝓛 4 (plain (λ _. (held_number w64).row)) yes (λ κs x f. refl), (Goes-dropped 𝓛 4 (shr_slice_of (3 ∷ []) tt (plain (λ _. u8))) yes (λ κs x f. refl), tt)))))))
     (entry.clauses 𝓛 mem run) (WpFn 𝓤 𝓛.H 𝓣.C 𝓣.Λ code.function) (WpFn-mono 𝓤 𝓛.H 𝓛.laws 𝓣 code.function)
-    (walked 𝓛 entry.ended stayed (entry.clauses 𝓛 mem run) (WpFn 𝓤 𝓛.H 𝓣.C 𝓣.Λ code.function) (λ κs. ((λ x. LogChangeᴴ.val x ∷ []), (shr_slice_vals, (shr_slice_vals, (shr_slice_vals, ((λ x. ValueTableIdᴴ.val x ∷ []), ((λ x. (heldNumber w64).val x ∷ []), (shr_slice_vals, tt))))))))
-    (λ κs. (LogChangeᴴ.tells, (shr_slice_Tells (named 0) κs.0 Tab.row, (mut_slice_Tells (named 1) κs.1.0 u64, (mut_slice_Tells (named 2) κs.1.1.0 u8, (ValueTableIdᴴ.tells, ((heldNumber w64).tells, (shr_slice_Tells (named 3) κs.1.1.1.0 u8, tt))))))))
+    (walked 𝓛 entry.ended stayed (entry.clauses 𝓛 mem run) (WpFn 𝓤 𝓛.H 𝓣.C 𝓣.Λ code.function) (λ κs. ((λ x. LogChangeᴴ.val x ∷ []), (shr_slice_vals, (shr_slice_vals, (shr_slice_vals, ((λ x. ValueTableIdᴴ.val x ∷ []), ((λ x. (held_number w64).val x ∷ []), (shr_slice_vals, tt))))))))
+    (λ κs. (LogChangeᴴ.tells, (shr_slice_Tells (named 0) κs.0 Tab.row, (mut_slice_Tells (named 1) κs.1.0 u64, (mut_slice_Tells (named 2) κs.1.1.0 u8, (ValueTableIdᴴ.tells, ((held_number w64).tells, (shr_slice_Tells (named 3) κs.1.1.1.0 u8, tt))))))))
     (λ κs qs bounds a g are. walk 𝓛 mem run κs.0 κs.1.0 κs.1.1.0 κs.1.1.1.0 qs.0 qs.1.0 qs.1.1.0 qs.1.1.1.0 a.0 a.1.0 a.1.1.0 a.1.1.1.0 a.1.1.1.1.0 a.1.1.1.1.1.0 a.1.1.1.1.1.1.0 are.0 are.1.1.1.1.0 are.1.1.1.1.1.0
     𝓣.C 𝓣.Λ (fm_of 𝓤 𝓛.H 𝓛.laws 𝓣) known-gather known-callee are.1.0.0.1 are.1.1.0.0.1 are.1.1.1.0.0.1 are.1.1.1.1.1.1.0.0.1))
 

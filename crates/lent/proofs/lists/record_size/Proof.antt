@@ -36,12 +36,12 @@ use denote.Exit.{yes}
 use Rattle.directory.specs.declared.table.TableDescription.{TableDescription}
 use Rattle.directory.specs.declared.directory.Directory.{Directory}
 use Rattle.lent.specs.Lent.{gathered}
-use Rattle.lent.proofs.Held.{Held, heldStruct, Tab, Dir, lentVal}
+use Rattle.lent.proofs.Held.{Held, held_struct, Tab, Dir, lent_val}
 use Rattle.lent.proofs.Entry.{Gather, gathers}
 use Rattle.lent.proofs.slice.gather.Symbol as gather-def
 use Rattle.lent.proofs.slice.gather.Symbol.{name as #gather}
 use Rattle.lent.proofs.slice.gather.Met as gather-thm
-use Rattle.change.specs.Change.{changeOf}
+use Rattle.change.specs.Change.{change_of}
 use Rattle.change.specs.Size.{sized}
 use Rattle.change.specs.contracts.change.LogChange as LogChange
 use Rattle.change.proofs.change.LogChange.TheLaws as LogChange'
@@ -57,10 +57,10 @@ use Rattle.lent.proofs.lists.record_size.Statement as stated
 use Rattle.lent.proofs.lists.record_size.Code as code
 
 abbrev LogChangeᴴ : Held
-LogChangeᴴ = heldStruct LogChange.the_type LogChange'.the_laws LogChange'.the_plain
+LogChangeᴴ = held_struct LogChange.the_type LogChange'.the_laws LogChange'.the_plain
 
 abbrev Sizedᴴ : Held
-Sizedᴴ = heldStruct Sized.the_type Sized'.the_laws Sized'.the_plain
+Sizedᴴ = held_struct Sized.the_type Sized'.the_laws Sized'.the_plain
 
 abbrev stayed : Stays (entry.ended).signature.params (entry.ended).kept
 stayed = (stay_dropped (plain (λ _. LogChangeᴴ.row)) yes, (stay_dropped (shr_slice_of (0 ∷ []) tt (plain (λ _. Tab.row))) yes, (stay_dropped (shr_slice_of (1 ∷ []) tt (plain (λ _. u64))) yes, (stay_dropped (shr_slice_of (2 ∷ []) tt (plain (λ _. u8))) yes, tt))))
@@ -74,10 +74,10 @@ module _ {M : Type 1} {𝓤 : Ura M} (𝓛 : Logic 𝓤) (mem : Memory → SProp
   open 𝓛 use {H}
 
   abbrev Says : Sizedᴴ.row.Denot → Directory → Type 0
-  Says r d = r ≡ sized d (changeOf list words.now bytes.now)
+  Says r d = r ≡ sized d (change_of list words.now bytes.now)
 
   abbrev here : (walk_of 𝓛 entry.ended stayed (entry.clauses 𝓛 mem run)).Ghost
-  here = (((κ₀, (κ₁, (κ₂, tt))), (q₀, (q₁, (q₂, tt))), tt, (list, (tables, (words, (bytes, tt)))), (LogChangeᴴ.val list ∷ [], (lentVal tables ∷ [], (lentVal words ∷ [], (lentVal bytes ∷ [], tt))))), tt)
+  here = (((κ₀, (κ₁, (κ₂, tt))), (q₀, (q₁, (q₂, tt))), tt, (list, (tables, (words, (bytes, tt)))), (LogChangeᴴ.val list ∷ [], (lent_val tables ∷ [], (lent_val words ∷ [], (lent_val bytes ∷ [], tt))))), tt)
 
   abbrev Post : Val → SProp 𝓤
   Post = (walk_of 𝓛 entry.ended stayed (entry.clauses 𝓛 mem run)).post here
@@ -94,12 +94,12 @@ module _ {M : Type 1} {𝓤 : Ura M} (𝓛 : Logic 𝓤) (mem : Memory → SProp
   callee-args d = (list, (d, (words, (bytes, tt))))
 
   abbrev to-callee : Directory → Val → (Callee 𝓛 mem run).Ghost
-  to-callee d v = (((κ₁, (κ₂, tt)), (q₁, (q₂, tt)), tt, callee-args d, (LogChangeᴴ.val list ∷ [], (v ∷ [], (lentVal words ∷ [], (lentVal bytes ∷ [], tt))))), tt)
+  to-callee d v = (((κ₁, (κ₂, tt)), (q₁, (q₂, tt)), tt, callee-args d, (LogChangeᴴ.val list ∷ [], (v ∷ [], (lent_val words ∷ [], (lent_val bytes ∷ [], tt))))), tt)
 
   module _ (C : Calls 𝓤 H) (Λ : Loops 𝓤 H) (fm : FmC 𝓤 H 𝓛.laws C) (known-gather : Triple 𝓤 (C #gather) (Gather 𝓛 mem run)) (known-callee : Triple 𝓤 (C #callee) (Callee 𝓛 mem run)) where
-    walk : Room Tab.row (length tables.now) → Room u64 (length words.now) → Room u8 (length bytes.now) → ent 𝓤 ((walk_of 𝓛 entry.ended stayed (entry.clauses 𝓛 mem run)).pre here) (WpFn 𝓤 H C Λ code.function (LogChangeᴴ.val list ∷ lentVal tables ∷ lentVal words ∷ lentVal bytes ∷ []) Post)
+    walk : Room Tab.row (length tables.now) → Room u64 (length words.now) → Room u8 (length bytes.now) → ent 𝓤 ((walk_of 𝓛 entry.ended stayed (entry.clauses 𝓛 mem run)).pre here) (WpFn 𝓤 H C Λ code.function (LogChangeᴴ.val list ∷ lent_val tables ∷ lent_val words ∷ lent_val bytes ∷ []) Post)
     walk tables-room words-room bytes-room =
-        via 𝓤 _ (fst∗ 𝓤 _ (emp 𝓤)) ∵ qed 𝓛 ((‵ (flft κ₀ q₀) ⊛ (‵ (flft κ₁ q₁) ⊛ (‵ (flft κ₂ q₂) ⊛ (‵ ftrue)))) ∷ ‵ (owns (LogChangeᴴ.row ∷ ShrSlice (named 0) κ₀ Tab.row ∷ ShrSlice (named 1) κ₁ u64 ∷ ShrSlice (named 2) κ₂ u8 ∷ []) (list, (tables, (words, (bytes, tt)))) (LogChangeᴴ.val list ∷ [], (lentVal tables ∷ [], (lentVal words ∷ [], (lentVal bytes ∷ [], tt))))) ∷ []) ∵ enter ! C Λ code.function (LogChangeᴴ.val list ∷ lentVal tables ∷ lentVal words ∷ lentVal bytes ∷ []) _ $
+        via 𝓤 _ (fst∗ 𝓤 _ (emp 𝓤)) ∵ qed 𝓛 ((‵ (flft κ₀ q₀) ⊛ (‵ (flft κ₁ q₁) ⊛ (‵ (flft κ₂ q₂) ⊛ (‵ ftrue)))) ∷ ‵ (owns (LogChangeᴴ.row ∷ ShrSlice (named 0) κ₀ Tab.row ∷ ShrSlice (named 1) κ₁ u64 ∷ ShrSlice (named 2) κ₂ u8 ∷ []) (list, (tables, (words, (bytes, tt)))) (LogChangeᴴ.val list ∷ [], (lent_val tables ∷ [], (lent_val words ∷ [], (lent_val bytes ∷ [], tt))))) ∷ []) ∵ enter ! C Λ code.function (LogChangeᴴ.val list ∷ lent_val tables ∷ lent_val words ∷ lent_val bytes ∷ []) _ $
         alloc1 ! (λ l₀. alloc1 ! (λ l₁. alloc1 ! (λ l₂. alloc1 ! (λ l₃. alloc1 ! (λ l₄. alloc1 ! (λ l₅. alloc0 ! $ params1 ! $
         pass1 ! (init ! 8 refl ((LogChangeᴴ.lawful 𝓛).typed list _ list-is).0) $ pass1 ! (init ! 6 refl (tt, (tt, (record { fits = tables-room.0 }, tt)))) $
         pass1 ! (init ! 4 refl (tt, (tt, (record { fits = words-room.0 }, tt)))) $ pass1 ! (init ! 2 refl (tt, (tt, (record { fits = bytes-room.0 }, tt)))) $ pass0 ! $

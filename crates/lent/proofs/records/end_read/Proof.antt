@@ -37,13 +37,13 @@ use denote.Exit.{yes}
 use Rattle.directory.specs.declared.table.TableDescription.{TableDescription}
 use Rattle.directory.specs.declared.directory.Directory.{Directory}
 use Rattle.lent.specs.Lent.{gathered}
-use Rattle.lent.proofs.Held.{Held, heldNumber, heldStruct, Tab, Dir, lentVal}
+use Rattle.lent.proofs.Held.{Held, held_number, held_struct, Tab, Dir, lent_val}
 use Rattle.lent.proofs.Entry.{Gather, gathers}
 use Rattle.lent.proofs.slice.gather.Symbol as gather-def
 use Rattle.lent.proofs.slice.gather.Symbol.{name as #gather}
 use Rattle.lent.proofs.slice.gather.Met as gather-thm
-use Rattle.memory.specs.Overlays.{overlaysOf}
-use Rattle.clearing.specs.EndRead.{endReadOf, endRead}
+use Rattle.memory.specs.Overlays.{overlays_of}
+use Rattle.clearing.specs.EndRead.{end_read_of_of, end_read_of}
 use Rattle.clearing.specs.contracts.end_of_reading.EndRead as EndRead
 use Rattle.clearing.proofs.end_of_reading.EndRead.TheLaws as EndRead'
 use Rattle.memory.specs.contracts.overlays.LogOverlays as LogOverlays
@@ -58,27 +58,27 @@ use Rattle.lent.proofs.records.end_read.Statement as stated
 use Rattle.lent.proofs.records.end_read.Code as code
 
 abbrev EndReadᴴ : Held
-EndReadᴴ = heldStruct EndRead.the_type EndRead'.the_laws EndRead'.the_plain
+EndReadᴴ = held_struct EndRead.the_type EndRead'.the_laws EndRead'.the_plain
 
 abbrev LogOverlaysᴴ : Held
-LogOverlaysᴴ = heldStruct LogOverlays.the_type LogOverlays'.the_laws LogOverlays'.the_plain
+LogOverlaysᴴ = held_struct LogOverlays.the_type LogOverlays'.the_laws LogOverlays'.the_plain
 
 abbrev stayed : Stays (entry.ended).signature.params (entry.ended).kept
-stayed = (stay_dropped (shr_slice_of (0 ∷ []) tt (plain (λ _. Tab.row))) yes, (stay_dropped (shr_slice_of (1 ∷ []) tt (plain (λ _. u8))) yes, (stay_dropped (plain (λ _. (heldNumber w64).row)) yes, (stay_dropped (plain (λ _. LogOverlaysᴴ.row)) yes, (gave_slice (2 ∷ []) tt (plain (λ _. u64)), (gave_slice (3 ∷ []) tt (plain (λ _. u8)), (stay_dropped (plain (λ _. (heldNumber w64).row)) yes, tt)))))))
+stayed = (stay_dropped (shr_slice_of (0 ∷ []) tt (plain (λ _. Tab.row))) yes, (stay_dropped (shr_slice_of (1 ∷ []) tt (plain (λ _. u8))) yes, (stay_dropped (plain (λ _. (held_number w64).row)) yes, (stay_dropped (plain (λ _. LogOverlaysᴴ.row)) yes, (gave_slice (2 ∷ []) tt (plain (λ _. u64)), (gave_slice (3 ∷ []) tt (plain (λ _. u8)), (stay_dropped (plain (λ _. (held_number w64).row)) yes, tt)))))))
 
 module _ {M : Type 1} {𝓤 : Ura M} (𝓛 : Logic 𝓤) (mem : Memory → SProp 𝓤) (run : Routine → Fun 𝓤) where
   abbrev Callee : Contract 𝓤
   Callee = triple_of 𝓛 callee.signature (callee.spec 𝓛 mem run)
 
 module _ {M : Type 1} {𝓤 : Ura M} (𝓛 : Logic 𝓤) (mem : Memory → SProp 𝓤) (run : Routine → Fun 𝓤) (κ₀ κ₁ κ₂ κ₃ : Lft) (q₀ q₁ q₂ q₃ : Share)
-    (tables : Bor (List TableDescription)) (log : Bor (List ℕ)) (position : (heldNumber w64).row.Denot) (overlays : LogOverlaysᴴ.row.Denot) (words : Bor (List ℕ)) (bytes : Bor (List ℕ)) (next : (heldNumber w64).row.Denot) (position-is : Is (heldNumber w64).row position ((heldNumber w64).val position ∷ [])) (overlays-is : Is LogOverlaysᴴ.row overlays (LogOverlaysᴴ.val overlays ∷ [])) (next-is : Is (heldNumber w64).row next ((heldNumber w64).val next ∷ [])) where
+    (tables : Bor (List TableDescription)) (log : Bor (List ℕ)) (position : (held_number w64).row.Denot) (overlays : LogOverlaysᴴ.row.Denot) (words : Bor (List ℕ)) (bytes : Bor (List ℕ)) (next : (held_number w64).row.Denot) (position-is : Is (held_number w64).row position ((held_number w64).val position ∷ [])) (overlays-is : Is LogOverlaysᴴ.row overlays (LogOverlaysᴴ.val overlays ∷ [])) (next-is : Is (held_number w64).row next ((held_number w64).val next ∷ [])) where
   open 𝓛 use {H}
 
   abbrev Says : EndReadᴴ.row.Denot → List ℕ → List ℕ → Directory → Type 0
-  Says r words' bytes' d = endReadOf r words' bytes' ≡ endRead d log.now position (overlaysOf overlays words.now bytes.now) next
+  Says r words' bytes' d = end_read_of_of r words' bytes' ≡ end_read_of d log.now position (overlays_of overlays words.now bytes.now) next
 
   abbrev here : (walk_of 𝓛 entry.ended stayed (entry.clauses 𝓛 mem run)).Ghost
-  here = (((κ₀, (κ₁, (κ₂, (κ₃, tt)))), (q₀, (q₁, (q₂, (q₃, tt)))), tt, (tables, (log, (position, (overlays, (words, (bytes, (next, tt))))))), (lentVal tables ∷ [], (lentVal log ∷ [], ((heldNumber w64).val position ∷ [], (LogOverlaysᴴ.val overlays ∷ [], (lentVal words ∷ [], (lentVal bytes ∷ [], ((heldNumber w64).val next ∷ [], tt)))))))), tt)
+  here = (((κ₀, (κ₁, (κ₂, (κ₃, tt)))), (q₀, (q₁, (q₂, (q₃, tt)))), tt, (tables, (log, (position, (overlays, (words, (bytes, (next, tt))))))), (lent_val tables ∷ [], (lent_val log ∷ [], ((held_number w64).val position ∷ [], (LogOverlaysᴴ.val overlays ∷ [], (lent_val words ∷ [], (lent_val bytes ∷ [], ((held_number w64).val next ∷ [], tt)))))))), tt)
 
   abbrev Post : Val → SProp 𝓤
   Post = (walk_of 𝓛 entry.ended stayed (entry.clauses 𝓛 mem run)).post here
@@ -96,17 +96,17 @@ module _ {M : Type 1} {𝓤 : Ura M} (𝓛 : Logic 𝓤) (mem : Memory → SProp
   callee-args d = (d, (log, (position, (overlays, (words, (bytes, (next, tt)))))))
 
   abbrev to-callee : Directory → Val → (Callee 𝓛 mem run).Ghost
-  to-callee d v = (((κ₁, (κ₂, (κ₃, tt))), (q₁, (q₂, (q₃, tt))), tt, callee-args d, (v ∷ [], (lentVal log ∷ [], ((heldNumber w64).val position ∷ [], (LogOverlaysᴴ.val overlays ∷ [], (lentVal words ∷ [], (lentVal bytes ∷ [], ((heldNumber w64).val next ∷ [], tt)))))))), tt)
+  to-callee d v = (((κ₁, (κ₂, (κ₃, tt))), (q₁, (q₂, (q₃, tt))), tt, callee-args d, (v ∷ [], (lent_val log ∷ [], ((held_number w64).val position ∷ [], (LogOverlaysᴴ.val overlays ∷ [], (lent_val words ∷ [], (lent_val bytes ∷ [], ((held_number w64).val next ∷ [], tt)))))))), tt)
 
   module _ (C : Calls 𝓤 H) (Λ : Loops 𝓤 H) (fm : FmC 𝓤 H 𝓛.laws C) (known-gather : Triple 𝓤 (C #gather) (Gather 𝓛 mem run)) (known-callee : Triple 𝓤 (C #callee) (Callee 𝓛 mem run)) where
-    walk : Room Tab.row (length tables.now) → Room u8 (length log.now) → Room u64 (length words.now) → Room u8 (length bytes.now) → ent 𝓤 ((walk_of 𝓛 entry.ended stayed (entry.clauses 𝓛 mem run)).pre here) (WpFn 𝓤 H C Λ code.function (lentVal tables ∷ lentVal log ∷ (heldNumber w64).val position ∷ LogOverlaysᴴ.val overlays ∷ lentVal words ∷ lentVal bytes ∷ (heldNumber w64).val next ∷ []) Post)
+    walk : Room Tab.row (length tables.now) → Room u8 (length log.now) → Room u64 (length words.now) → Room u8 (length bytes.now) → ent 𝓤 ((walk_of 𝓛 entry.ended stayed (entry.clauses 𝓛 mem run)).pre here) (WpFn 𝓤 H C Λ code.function (lent_val tables ∷ lent_val log ∷ (held_number w64).val position ∷ LogOverlaysᴴ.val overlays ∷ lent_val words ∷ lent_val bytes ∷ (held_number w64).val next ∷ []) Post)
     walk tables-room log-room words-room bytes-room =
-        via 𝓤 _ (fst∗ 𝓤 _ (emp 𝓤)) ∵ qed 𝓛 ((‵ (flft κ₀ q₀) ⊛ (‵ (flft κ₁ q₁) ⊛ (‵ (flft κ₂ q₂) ⊛ (‵ (flft κ₃ q₃) ⊛ (‵ ftrue))))) ∷ ‵ (owns (ShrSlice (named 0) κ₀ Tab.row ∷ ShrSlice (named 1) κ₁ u8 ∷ (heldNumber w64).row ∷ LogOverlaysᴴ.row ∷ MutSlice (named 2) κ₂ u64 ∷ MutSlice (named 3) κ₃ u8 ∷ (heldNumber w64).row ∷ []) (tables, (log, (position, (overlays, (words, (bytes, (next, tt))))))) (lentVal tables ∷ [], (lentVal log ∷ [], ((heldNumber w64).val position ∷ [], (LogOverlaysᴴ.val overlays ∷ [], (lentVal words ∷ [], (lentVal bytes ∷ [], ((heldNumber w64).val next ∷ [], tt)))))))) ∷ []) ∵ enter ! C Λ code.function (lentVal tables ∷ lentVal log ∷ (heldNumber w64).val position ∷ LogOverlaysᴴ.val overlays ∷ lentVal words ∷ lentVal bytes ∷ (heldNumber w64).val next ∷ []) _ $
+        via 𝓤 _ (fst∗ 𝓤 _ (emp 𝓤)) ∵ qed 𝓛 ((‵ (flft κ₀ q₀) ⊛ (‵ (flft κ₁ q₁) ⊛ (‵ (flft κ₂ q₂) ⊛ (‵ (flft κ₃ q₃) ⊛ (‵ ftrue))))) ∷ ‵ (owns (ShrSlice (named 0) κ₀ Tab.row ∷ ShrSlice (named 1) κ₁ u8 ∷ (held_number w64).row ∷ LogOverlaysᴴ.row ∷ MutSlice (named 2) κ₂ u64 ∷ MutSlice (named 3) κ₃ u8 ∷ (held_number w64).row ∷ []) (tables, (log, (position, (overlays, (words, (bytes, (next, tt))))))) (lent_val tables ∷ [], (lent_val log ∷ [], ((held_number w64).val position ∷ [], (LogOverlaysᴴ.val overlays ∷ [], (lent_val words ∷ [], (lent_val bytes ∷ [], ((held_number w64).val next ∷ [], tt)))))))) ∷ []) ∵ enter ! C Λ code.function (lent_val tables ∷ lent_val log ∷ (held_number w64).val position ∷ LogOverlaysᴴ.val overlays ∷ lent_val words ∷ lent_val bytes ∷ (held_number w64).val next ∷ []) _ $
         alloc1 ! (λ l₀. alloc1 ! (λ l₁. alloc1 ! (λ l₂. alloc1 ! (λ l₃. alloc1 ! (λ l₄. alloc1 ! (λ l₅. alloc1 ! (λ l₆. alloc1 ! (λ l₇. alloc1 ! (λ l₈. alloc1 ! (λ l₉. alloc1 ! (λ l₁₀.
         alloc1 ! (λ l₁₁. alloc1 ! (λ l₁₂. alloc0 ! $ params1 ! $ pass1 ! (init ! 22 refl (tt, (tt, (record { fits = tables-room.0 }, tt)))) $
-        pass1 ! (init ! 20 refl (tt, (tt, (record { fits = log-room.0 }, tt)))) $ pass1 ! (init ! 18 refl (((heldNumber w64).lawful 𝓛).typed position _ position-is).0) $
+        pass1 ! (init ! 20 refl (tt, (tt, (record { fits = log-room.0 }, tt)))) $ pass1 ! (init ! 18 refl (((held_number w64).lawful 𝓛).typed position _ position-is).0) $
         pass1 ! (init ! 16 refl ((LogOverlaysᴴ.lawful 𝓛).typed overlays _ overlays-is).0) $ pass1 ! (init ! 14 refl (tt, (tt, (record { fits = words-room.0 }, tt)))) $
-        pass1 ! (init ! 12 refl (tt, (tt, (record { fits = bytes-room.0 }, tt)))) $ pass1 ! (init ! 10 refl (((heldNumber w64).lawful 𝓛).typed next _ next-is).0) $ pass0 ! $
+        pass1 ! (init ! 12 refl (tt, (tt, (record { fits = bytes-room.0 }, tt)))) $ pass1 ! (init ! 10 refl (((held_number w64).lawful 𝓛).typed next _ next-is).0) $ pass0 ! $
         -- each token and what each reference owns by itself
         move ! (26 ∷ []) $ split ! $ move ! (1 ∷ []) $ split ! $ move ! (1 ∷ []) $ split ! $ move ! (1 ∷ []) $ split ! $ move ! (1 ∷ []) $ drop ! $ move ! (30 ∷ []) $ fsplit ! $ move ! (1 ∷ []) $
         fsplit ! $ move ! (1 ∷ []) $ fsplit ! $ drop ! $ fsplit ! $ drop ! $ fsplit ! $ move ! (1 ∷ []) $ fsplit ! $ move ! (1 ∷ []) $ fsplit ! $ drop ! $ drop ! $
@@ -118,10 +118,10 @@ module _ {M : Type 1} {𝓤 : Ura M} (𝓛 : Logic 𝓤) (mem : Memory → SProp
         assigns ! (addr ! (from ! (fld ! refl (hop ! (look_in ! 19 (sub ! 0 refl (whole !))) (stop !))))) (from ! (stop !)) (init ! 9 refl (tt, tt)) $
         assigns ! (agg ! (and_then ! (load ! (from ! (stop !)) (look ! 9 refl)) (and_then ! (load ! (from ! (fld ! refl (stop !))) (look_in ! 19 (sub ! 1 refl (whole !)))) (no_more !)))) (from ! (stop !)) (init ! 7 refl (tt, (tt, (record { fits = bytes-room.0 }, tt)))) $
         -- the call, with what it asks put together
-        nothing ! $ nothing ! $ owned ! (heldNumber w64).row (Is (heldNumber w64).row) ((heldNumber w64).makes 𝓛) next ((heldNumber w64).val next ∷ []) next-is $ fjoin ! $
+        nothing ! $ nothing ! $ owned ! (held_number w64).row (Is (held_number w64).row) ((held_number w64).makes 𝓛) next ((held_number w64).val next ∷ []) next-is $ fjoin ! $
         move ! (3 ∷ 0 ∷ []) $ fjoin ! $ move ! (3 ∷ 0 ∷ []) $ fjoin ! $
         owned ! LogOverlaysᴴ.row (Is LogOverlaysᴴ.row) (LogOverlaysᴴ.makes 𝓛) overlays (LogOverlaysᴴ.val overlays ∷ []) overlays-is $ fjoin ! $
-        owned ! (heldNumber w64).row (Is (heldNumber w64).row) ((heldNumber w64).makes 𝓛) position ((heldNumber w64).val position ∷ []) position-is $ fjoin ! $ move ! (3 ∷ 0 ∷ []) $
+        owned ! (held_number w64).row (Is (held_number w64).row) ((held_number w64).makes 𝓛) position ((held_number w64).val position ∷ []) position-is $ fjoin ! $ move ! (3 ∷ 0 ∷ []) $
         fjoin ! $ owned ! Dir.row (Is Dir.row) (Dir.makes 𝓛) d (v ∷ []) d-is $ fjoin ! $ nothing ! $ move ! (4 ∷ 0 ∷ []) $ join ! $ move ! (4 ∷ 0 ∷ []) $ join ! $ move ! (4 ∷ 0 ∷ []) $
         join ! $ join ! $ join ! $ use1 𝓛 (raw ((Callee 𝓛 mem run).pre (to-callee d v))) (id⊢ 𝓤 _) $
         calls_at ! fm (Callee 𝓛 mem run) known-callee (to-callee d v) (and_then ! (load ! (from ! (stop !)) (look ! 10 refl)) (and_then ! (load ! (from ! (stop !)) (look ! 22 refl)) (and_then ! (load ! (from ! (stop !)) (look ! 20 refl)) (and_then ! (load ! (from ! (stop !)) (look ! 18 refl)) (and_then ! (load ! (from ! (stop !)) (look ! 6 refl)) (and_then ! (load ! (from ! (stop !)) (look ! 2 refl)) (and_then ! (load ! (from ! (stop !)) (look ! 12 refl)) (no_more !)))))))) (λ w.
@@ -141,10 +141,10 @@ module _ {M : Type 1} {𝓤 : Ura M} (𝓛 : Logic 𝓤) (mem : Memory → SProp
 meets : {M : Type 1} {𝓤 : Ura M} (𝓛 : Logic 𝓤) → (mem : Memory → SProp 𝓤) (run : Routine → Fun 𝓤) (𝓣 : Tables 𝓤 𝓛.H) → Triple 𝓤 (𝓣.C #gather) (Gather 𝓛 mem run) → Triple 𝓤 (𝓣.C #callee) (Callee 𝓛 mem run)
     → Meets 𝓛 entry.signature (WpFn 𝓤 𝓛.H 𝓣.C 𝓣.Λ code.function) (entry.spec 𝓛 mem run)
 meets {𝓤 = 𝓤} 𝓛 mem run 𝓣 known-gather known-callee =
-    walk_Meets 𝓛 entry.ended stayed (Goes-dropped 𝓛 4 (shr_slice_of (0 ∷ []) tt (plain (λ _. Tab.row))) yes (λ κs x f. refl), (Goes-dropped 𝓛 4 (shr_slice_of (1 ∷ []) tt (plain (λ _. u8))) yes (λ κs x f. refl), (Goes-dropped 𝓛 4 (plain (λ _. (heldNumber w64).row)) yes (λ κs x f. refl), (Goes-dropped 𝓛 4 (plain (λ _. LogOverlaysᴴ.row)) yes (λ κs x f. refl), (Goes-gave_slice 𝓛 4 2 tt (plain (λ _. u64)), (Goes-gave_slice 𝓛 4 3 tt (plain (λ _. u8)), (Goes-dropped 𝓛 4 (plain (λ _. (heldNumber w64).row)) yes (λ κs x f. refl), tt)))))))
+    walk_Meets 𝓛 entry.ended stayed (Goes-dropped 𝓛 4 (shr_slice_of (0 ∷ []) tt (plain (λ _. Tab.row))) yes (λ κs x f. refl), (Goes-dropped 𝓛 4 (shr_slice_of (1 ∷ []) tt (plain (λ _. u8))) yes (λ κs x f. refl), (Goes-dropped 𝓛 4 (plain (λ _. (held_number w64).row)) yes (λ κs x f. refl), (Goes-dropped 𝓛 4 (plain (λ _. LogOverlaysᴴ.row)) yes (λ κs x f. refl), (Goes-gave_slice 𝓛 4 2 tt (plain (λ _. u64)), (Goes-gave_slice 𝓛 4 3 tt (plain (λ _. u8)), (Goes-dropped 𝓛 4 (plain (λ _. (held_number w64).row)) yes (λ κs x f. refl), tt)))))))
     (entry.clauses 𝓛 mem run) (WpFn 𝓤 𝓛.H 𝓣.C 𝓣.Λ code.function) (WpFn-mono 𝓤 𝓛.H 𝓛.laws 𝓣 code.function)
-    (walked 𝓛 entry.ended stayed (entry.clauses 𝓛 mem run) (WpFn 𝓤 𝓛.H 𝓣.C 𝓣.Λ code.function) (λ κs. (shr_slice_vals, (shr_slice_vals, ((λ x. (heldNumber w64).val x ∷ []), ((λ x. LogOverlaysᴴ.val x ∷ []), (shr_slice_vals, (shr_slice_vals, ((λ x. (heldNumber w64).val x ∷ []), tt))))))))
-    (λ κs. (shr_slice_Tells (named 0) κs.0 Tab.row, (shr_slice_Tells (named 1) κs.1.0 u8, ((heldNumber w64).tells, (LogOverlaysᴴ.tells, (mut_slice_Tells (named 2) κs.1.1.0 u64, (mut_slice_Tells (named 3) κs.1.1.1.0 u8, ((heldNumber w64).tells, tt))))))))
+    (walked 𝓛 entry.ended stayed (entry.clauses 𝓛 mem run) (WpFn 𝓤 𝓛.H 𝓣.C 𝓣.Λ code.function) (λ κs. (shr_slice_vals, (shr_slice_vals, ((λ x. (held_number w64).val x ∷ []), ((λ x. LogOverlaysᴴ.val x ∷ []), (shr_slice_vals, (shr_slice_vals, ((λ x. (held_number w64).val x ∷ []), tt))))))))
+    (λ κs. (shr_slice_Tells (named 0) κs.0 Tab.row, (shr_slice_Tells (named 1) κs.1.0 u8, ((held_number w64).tells, (LogOverlaysᴴ.tells, (mut_slice_Tells (named 2) κs.1.1.0 u64, (mut_slice_Tells (named 3) κs.1.1.1.0 u8, ((held_number w64).tells, tt))))))))
     (λ κs qs bounds a g are. walk 𝓛 mem run κs.0 κs.1.0 κs.1.1.0 κs.1.1.1.0 qs.0 qs.1.0 qs.1.1.0 qs.1.1.1.0 a.0 a.1.0 a.1.1.0 a.1.1.1.0 a.1.1.1.1.0 a.1.1.1.1.1.0 a.1.1.1.1.1.1.0 are.1.1.0 are.1.1.1.0 are.1.1.1.1.1.1.0
     𝓣.C 𝓣.Λ (fm_of 𝓤 𝓛.H 𝓛.laws 𝓣) known-gather known-callee are.0.0.1 are.1.0.0.1 are.1.1.1.1.0.0.1 are.1.1.1.1.1.0.0.1))
 

@@ -37,12 +37,12 @@ use denote.Exit.{yes}
 use Rattle.directory.specs.declared.table.TableDescription.{TableDescription}
 use Rattle.directory.specs.declared.directory.Directory.{Directory}
 use Rattle.lent.specs.Lent.{gathered}
-use Rattle.lent.proofs.Held.{Held, heldNumber, heldStruct, Tab, Dir, lentVal}
+use Rattle.lent.proofs.Held.{Held, held_number, held_struct, Tab, Dir, lent_val}
 use Rattle.lent.proofs.Entry.{Gather, gathers}
 use Rattle.lent.proofs.slice.gather.Symbol as gather-def
 use Rattle.lent.proofs.slice.gather.Symbol.{name as #gather}
 use Rattle.lent.proofs.slice.gather.Met as gather-thm
-use Rattle.ending.specs.EndRecord.{handedOf, endStateOf, endRecord}
+use Rattle.ending.specs.EndRecord.{handed_of, end_state_of, end_record}
 use Rattle.ending.specs.contracts.record_end.Ended as Ended
 use Rattle.ending.proofs.record_end.Ended.TheLaws as Ended'
 use Rattle.change.specs.contracts.change.LogChange as LogChange
@@ -61,33 +61,33 @@ use Rattle.lent.proofs.records.end_record.Statement as stated
 use Rattle.lent.proofs.records.end_record.Code as code
 
 abbrev Endedᴴ : Held
-Endedᴴ = heldStruct Ended.the_type Ended'.the_laws Ended'.the_plain
+Endedᴴ = held_struct Ended.the_type Ended'.the_laws Ended'.the_plain
 
 abbrev LogChangeᴴ : Held
-LogChangeᴴ = heldStruct LogChange.the_type LogChange'.the_laws LogChange'.the_plain
+LogChangeᴴ = held_struct LogChange.the_type LogChange'.the_laws LogChange'.the_plain
 
 abbrev LogOverlaysᴴ : Held
-LogOverlaysᴴ = heldStruct LogOverlays.the_type LogOverlays'.the_laws LogOverlays'.the_plain
+LogOverlaysᴴ = held_struct LogOverlays.the_type LogOverlays'.the_laws LogOverlays'.the_plain
 
 abbrev Queuesᴴ : Held
-Queuesᴴ = heldStruct Queues.the_type Queues'.the_laws Queues'.the_plain
+Queuesᴴ = held_struct Queues.the_type Queues'.the_laws Queues'.the_plain
 
 abbrev stayed : Stays (entry.ended).signature.params (entry.ended).kept
-stayed = (stay_dropped (shr_slice_of (0 ∷ []) tt (plain (λ _. Tab.row))) yes, (stay_dropped (plain (λ _. LogChangeᴴ.row)) yes, (stay_dropped (shr_slice_of (1 ∷ []) tt (plain (λ _. u64))) yes, (stay_dropped (shr_slice_of (1 ∷ []) tt (plain (λ _. u8))) yes, (stay_dropped (plain (λ _. LogOverlaysᴴ.row)) yes, (gave_slice (2 ∷ []) tt (plain (λ _. u64)), (gave_slice (3 ∷ []) tt (plain (λ _. u8)), (stay_dropped (plain (λ _. Queuesᴴ.row)) yes, (stay_dropped (plain (λ _. (heldNumber w64).row)) yes, (gave_slice (4 ∷ []) tt (plain (λ _. u8)), tt))))))))))
+stayed = (stay_dropped (shr_slice_of (0 ∷ []) tt (plain (λ _. Tab.row))) yes, (stay_dropped (plain (λ _. LogChangeᴴ.row)) yes, (stay_dropped (shr_slice_of (1 ∷ []) tt (plain (λ _. u64))) yes, (stay_dropped (shr_slice_of (1 ∷ []) tt (plain (λ _. u8))) yes, (stay_dropped (plain (λ _. LogOverlaysᴴ.row)) yes, (gave_slice (2 ∷ []) tt (plain (λ _. u64)), (gave_slice (3 ∷ []) tt (plain (λ _. u8)), (stay_dropped (plain (λ _. Queuesᴴ.row)) yes, (stay_dropped (plain (λ _. (held_number w64).row)) yes, (gave_slice (4 ∷ []) tt (plain (λ _. u8)), tt))))))))))
 
 module _ {M : Type 1} {𝓤 : Ura M} (𝓛 : Logic 𝓤) (mem : Memory → SProp 𝓤) (run : Routine → Fun 𝓤) where
   abbrev Callee : Contract 𝓤
   Callee = triple_of 𝓛 callee.signature (callee.spec 𝓛 mem run)
 
 module _ {M : Type 1} {𝓤 : Ura M} (𝓛 : Logic 𝓤) (mem : Memory → SProp 𝓤) (run : Routine → Fun 𝓤) (κ₀ κ₁ κ₂ κ₃ κ₄ : Lft) (q₀ q₁ q₂ q₃ q₄ : Share)
-    (tables : Bor (List TableDescription)) (list : LogChangeᴴ.row.Denot) (list_words : Bor (List ℕ)) (list_bytes : Bor (List ℕ)) (overlays : LogOverlaysᴴ.row.Denot) (words : Bor (List ℕ)) (bytes : Bor (List ℕ)) (queues : Queuesᴴ.row.Denot) (next : (heldNumber w64).row.Denot) (out : Bor (List ℕ)) (list-is : Is LogChangeᴴ.row list (LogChangeᴴ.val list ∷ [])) (overlays-is : Is LogOverlaysᴴ.row overlays (LogOverlaysᴴ.val overlays ∷ [])) (queues-is : Is Queuesᴴ.row queues (Queuesᴴ.val queues ∷ [])) (next-is : Is (heldNumber w64).row next ((heldNumber w64).val next ∷ [])) where
+    (tables : Bor (List TableDescription)) (list : LogChangeᴴ.row.Denot) (list_words : Bor (List ℕ)) (list_bytes : Bor (List ℕ)) (overlays : LogOverlaysᴴ.row.Denot) (words : Bor (List ℕ)) (bytes : Bor (List ℕ)) (queues : Queuesᴴ.row.Denot) (next : (held_number w64).row.Denot) (out : Bor (List ℕ)) (list-is : Is LogChangeᴴ.row list (LogChangeᴴ.val list ∷ [])) (overlays-is : Is LogOverlaysᴴ.row overlays (LogOverlaysᴴ.val overlays ∷ [])) (queues-is : Is Queuesᴴ.row queues (Queuesᴴ.val queues ∷ [])) (next-is : Is (held_number w64).row next ((held_number w64).val next ∷ [])) where
   open 𝓛 use {H}
 
   abbrev Says : Endedᴴ.row.Denot → List ℕ → List ℕ → List ℕ → Directory → Type 0
-  Says r words' bytes' out' d = endStateOf r words' bytes' out' ≡ endRecord d (handedOf list list_words.now list_bytes.now overlays words.now bytes.now queues next out.now)
+  Says r words' bytes' out' d = end_state_of r words' bytes' out' ≡ end_record d (handed_of list list_words.now list_bytes.now overlays words.now bytes.now queues next out.now)
 
   abbrev here : (walk_of 𝓛 entry.ended stayed (entry.clauses 𝓛 mem run)).Ghost
-  here = (((κ₀, (κ₁, (κ₂, (κ₃, (κ₄, tt))))), (q₀, (q₁, (q₂, (q₃, (q₄, tt))))), tt, (tables, (list, (list_words, (list_bytes, (overlays, (words, (bytes, (queues, (next, (out, tt)))))))))), (lentVal tables ∷ [], (LogChangeᴴ.val list ∷ [], (lentVal list_words ∷ [], (lentVal list_bytes ∷ [], (LogOverlaysᴴ.val overlays ∷ [], (lentVal words ∷ [], (lentVal bytes ∷ [], (Queuesᴴ.val queues ∷ [], ((heldNumber w64).val next ∷ [], (lentVal out ∷ [], tt))))))))))), tt)
+  here = (((κ₀, (κ₁, (κ₂, (κ₃, (κ₄, tt))))), (q₀, (q₁, (q₂, (q₃, (q₄, tt))))), tt, (tables, (list, (list_words, (list_bytes, (overlays, (words, (bytes, (queues, (next, (out, tt)))))))))), (lent_val tables ∷ [], (LogChangeᴴ.val list ∷ [], (lent_val list_words ∷ [], (lent_val list_bytes ∷ [], (LogOverlaysᴴ.val overlays ∷ [], (lent_val words ∷ [], (lent_val bytes ∷ [], (Queuesᴴ.val queues ∷ [], ((held_number w64).val next ∷ [], (lent_val out ∷ [], tt))))))))))), tt)
 
   abbrev Post : Val → SProp 𝓤
   Post = (walk_of 𝓛 entry.ended stayed (entry.clauses 𝓛 mem run)).post here
@@ -106,19 +106,19 @@ module _ {M : Type 1} {𝓤 : Ura M} (𝓛 : Logic 𝓤) (mem : Memory → SProp
   callee-args d = (d, (list, (list_words, (list_bytes, (overlays, (words, (bytes, (queues, (next, (out, tt))))))))))
 
   abbrev to-callee : Directory → Val → (Callee 𝓛 mem run).Ghost
-  to-callee d v = (((κ₁, (κ₂, (κ₃, (κ₄, tt)))), (q₁, (q₂, (q₃, (q₄, tt)))), tt, callee-args d, (v ∷ [], (LogChangeᴴ.val list ∷ [], (lentVal list_words ∷ [], (lentVal list_bytes ∷ [], (LogOverlaysᴴ.val overlays ∷ [], (lentVal words ∷ [], (lentVal bytes ∷ [], (Queuesᴴ.val queues ∷ [], ((heldNumber w64).val next ∷ [], (lentVal out ∷ [], tt))))))))))), tt)
+  to-callee d v = (((κ₁, (κ₂, (κ₃, (κ₄, tt)))), (q₁, (q₂, (q₃, (q₄, tt)))), tt, callee-args d, (v ∷ [], (LogChangeᴴ.val list ∷ [], (lent_val list_words ∷ [], (lent_val list_bytes ∷ [], (LogOverlaysᴴ.val overlays ∷ [], (lent_val words ∷ [], (lent_val bytes ∷ [], (Queuesᴴ.val queues ∷ [], ((held_number w64).val next ∷ [], (lent_val out ∷ [], tt))))))))))), tt)
 
   module _ (C : Calls 𝓤 H) (Λ : Loops 𝓤 H) (fm : FmC 𝓤 H 𝓛.laws C) (known-gather : Triple 𝓤 (C #gather) (Gather 𝓛 mem run)) (known-callee : Triple 𝓤 (C #callee) (Callee 𝓛 mem run)) where
-    walk : Room Tab.row (length tables.now) → Room u64 (length list_words.now) → Room u8 (length list_bytes.now) → Room u64 (length words.now) → Room u8 (length bytes.now) → Room u8 (length out.now) → ent 𝓤 ((walk_of 𝓛 entry.ended stayed (entry.clauses 𝓛 mem run)).pre here) (WpFn 𝓤 H C Λ code.function (lentVal tables ∷ LogChangeᴴ.val list ∷ lentVal list_words ∷ lentVal list_bytes ∷ LogOverlaysᴴ.val overlays ∷ lentVal words ∷ lentVal bytes ∷ Queuesᴴ.val queues ∷ (heldNumber w64).val next ∷ lentVal out ∷ []) Post)
+    walk : Room Tab.row (length tables.now) → Room u64 (length list_words.now) → Room u8 (length list_bytes.now) → Room u64 (length words.now) → Room u8 (length bytes.now) → Room u8 (length out.now) → ent 𝓤 ((walk_of 𝓛 entry.ended stayed (entry.clauses 𝓛 mem run)).pre here) (WpFn 𝓤 H C Λ code.function (lent_val tables ∷ LogChangeᴴ.val list ∷ lent_val list_words ∷ lent_val list_bytes ∷ LogOverlaysᴴ.val overlays ∷ lent_val words ∷ lent_val bytes ∷ Queuesᴴ.val queues ∷ (held_number w64).val next ∷ lent_val out ∷ []) Post)
     walk tables-room list-words-room list-bytes-room words-room bytes-room out-room =
-        via 𝓤 _ (fst∗ 𝓤 _ (emp 𝓤)) ∵ qed 𝓛 ((‵ (flft κ₀ q₀) ⊛ (‵ (flft κ₁ q₁) ⊛ (‵ (flft κ₂ q₂) ⊛ (‵ (flft κ₃ q₃) ⊛ (‵ (flft κ₄ q₄) ⊛ (‵ ftrue)))))) ∷ ‵ (owns (ShrSlice (named 0) κ₀ Tab.row ∷ LogChangeᴴ.row ∷ ShrSlice (named 1) κ₁ u64 ∷ ShrSlice (named 1) κ₁ u8 ∷ LogOverlaysᴴ.row ∷ MutSlice (named 2) κ₂ u64 ∷ MutSlice (named 3) κ₃ u8 ∷ Queuesᴴ.row ∷ (heldNumber w64).row ∷ MutSlice (named 4) κ₄ u8 ∷ []) (tables, (list, (list_words, (list_bytes, (overlays, (words, (bytes, (queues, (next, (out, tt)))))))))) (lentVal tables ∷ [], (LogChangeᴴ.val list ∷ [], (lentVal list_words ∷ [], (lentVal list_bytes ∷ [], (LogOverlaysᴴ.val overlays ∷ [], (lentVal words ∷ [], (lentVal bytes ∷ [], (Queuesᴴ.val queues ∷ [], ((heldNumber w64).val next ∷ [], (lentVal out ∷ [], tt))))))))))) ∷ []) ∵ enter ! C Λ code.function (lentVal tables ∷ LogChangeᴴ.val list ∷ lentVal list_words ∷ lentVal list_bytes ∷ LogOverlaysᴴ.val overlays ∷ lentVal words ∷ lentVal bytes ∷ Queuesᴴ.val queues ∷ (heldNumber w64).val next ∷ lentVal out ∷ []) _ $
+        via 𝓤 _ (fst∗ 𝓤 _ (emp 𝓤)) ∵ qed 𝓛 ((‵ (flft κ₀ q₀) ⊛ (‵ (flft κ₁ q₁) ⊛ (‵ (flft κ₂ q₂) ⊛ (‵ (flft κ₃ q₃) ⊛ (‵ (flft κ₄ q₄) ⊛ (‵ ftrue)))))) ∷ ‵ (owns (ShrSlice (named 0) κ₀ Tab.row ∷ LogChangeᴴ.row ∷ ShrSlice (named 1) κ₁ u64 ∷ ShrSlice (named 1) κ₁ u8 ∷ LogOverlaysᴴ.row ∷ MutSlice (named 2) κ₂ u64 ∷ MutSlice (named 3) κ₃ u8 ∷ Queuesᴴ.row ∷ (held_number w64).row ∷ MutSlice (named 4) κ₄ u8 ∷ []) (tables, (list, (list_words, (list_bytes, (overlays, (words, (bytes, (queues, (next, (out, tt)))))))))) (lent_val tables ∷ [], (LogChangeᴴ.val list ∷ [], (lent_val list_words ∷ [], (lent_val list_bytes ∷ [], (LogOverlaysᴴ.val overlays ∷ [], (lent_val words ∷ [], (lent_val bytes ∷ [], (Queuesᴴ.val queues ∷ [], ((held_number w64).val next ∷ [], (lent_val out ∷ [], tt))))))))))) ∷ []) ∵ enter ! C Λ code.function (lent_val tables ∷ LogChangeᴴ.val list ∷ lent_val list_words ∷ lent_val list_bytes ∷ LogOverlaysᴴ.val overlays ∷ lent_val words ∷ lent_val bytes ∷ Queuesᴴ.val queues ∷ (held_number w64).val next ∷ lent_val out ∷ []) _ $
         alloc1 ! (λ l₀. alloc1 ! (λ l₁. alloc1 ! (λ l₂. alloc1 ! (λ l₃. alloc1 ! (λ l₄. alloc1 ! (λ l₅. alloc1 ! (λ l₆. alloc1 ! (λ l₇. alloc1 ! (λ l₈. alloc1 ! (λ l₉. alloc1 ! (λ l₁₀.
         alloc1 ! (λ l₁₁. alloc1 ! (λ l₁₂. alloc1 ! (λ l₁₃. alloc1 ! (λ l₁₄. alloc1 ! (λ l₁₅. alloc1 ! (λ l₁₆. alloc1 ! (λ l₁₇. alloc0 ! $ params1 ! $
         pass1 ! (init ! 32 refl (tt, (tt, (record { fits = tables-room.0 }, tt)))) $ pass1 ! (init ! 30 refl ((LogChangeᴴ.lawful 𝓛).typed list _ list-is).0) $
         pass1 ! (init ! 28 refl (tt, (tt, (record { fits = list-words-room.0 }, tt)))) $ pass1 ! (init ! 26 refl (tt, (tt, (record { fits = list-bytes-room.0 }, tt)))) $
         pass1 ! (init ! 24 refl ((LogOverlaysᴴ.lawful 𝓛).typed overlays _ overlays-is).0) $ pass1 ! (init ! 22 refl (tt, (tt, (record { fits = words-room.0 }, tt)))) $
         pass1 ! (init ! 20 refl (tt, (tt, (record { fits = bytes-room.0 }, tt)))) $ pass1 ! (init ! 18 refl ((Queuesᴴ.lawful 𝓛).typed queues _ queues-is).0) $
-        pass1 ! (init ! 16 refl (((heldNumber w64).lawful 𝓛).typed next _ next-is).0) $ pass1 ! (init ! 14 refl (tt, (tt, (record { fits = out-room.0 }, tt)))) $ pass0 ! $
+        pass1 ! (init ! 16 refl (((held_number w64).lawful 𝓛).typed next _ next-is).0) $ pass1 ! (init ! 14 refl (tt, (tt, (record { fits = out-room.0 }, tt)))) $ pass0 ! $
         -- each token and what each reference owns by itself
         move ! (36 ∷ []) $ split ! $ move ! (1 ∷ []) $ split ! $ move ! (1 ∷ []) $ split ! $ move ! (1 ∷ []) $ split ! $ move ! (1 ∷ []) $ split ! $ move ! (1 ∷ []) $ drop ! $ move ! (41 ∷ []) $
         fsplit ! $ move ! (1 ∷ []) $ fsplit ! $ drop ! $ fsplit ! $ move ! (1 ∷ []) $ fsplit ! $ move ! (1 ∷ []) $ fsplit ! $ drop ! $ fsplit ! $ move ! (1 ∷ []) $ fsplit ! $ move ! (1 ∷ []) $
@@ -134,7 +134,7 @@ module _ {M : Type 1} {𝓤 : Ura M} (𝓛 : Logic 𝓤) (mem : Memory → SProp
         assigns ! (agg ! (and_then ! (load ! (from ! (stop !)) (look ! 12 refl)) (and_then ! (load ! (from ! (fld ! refl (stop !))) (look_in ! 24 (sub ! 1 refl (whole !)))) (no_more !)))) (from ! (stop !)) (init ! 10 refl (tt, (tt, (record { fits = out-room.0 }, tt)))) $
         -- the call, with what it asks put together
         nothing ! $ nothing ! $ move ! (3 ∷ 0 ∷ []) $ fjoin ! $
-        owned ! (heldNumber w64).row (Is (heldNumber w64).row) ((heldNumber w64).makes 𝓛) next ((heldNumber w64).val next ∷ []) next-is $ fjoin ! $
+        owned ! (held_number w64).row (Is (held_number w64).row) ((held_number w64).makes 𝓛) next ((held_number w64).val next ∷ []) next-is $ fjoin ! $
         owned ! Queuesᴴ.row (Is Queuesᴴ.row) (Queuesᴴ.makes 𝓛) queues (Queuesᴴ.val queues ∷ []) queues-is $ fjoin ! $ move ! (3 ∷ 0 ∷ []) $ fjoin ! $ move ! (3 ∷ 0 ∷ []) $ fjoin ! $
         owned ! LogOverlaysᴴ.row (Is LogOverlaysᴴ.row) (LogOverlaysᴴ.makes 𝓛) overlays (LogOverlaysᴴ.val overlays ∷ []) overlays-is $ fjoin ! $ move ! (3 ∷ 0 ∷ []) $ fjoin ! $
         move ! (3 ∷ 0 ∷ []) $ fjoin ! $ owned ! LogChangeᴴ.row (Is LogChangeᴴ.row) (LogChangeᴴ.makes 𝓛) list (LogChangeᴴ.val list ∷ []) list-is $ fjoin ! $
@@ -159,10 +159,10 @@ module _ {M : Type 1} {𝓤 : Ura M} (𝓛 : Logic 𝓤) (mem : Memory → SProp
 meets : {M : Type 1} {𝓤 : Ura M} (𝓛 : Logic 𝓤) → (mem : Memory → SProp 𝓤) (run : Routine → Fun 𝓤) (𝓣 : Tables 𝓤 𝓛.H) → Triple 𝓤 (𝓣.C #gather) (Gather 𝓛 mem run) → Triple 𝓤 (𝓣.C #callee) (Callee 𝓛 mem run)
     → Meets 𝓛 entry.signature (WpFn 𝓤 𝓛.H 𝓣.C 𝓣.Λ code.function) (entry.spec 𝓛 mem run)
 meets {𝓤 = 𝓤} 𝓛 mem run 𝓣 known-gather known-callee =
-    walk_Meets 𝓛 entry.ended stayed (Goes-dropped 𝓛 5 (shr_slice_of (0 ∷ []) tt (plain (λ _. Tab.row))) yes (λ κs x f. refl), (Goes-dropped 𝓛 5 (plain (λ _. LogChangeᴴ.row)) yes (λ κs x f. refl), (Goes-dropped 𝓛 5 (shr_slice_of (1 ∷ []) tt (plain (λ _. u64))) yes (λ κs x f. refl), (Goes-dropped 𝓛 5 (shr_slice_of (1 ∷ []) tt (plain (λ _. u8))) yes (λ κs x f. refl), (Goes-dropped 𝓛 5 (plain (λ _. LogOverlaysᴴ.row)) yes (λ κs x f. refl), (Goes-gave_slice 𝓛 5 2 tt (plain (λ _. u64)), (Goes-gave_slice 𝓛 5 3 tt (plain (λ _. u8)), (Goes-dropped 𝓛 5 (plain (λ _. Queuesᴴ.row)) yes (λ κs x f. refl), (Goes-dropped 𝓛 5 (plain (λ _. (heldNumber w64).row)) yes (λ κs x f. refl), (Goes-gave_slice 𝓛 5 4 tt (plain (λ _. u8)), tt))))))))))
+    walk_Meets 𝓛 entry.ended stayed (Goes-dropped 𝓛 5 (shr_slice_of (0 ∷ []) tt (plain (λ _. Tab.row))) yes (λ κs x f. refl), (Goes-dropped 𝓛 5 (plain (λ _. LogChangeᴴ.row)) yes (λ κs x f. refl), (Goes-dropped 𝓛 5 (shr_slice_of (1 ∷ []) tt (plain (λ _. u64))) yes (λ κs x f. refl), (Goes-dropped 𝓛 5 (shr_slice_of (1 ∷ []) tt (plain (λ _. u8))) yes (λ κs x f. refl), (Goes-dropped 𝓛 5 (plain (λ _. LogOverlaysᴴ.row)) yes (λ κs x f. refl), (Goes-gave_slice 𝓛 5 2 tt (plain (λ _. u64)), (Goes-gave_slice 𝓛 5 3 tt (plain (λ _. u8)), (Goes-dropped 𝓛 5 (plain (λ _. Queuesᴴ.row)) yes (λ κs x f. refl), (Goes-dropped 𝓛 5 (plain (λ _. (held_number w64).row)) yes (λ κs x f. refl), (Goes-gave_slice 𝓛 5 4 tt (plain (λ _. u8)), tt))))))))))
     (entry.clauses 𝓛 mem run) (WpFn 𝓤 𝓛.H 𝓣.C 𝓣.Λ code.function) (WpFn-mono 𝓤 𝓛.H 𝓛.laws 𝓣 code.function)
-    (walked 𝓛 entry.ended stayed (entry.clauses 𝓛 mem run) (WpFn 𝓤 𝓛.H 𝓣.C 𝓣.Λ code.function) (λ κs. (shr_slice_vals, ((λ x. LogChangeᴴ.val x ∷ []), (shr_slice_vals, (shr_slice_vals, ((λ x. LogOverlaysᴴ.val x ∷ []), (shr_slice_vals, (shr_slice_vals, ((λ x. Queuesᴴ.val x ∷ []), ((λ x. (heldNumber w64).val x ∷ []), (shr_slice_vals, tt)))))))))))
-    (λ κs. (shr_slice_Tells (named 0) κs.0 Tab.row, (LogChangeᴴ.tells, (shr_slice_Tells (named 1) κs.1.0 u64, (shr_slice_Tells (named 1) κs.1.0 u8, (LogOverlaysᴴ.tells, (mut_slice_Tells (named 2) κs.1.1.0 u64, (mut_slice_Tells (named 3) κs.1.1.1.0 u8, (Queuesᴴ.tells, ((heldNumber w64).tells, (mut_slice_Tells (named 4) κs.1.1.1.1.0 u8, tt)))))))))))
+    (walked 𝓛 entry.ended stayed (entry.clauses 𝓛 mem run) (WpFn 𝓤 𝓛.H 𝓣.C 𝓣.Λ code.function) (λ κs. (shr_slice_vals, ((λ x. LogChangeᴴ.val x ∷ []), (shr_slice_vals, (shr_slice_vals, ((λ x. LogOverlaysᴴ.val x ∷ []), (shr_slice_vals, (shr_slice_vals, ((λ x. Queuesᴴ.val x ∷ []), ((λ x. (held_number w64).val x ∷ []), (shr_slice_vals, tt)))))))))))
+    (λ κs. (shr_slice_Tells (named 0) κs.0 Tab.row, (LogChangeᴴ.tells, (shr_slice_Tells (named 1) κs.1.0 u64, (shr_slice_Tells (named 1) κs.1.0 u8, (LogOverlaysᴴ.tells, (mut_slice_Tells (named 2) κs.1.1.0 u64, (mut_slice_Tells (named 3) κs.1.1.1.0 u8, (Queuesᴴ.tells, ((held_number w64).tells, (mut_slice_Tells (named 4) κs.1.1.1.1.0 u8, tt)))))))))))
     (λ κs qs bounds a g are. walk 𝓛 mem run κs.0 κs.1.0 κs.1.1.0 κs.1.1.1.0 κs.1.1.1.1.0 qs.0 qs.1.0 qs.1.1.0 qs.1.1.1.0 qs.1.1.1.1.0 a.0 a.1.0 a.1.1.0 a.1.1.1.0 a.1.1.1.1.0 a.1.1.1.1.1.0 a.1.1.1.1.1.1.0 a.1.1.1.1.1.1.1.0 a.1.1.1.1.1.1.1.1.0 a.1.1.1.1.1.1.1.1.1.0 are.1.0 are.1.1.1.1.0 are.1.1.1.1.1.1.1.0 are.1.1.1.1.1.1.1.1.0
     𝓣.C 𝓣.Λ (fm_of 𝓤 𝓛.H 𝓛.laws 𝓣) known-gather known-callee are.0.0.1 are.1.1.0.0.1 are.1.1.1.0.0.1 are.1.1.1.1.1.0.0.1 are.1.1.1.1.1.1.0.0.1 are.1.1.1.1.1.1.1.1.1.0.0.1))
 

@@ -44,10 +44,10 @@ use denote.Triple.Table.{entered, cited}
 use denote.Triple.Clauses.{ensured, lasts}
 use denote.Triple.Walked.{says, Stays, stay_none_slice, walk_of, Goes-none_slice, Walks, ends_at, walked, walk_Meets}
 use denote.Exit.{yes}
-use Rattle.directory.specs.Directory.{noTables}
+use Rattle.directory.specs.Directory.{no_tables}
 use Rattle.directory.specs.declared.table.TableDescription.{TableDescription}
 use Rattle.directory.specs.declared.directory.Directory.{Directory}
-use Rattle.directory.proofs.Tables.{noTable}
+use Rattle.directory.proofs.Tables.{no_table_lem}
 use Rattle.directory.specs.contracts.table.TableDescription as T
 use Rattle.directory.proofs.table.TableDescription.TheLaws as T'
 use Rattle.directory.proofs.directory.Directory.TheLaws as D'
@@ -56,7 +56,7 @@ use Rattle.directory.proofs.directory.Directory.new.Symbol as none-def
 use Rattle.directory.proofs.directory.Directory.new.Symbol.{name as #none}
 use Rattle.directory.proofs.directory.Directory.new.Met as none-thm
 use Rattle.lent.specs.Lent.{gathered}
-use Rattle.lent.specs.Inner.{withOneMore}
+use Rattle.lent.specs.Inner.{with_one_more}
 use Rattle.lent.proofs.Held.{Tab, Dir}
 use Rattle.lent.proofs.Gathered.{gathered_none, gathered_next, gathered-all}
 use Rattle.lent.specs.contracts.slice.push as push
@@ -96,11 +96,11 @@ module _ {M : Type 1} {𝓤 : Ura M} (𝓛 : Logic 𝓤) (mem : Memory → SProp
   abbrev Push : Contract 𝓤
   Push = triple_of 𝓛 push.signature (push.spec 𝓛 mem run)
 
-  none_of : (r : Directory) → ent 𝓤 (ensured 𝓛 none.ended (none.clauses 𝓛 mem run) tt tt tt r) (fact 𝓤 (r ≡ noTables))
-  none_of r = ex_e 𝓤 _ (λ ws. snd∗ 𝓤 (sem 𝓛 (lasts none.ended tt tt ws)) (fact 𝓤 (r ≡ noTables)))
+  none_of : (r : Directory) → ent 𝓤 (ensured 𝓛 none.ended (none.clauses 𝓛 mem run) tt tt tt r) (fact 𝓤 (r ≡ no_tables))
+  none_of r = ex_e 𝓤 _ (λ ws. snd∗ 𝓤 (sem 𝓛 (lasts none.ended tt tt ws)) (fact 𝓤 (r ≡ no_tables)))
 
-  push-of : (d : Directory) (t : TableDescription) (r : Directory) → ent 𝓤 (ensured 𝓛 push.ended (push.clauses 𝓛 mem run) tt (d, (t, tt)) tt r) (fact 𝓤 (r ≡ withOneMore d t))
-  push-of d t r = ex_e 𝓤 _ (λ ws. snd∗ 𝓤 (sem 𝓛 (lasts push.ended tt (d, (t, tt)) ws)) (fact 𝓤 (r ≡ withOneMore d t)))
+  push-of : (d : Directory) (t : TableDescription) (r : Directory) → ent 𝓤 (ensured 𝓛 push.ended (push.clauses 𝓛 mem run) tt (d, (t, tt)) tt r) (fact 𝓤 (r ≡ with_one_more d t))
+  push-of d t r = ex_e 𝓤 _ (λ ws. snd∗ 𝓤 (sem 𝓛 (lasts push.ended tt (d, (t, tt)) ws)) (fact 𝓤 (r ≡ with_one_more d t)))
 
 module _ {M : Type 1} {𝓤 : Ura M} (𝓛 : Logic 𝓤) (mem : Memory → SProp 𝓤) (run : Routine → Fun 𝓤) where
   abbrev to_none : (None 𝓛 mem run).Ghost
@@ -143,7 +143,7 @@ module _ {M : Type 1} {𝓤 : Ura M} (𝓛 : Logic 𝓤) (mem : Memory → SProp
       frame ! $ frame ! $ owned ! Dir.row (Is Dir.row) (Dir.makes 𝓛) r _ is $ done !
 
   abbrev elem : ℕ → TableDescription
-  elem i = get_or ys i noTable
+  elem i = get_or ys i no_table_lem
 
   abbrev mach : ℕ → Val
   mach i = Tab.val (elem i)
@@ -164,7 +164,7 @@ module _ {M : Type 1} {𝓤 : Ura M} (𝓛 : Logic 𝓤) (mem : Memory → SProp
     abbrev En : Env 𝓤 H
     En = (D'.mir, l₀) ∷ (slice, l₁) ∷ (D'.mir, l₂) ∷ (word, l₃) ∷ (word, l₄) ∷ (ty_bool, l₅) ∷ (ty_ptr, l₆) ∷ (T'.mir, l₇) ∷ []
 
-    -- i descriptions are withOneMore, and v is the directory's machine value
+    -- i descriptions are with_one_more, and v is the directory's machine value
     abbrev At : ℕ → Val → List (Item 𝓤)
     At i v = ‵ (flft κ q) ∷ ‵ Own ∷ ‵ (fat full_share word l₃ 0 (vint w64 i)) ∷ ‵ (froom word l₄ 0) ∷ ‵ (froom ty_bool l₅ 0) ∷ ‵ (froom ty_ptr l₆ 0) ∷ ‵ (froom T'.mir l₇ 0)
         ∷ ‵ (fat full_share D'.mir l₂ 0 v) ∷ ‵ (fat full_share slice l₁ 0 (slice_val (b, o) n)) ∷ ‵ (froom D'.mir l₀ 0)
@@ -184,7 +184,7 @@ module _ {M : Type 1} {𝓤 : Ura M} (𝓛 : Logic 𝓤) (mem : Memory → SProp
 
     -- a turn that pushes one description
     more : (i : ℕ) (d : Directory) (v : Val) (X : SProp 𝓤) → i < n → Is Dir.row d (v ∷ [])
-        → ((r : Directory) (u : Val) → Is Dir.row r (u ∷ []) → r ≡ withOneMore d (elem i) → ent 𝓤 (⋆ 𝓛 (At (i + 1) u)) X)
+        → ((r : Directory) (u : Val) → Is Dir.row r (u ∷ []) → r ≡ with_one_more d (elem i) → ent 𝓤 (⋆ 𝓛 (At (i + 1) u)) X)
         → ent 𝓤 (⋆ 𝓛 (At i v)) (Wp 𝓤 H C Λ En mir'.turn-1 (after_turn 𝓤 H X Left))
     unfolding after_turn
     more i d v X small isd k =
@@ -198,16 +198,16 @@ module _ {M : Type 1} {𝓤 : Ura M} (𝓛 : Logic 𝓤) (mem : Memory → SProp
         rewrite ! 5 (λ (p : ℕ). ‵ (fat full_share ty_ptr l₆ 0 (vptr b p))) (sym (place_is width o i)) refl $
         -- the slice is looked into: [what it shares; the token; its ghost value; its fact; _3; …]
         move ! (1 ∷ []) $ fsplit ! $ move ! (1 ∷ []) $ fsplit ! $ move ! (1 ∷ 3 ∷ []) $
-        looks_slice ! tt Tab.row (Is Tab.row) (shows 𝓛 Tab.row) (λ t. Tab.val t ∷ []) Tab.tells (copy T.the_type T'.the_copy 𝓛) ys b o (λ q'. elem_out ! Tab.row (Is Tab.row) (shows 𝓛 Tab.row) (λ t. Tab.val t ∷ []) Tab.tells q' ys i noTable b o small (λ g.
+        looks_slice ! tt Tab.row (Is Tab.row) (shows 𝓛 Tab.row) (λ t. Tab.val t ∷ []) Tab.tells (copy T.the_type T'.the_copy 𝓛) ys b o (λ q'. elem_out ! Tab.row (Is Tab.row) (shows 𝓛 Tab.row) (λ t. Tab.val t ∷ []) Tab.tells q' ys i no_table_lem b o small (λ g.
         assigns ! (of_opd ! (load ! (from ! (hop ! (look ! 10 refl) (stop !))) (look_raw ! 0 refl))) (from ! (stop !)) (init ! 11 refl (wt i g)) $
-        elem_back ! Tab.row q' ys i noTable (mach i ∷ []) b o small $ shuts_slice ! tt Tab.row q' ys b o $
+        elem_back ! Tab.row q' ys i no_table_lem (mach i ∷ []) b o small $ shuts_slice ! tt Tab.row q' ys b o $
         move ! (2 ∷ 1 ∷ []) $ fjoin ! $ move ! (2 ∷ 0 ∷ []) $ fjoin ! $
         -- [Own; the token; _3; _4; _5; _6; _7; _2; _1; _0; …]: what the two arguments own is made of their relations
         owned ! Tab.row (Is Tab.row) (Tab.makes 𝓛) (elem i) (mach i ∷ []) g $ owned ! Dir.row (Is Dir.row) (Dir.makes 𝓛) d (v ∷ []) isd $
         use2 𝓛 (raw ((Push 𝓛 mem run).pre (to-push 𝓛 mem run d v (elem i) (mach i)))) (goes-to-push 𝓛 mem run d v (elem i) (mach i)) $
         calls_at ! (fm_of 𝓤 H 𝓛.laws 𝓣) (Push 𝓛 mem run) known-push (to-push 𝓛 mem run d v (elem i) (mach i)) (and_then ! (load ! (from ! (stop !)) (look ! 8 refl)) (and_then ! (load ! (from ! (stop !)) (look ! 7 refl)) (no_more !))) (λ u.
         use1 𝓛 (later (some (λ (r : Directory). (‵ ftrue ⊛ ‵ (Dir.row.own_val r (u ∷ []))) ⊛ raw (ensured 𝓛 push.ended (push.clauses 𝓛 mem run) tt (d, (elem i, tt)) tt r)))) (id⊢ 𝓤 _) $ await ! tt $ pick ! (λ r.
-        split ! $ move ! (1 ∷ []) $ use1 𝓛 (raw (fact 𝓤 (r ≡ withOneMore d (elem i)))) (push-of 𝓛 mem run d (elem i) r) $ heard ! (r ≡ withOneMore d (elem i)) (λ e. split ! $ drop ! $
+        split ! $ move ! (1 ∷ []) $ use1 𝓛 (raw (fact 𝓤 (r ≡ with_one_more d (elem i)))) (push-of 𝓛 mem run d (elem i) r) $ heard ! (r ≡ with_one_more d (elem i)) (λ e. split ! $ drop ! $
         peeks ! Dir.row (Is Dir.row) (shows 𝓛 Dir.row) r (u ∷ []) (λ is. drop ! $
         land ! (from ! (stop !)) (store ! 7 refl (wtD r u is)) $
         assigns_last ! (bin ! (load ! (from ! (stop !)) (look ! 2 refl)) (lit ! tt) (record { fits = next_fits i n small gn.0 })) (from ! (stop !)) (store ! 2 refl (tt, record { fits = next_fits i n small gn.0 })) $
@@ -243,7 +243,7 @@ module _ {M : Type 1} {𝓤 : Ura M} (𝓛 : Logic 𝓤) (mem : Memory → SProp
         at-end : i ≡ n
         at-end = sym (add-zero i) ∙ f.0
     turn_at (suc t) i d v f =
-        more i d v (Below (suc t)) small f.2 (λ r u is e. via 𝓤 (Inv t) (has t (i + 1) r u (one_on, e ∙ ap (λ (z : Directory). withOneMore z (elem i)) f.1 ∙ gathered_next ys i noTable small, is))
+        more i d v (Below (suc t)) small f.2 (λ r u is e. via 𝓤 (Inv t) (has t (i + 1) r u (one_on, e ∙ ap (λ (z : Directory). with_one_more z (elem i)) f.1 ∙ gathered_next ys i no_table_lem small, is))
         (via 𝓤 (guard 𝓤 (t < suc t) (Inv t)) (guard_i 𝓤 (t < suc t) (Inv t) (lt-suc_self t)) (ex_i 𝓤 (λ (u' : ℕ). guard 𝓤 (u' < suc t) (Inv u')) t)))
       where
         total : i + suc t ≡ n
@@ -260,7 +260,7 @@ module _ {M : Type 1} {𝓤 : Ura M} (𝓛 : Logic 𝓤) (mem : Memory → SProp
         ex_e 𝓤 (λ (d : Directory). ex 𝓤 (λ (v : Val). guard 𝓤 (Facts t i d v) (⋆ 𝓛 (At i v)))) (λ d.
         ex_e 𝓤 (λ (v : Val). guard 𝓤 (Facts t i d v) (⋆ 𝓛 (At i v))) (λ v. guard_e 𝓤 (Facts t i d v) (⋆ 𝓛 (At i v)) (λ f. turn_at t i d v f))))
 
-    loops : (d : Directory) (v : Val) → Is Dir.row d (v ∷ []) → d ≡ noTables → ent 𝓤 (⋆ 𝓛 (At 0 v)) (Wp 𝓤 H C Λ En (loop mir'.turn-1) Left)
+    loops : (d : Directory) (v : Val) → Is Dir.row d (v ∷ []) → d ≡ no_tables → ent 𝓤 (⋆ 𝓛 (At 0 v)) (Wp 𝓤 H C Λ En (loop mir'.turn-1) Left)
     loops d v is e =
         via 𝓤 (Inv n) (has n 0 d v (zero-add n, e ∙ gathered_none, is))
         (loop_rule 𝓤 H 𝓛.laws 𝓣 ◌<◌ lt-wf_rel.wf En mir'.turn-1 Left Inv turns n)
@@ -272,7 +272,7 @@ module _ {M : Type 1} {𝓤 : Ura M} (𝓛 : Logic 𝓤) (mem : Memory → SProp
         ∷ (‵ (flft κ q) ⊛ ‵ ftrue) ∷ ‵ (owns (ShrSlice (named 0) κ Tab.row ∷ []) x args) ∷ []
 
     -- i is set, and the loop is entered
-    begins : (r : Directory) (v : Val) → Is Dir.row r (v ∷ []) → r ≡ noTables → Sq 𝓛 (Begun (‵ (fat full_share D'.mir l₂ 0 v))) (runs C Λ En mir'.t-2 (at_ret En Post))
+    begins : (r : Directory) (v : Val) → Is Dir.row r (v ∷ []) → r ≡ no_tables → Sq 𝓛 (Begun (‵ (fat full_share D'.mir l₂ 0 v))) (runs C Λ En mir'.t-2 (at_ret En Post))
     begins r v is e =
         assigns ! (of_opd ! (lit ! tt)) (from ! (stop !)) (init ! 8 refl (tt, record { fits = lit< tt })) $
         move ! (17 ∷ []) $ fsplit ! $ move ! (18 ∷ []) $ split ! $
@@ -284,7 +284,7 @@ module _ {M : Type 1} {𝓤 : Ura M} (𝓛 : Logic 𝓤) (mem : Memory → SProp
         nothing ! $ use1 𝓛 (raw ((None 𝓛 mem run).pre (to_none 𝓛 mem run))) (goes-to-none 𝓛 mem run) $
         calls_at ! (fm_of 𝓤 H 𝓛.laws 𝓣) (None 𝓛 mem run) known-none (to_none 𝓛 mem run) (no_more !) (λ v.
         use1 𝓛 (later (some (λ (r : Directory). (‵ ftrue ⊛ ‵ (Dir.row.own_val r (v ∷ []))) ⊛ raw (ensured 𝓛 none.ended (none.clauses 𝓛 mem run) tt tt tt r)))) (id⊢ 𝓤 _) $ await ! tt $ pick ! (λ r.
-        split ! $ move ! (1 ∷ []) $ use1 𝓛 (raw (fact 𝓤 (r ≡ noTables))) (none_of 𝓛 mem run r) $ heard ! (r ≡ noTables) (λ e. split ! $ drop ! $
+        split ! $ move ! (1 ∷ []) $ use1 𝓛 (raw (fact 𝓤 (r ≡ no_tables))) (none_of 𝓛 mem run r) $ heard ! (r ≡ no_tables) (λ e. split ! $ drop ! $
         peeks ! Dir.row (Is Dir.row) (shows 𝓛 Dir.row) r (v ∷ []) (λ is. drop ! $
         land ! (from ! (stop !)) (init ! 10 refl (wtD r v is)) $ begins r v is e))))
 

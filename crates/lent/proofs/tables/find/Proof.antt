@@ -34,12 +34,12 @@ use denote.Exit.{yes}
 use Rattle.directory.specs.declared.table.TableDescription.{TableDescription}
 use Rattle.directory.specs.declared.directory.Directory.{Directory}
 use Rattle.lent.specs.Lent.{gathered}
-use Rattle.lent.proofs.Held.{Held, heldNumber, heldEnum, Tab, Dir, lentVal}
+use Rattle.lent.proofs.Held.{Held, held_number, held_enum, Tab, Dir, lent_val}
 use Rattle.lent.proofs.Entry.{Gather, gathers}
 use Rattle.lent.proofs.slice.gather.Symbol as gather-def
 use Rattle.lent.proofs.slice.gather.Symbol.{name as #gather}
 use Rattle.lent.proofs.slice.gather.Met as gather-thm
-use Rattle.directory.specs.Directory.{findTable}
+use Rattle.directory.specs.Directory.{find_table}
 use Rattle.directory.specs.contracts.directory.Found as Found
 use Rattle.directory.proofs.directory.Found.TheLaws as Found'
 use Rattle.directory.specs.contracts.table.TableKind as TableKind
@@ -54,27 +54,27 @@ use Rattle.lent.proofs.tables.find.Statement as stated
 use Rattle.lent.proofs.tables.find.Code as code
 
 abbrev Foundᴴ : Held
-Foundᴴ = heldEnum Found.the_type Found'.the_laws Found'.the_plain tt
+Foundᴴ = held_enum Found.the_type Found'.the_laws Found'.the_plain tt
 
 abbrev TableKindᴴ : Held
-TableKindᴴ = heldEnum TableKind.the_type TableKind'.the_laws TableKind'.the_plain tt
+TableKindᴴ = held_enum TableKind.the_type TableKind'.the_laws TableKind'.the_plain tt
 
 abbrev stayed : Stays (entry.ended).signature.params (entry.ended).kept
-stayed = (stay_dropped (shr_slice_of (0 ∷ []) tt (plain (λ _. Tab.row))) yes, (stay_dropped (plain (λ _. TableKindᴴ.row)) yes, (stay_dropped (plain (λ _. (heldNumber w16).row)) yes, tt)))
+stayed = (stay_dropped (shr_slice_of (0 ∷ []) tt (plain (λ _. Tab.row))) yes, (stay_dropped (plain (λ _. TableKindᴴ.row)) yes, (stay_dropped (plain (λ _. (held_number w16).row)) yes, tt)))
 
 module _ {M : Type 1} {𝓤 : Ura M} (𝓛 : Logic 𝓤) (mem : Memory → SProp 𝓤) (run : Routine → Fun 𝓤) where
   abbrev Callee : Contract 𝓤
   Callee = triple_of 𝓛 callee.signature (callee.spec 𝓛 mem run)
 
 module _ {M : Type 1} {𝓤 : Ura M} (𝓛 : Logic 𝓤) (mem : Memory → SProp 𝓤) (run : Routine → Fun 𝓤) (κ₀ : Lft) (q₀ : Share)
-    (tables : Bor (List TableDescription)) (kind : TableKindᴴ.row.Denot) (number : (heldNumber w16).row.Denot) (kind-is : Is TableKindᴴ.row kind (TableKindᴴ.val kind ∷ [])) (number_is : Is (heldNumber w16).row number ((heldNumber w16).val number ∷ [])) where
+    (tables : Bor (List TableDescription)) (kind : TableKindᴴ.row.Denot) (number : (held_number w16).row.Denot) (kind-is : Is TableKindᴴ.row kind (TableKindᴴ.val kind ∷ [])) (number_is : Is (held_number w16).row number ((held_number w16).val number ∷ [])) where
   open 𝓛 use {H}
 
   abbrev Says : Foundᴴ.row.Denot → Directory → Type 0
-  Says r d = r ≡ findTable d kind number
+  Says r d = r ≡ find_table d kind number
 
   abbrev here : (walk_of 𝓛 entry.ended stayed (entry.clauses 𝓛 mem run)).Ghost
-  here = (((κ₀, tt), (q₀, tt), tt, (tables, (kind, (number, tt))), (lentVal tables ∷ [], (TableKindᴴ.val kind ∷ [], ((heldNumber w16).val number ∷ [], tt)))), tt)
+  here = (((κ₀, tt), (q₀, tt), tt, (tables, (kind, (number, tt))), (lent_val tables ∷ [], (TableKindᴴ.val kind ∷ [], ((held_number w16).val number ∷ [], tt)))), tt)
 
   abbrev Post : Val → SProp 𝓤
   Post = (walk_of 𝓛 entry.ended stayed (entry.clauses 𝓛 mem run)).post here
@@ -90,21 +90,21 @@ module _ {M : Type 1} {𝓤 : Ura M} (𝓛 : Logic 𝓤) (mem : Memory → SProp
   callee-args d = (d, (kind, (number, tt)))
 
   abbrev to-callee : Directory → Val → (Callee 𝓛 mem run).Ghost
-  to-callee d v = ((tt, tt, tt, callee-args d, (v ∷ [], (TableKindᴴ.val kind ∷ [], ((heldNumber w16).val number ∷ [], tt)))), tt)
+  to-callee d v = ((tt, tt, tt, callee-args d, (v ∷ [], (TableKindᴴ.val kind ∷ [], ((held_number w16).val number ∷ [], tt)))), tt)
 
   module _ (C : Calls 𝓤 H) (Λ : Loops 𝓤 H) (fm : FmC 𝓤 H 𝓛.laws C) (known-gather : Triple 𝓤 (C #gather) (Gather 𝓛 mem run)) (known-callee : Triple 𝓤 (C #callee) (Callee 𝓛 mem run)) where
-    walk : Room Tab.row (length tables.now) → ent 𝓤 ((walk_of 𝓛 entry.ended stayed (entry.clauses 𝓛 mem run)).pre here) (WpFn 𝓤 H C Λ code.function (lentVal tables ∷ TableKindᴴ.val kind ∷ (heldNumber w16).val number ∷ []) Post)
+    walk : Room Tab.row (length tables.now) → ent 𝓤 ((walk_of 𝓛 entry.ended stayed (entry.clauses 𝓛 mem run)).pre here) (WpFn 𝓤 H C Λ code.function (lent_val tables ∷ TableKindᴴ.val kind ∷ (held_number w16).val number ∷ []) Post)
     walk tables-room =
-        via 𝓤 _ (fst∗ 𝓤 _ (emp 𝓤)) ∵ qed 𝓛 ((‵ (flft κ₀ q₀) ⊛ (‵ ftrue)) ∷ ‵ (owns (ShrSlice (named 0) κ₀ Tab.row ∷ TableKindᴴ.row ∷ (heldNumber w16).row ∷ []) (tables, (kind, (number, tt))) (lentVal tables ∷ [], (TableKindᴴ.val kind ∷ [], ((heldNumber w16).val number ∷ [], tt)))) ∷ []) ∵ enter ! C Λ code.function (lentVal tables ∷ TableKindᴴ.val kind ∷ (heldNumber w16).val number ∷ []) _ $
+        via 𝓤 _ (fst∗ 𝓤 _ (emp 𝓤)) ∵ qed 𝓛 ((‵ (flft κ₀ q₀) ⊛ (‵ ftrue)) ∷ ‵ (owns (ShrSlice (named 0) κ₀ Tab.row ∷ TableKindᴴ.row ∷ (held_number w16).row ∷ []) (tables, (kind, (number, tt))) (lent_val tables ∷ [], (TableKindᴴ.val kind ∷ [], ((held_number w16).val number ∷ [], tt)))) ∷ []) ∵ enter ! C Λ code.function (lent_val tables ∷ TableKindᴴ.val kind ∷ (held_number w16).val number ∷ []) _ $
         alloc1 ! (λ l₀. alloc1 ! (λ l₁. alloc1 ! (λ l₂. alloc1 ! (λ l₃. alloc1 ! (λ l₄. alloc0 ! $ params1 ! $ pass1 ! (init ! 6 refl (tt, (tt, (record { fits = tables-room.0 }, tt)))) $
-        pass1 ! (init ! 4 refl ((TableKindᴴ.lawful 𝓛).typed kind _ kind-is).0) $ pass1 ! (init ! 2 refl (((heldNumber w16).lawful 𝓛).typed number _ number_is).0) $ pass0 ! $
+        pass1 ! (init ! 4 refl ((TableKindᴴ.lawful 𝓛).typed kind _ kind-is).0) $ pass1 ! (init ! 2 refl (((held_number w16).lawful 𝓛).typed number _ number_is).0) $ pass0 ! $
         -- each token and what each reference owns by itself
         move ! (10 ∷ []) $ split ! $ move ! (1 ∷ []) $ drop ! $ move ! (11 ∷ []) $ fsplit ! $ move ! (1 ∷ []) $ fsplit ! $ drop ! $ fsplit ! $ drop ! $ drop ! $
         -- the directory
         move ! (1 ∷ 0 ∷ []) $ gathers 𝓛 mem run κ₀ q₀ tables ! fm known-gather (and_then ! (load ! (from ! (stop !)) (look ! 7 refl)) (no_more !)) (λ d v e₀ d-is.
         land ! (from ! (stop !)) (init ! 1 refl ((Dir.lawful 𝓛).typed d _ d-is).0) $
         -- the call, with what it asks put together
-        nothing ! $ nothing ! $ owned ! (heldNumber w16).row (Is (heldNumber w16).row) ((heldNumber w16).makes 𝓛) number ((heldNumber w16).val number ∷ []) number_is $ fjoin ! $
+        nothing ! $ nothing ! $ owned ! (held_number w16).row (Is (held_number w16).row) ((held_number w16).makes 𝓛) number ((held_number w16).val number ∷ []) number_is $ fjoin ! $
         owned ! TableKindᴴ.row (Is TableKindᴴ.row) (TableKindᴴ.makes 𝓛) kind (TableKindᴴ.val kind ∷ []) kind-is $ fjoin ! $
         owned ! Dir.row (Is Dir.row) (Dir.makes 𝓛) d (v ∷ []) d-is $ fjoin ! $ nothing ! $ join ! $ join ! $ use1 𝓛 (raw ((Callee 𝓛 mem run).pre (to-callee d v))) (id⊢ 𝓤 _) $
         calls_at ! fm (Callee 𝓛 mem run) known-callee (to-callee d v) (and_then ! (load ! (from ! (stop !)) (look ! 2 refl)) (and_then ! (load ! (from ! (stop !)) (look ! 6 refl)) (and_then ! (load ! (from ! (stop !)) (look ! 4 refl)) (no_more !)))) (λ w.
@@ -120,10 +120,10 @@ module _ {M : Type 1} {𝓤 : Ura M} (𝓛 : Logic 𝓤) (mem : Memory → SProp
 meets : {M : Type 1} {𝓤 : Ura M} (𝓛 : Logic 𝓤) → (mem : Memory → SProp 𝓤) (run : Routine → Fun 𝓤) (𝓣 : Tables 𝓤 𝓛.H) → Triple 𝓤 (𝓣.C #gather) (Gather 𝓛 mem run) → Triple 𝓤 (𝓣.C #callee) (Callee 𝓛 mem run)
     → Meets 𝓛 entry.signature (WpFn 𝓤 𝓛.H 𝓣.C 𝓣.Λ code.function) (entry.spec 𝓛 mem run)
 meets {𝓤 = 𝓤} 𝓛 mem run 𝓣 known-gather known-callee =
-    walk_Meets 𝓛 entry.ended stayed (Goes-dropped 𝓛 1 (shr_slice_of (0 ∷ []) tt (plain (λ _. Tab.row))) yes (λ κs x f. refl), (Goes-dropped 𝓛 1 (plain (λ _. TableKindᴴ.row)) yes (λ κs x f. refl), (Goes-dropped 𝓛 1 (plain (λ _. (heldNumber w16).row)) yes (λ κs x f. refl), tt)))
+    walk_Meets 𝓛 entry.ended stayed (Goes-dropped 𝓛 1 (shr_slice_of (0 ∷ []) tt (plain (λ _. Tab.row))) yes (λ κs x f. refl), (Goes-dropped 𝓛 1 (plain (λ _. TableKindᴴ.row)) yes (λ κs x f. refl), (Goes-dropped 𝓛 1 (plain (λ _. (held_number w16).row)) yes (λ κs x f. refl), tt)))
     (entry.clauses 𝓛 mem run) (WpFn 𝓤 𝓛.H 𝓣.C 𝓣.Λ code.function) (WpFn-mono 𝓤 𝓛.H 𝓛.laws 𝓣 code.function)
-    (walked 𝓛 entry.ended stayed (entry.clauses 𝓛 mem run) (WpFn 𝓤 𝓛.H 𝓣.C 𝓣.Λ code.function) (λ κs. (shr_slice_vals, ((λ x. TableKindᴴ.val x ∷ []), ((λ x. (heldNumber w16).val x ∷ []), tt))))
-    (λ κs. (shr_slice_Tells (named 0) κs.0 Tab.row, (TableKindᴴ.tells, ((heldNumber w16).tells, tt))))
+    (walked 𝓛 entry.ended stayed (entry.clauses 𝓛 mem run) (WpFn 𝓤 𝓛.H 𝓣.C 𝓣.Λ code.function) (λ κs. (shr_slice_vals, ((λ x. TableKindᴴ.val x ∷ []), ((λ x. (held_number w16).val x ∷ []), tt))))
+    (λ κs. (shr_slice_Tells (named 0) κs.0 Tab.row, (TableKindᴴ.tells, ((held_number w16).tells, tt))))
     (λ κs qs bounds a g are. walk 𝓛 mem run κs.0 qs.0 a.0 a.1.0 a.1.1.0 are.1.0 are.1.1.0
     𝓣.C 𝓣.Λ (fm_of 𝓤 𝓛.H 𝓛.laws 𝓣) known-gather known-callee are.0.0.1))
 

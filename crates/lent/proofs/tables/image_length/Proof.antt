@@ -34,12 +34,12 @@ use denote.Exit.{yes}
 use Rattle.directory.specs.declared.table.TableDescription.{TableDescription}
 use Rattle.directory.specs.declared.directory.Directory.{Directory}
 use Rattle.lent.specs.Lent.{gathered}
-use Rattle.lent.proofs.Held.{heldNumber, Tab, Dir, lentVal}
+use Rattle.lent.proofs.Held.{held_number, Tab, Dir, lent_val}
 use Rattle.lent.proofs.Entry.{Gather, gathers}
 use Rattle.lent.proofs.slice.gather.Symbol as gather-def
 use Rattle.lent.proofs.slice.gather.Symbol.{name as #gather}
 use Rattle.lent.proofs.slice.gather.Met as gather-thm
-use Rattle.directory.specs.Directory.{imageLength}
+use Rattle.directory.specs.Directory.{image_length}
 use Rattle.directory.specs.contracts.directory.Directory.image_length as callee
 use Rattle.directory.proofs.directory.Directory.image_length.Symbol as callee-def
 use Rattle.directory.proofs.directory.Directory.image_length.Symbol.{name as #callee}
@@ -60,19 +60,19 @@ module _ {M : Type 1} {𝓤 : Ura M} (𝓛 : Logic 𝓤) (mem : Memory → SProp
     (tables : Bor (List TableDescription)) where
   open 𝓛 use {H}
 
-  abbrev Says : (heldNumber w64).row.Denot → Directory → Type 0
-  Says r d = r ≡ imageLength d
+  abbrev Says : (held_number w64).row.Denot → Directory → Type 0
+  Says r d = r ≡ image_length d
 
   abbrev here : (walk_of 𝓛 entry.ended stayed (entry.clauses 𝓛 mem run)).Ghost
-  here = (((κ₀, tt), (q₀, tt), tt, (tables, tt), (lentVal tables ∷ [], tt)), tt)
+  here = (((κ₀, tt), (q₀, tt), tt, (tables, tt), (lent_val tables ∷ [], tt)), tt)
 
   abbrev Post : Val → SProp 𝓤
   Post = (walk_of 𝓛 entry.ended stayed (entry.clauses 𝓛 mem run)).post here
 
-  exits : (r : (heldNumber w64).row.Denot) (w : Val) → Says r (gathered tables.now)
-      → ent 𝓤 (⋆ 𝓛 (‵ (flft κ₀ q₀) ∷ (‵ ftrue) ∷ ‵ ((heldNumber w64).row.own_val r (w ∷ [])) ∷ [])) (Post w)
+  exits : (r : (held_number w64).row.Denot) (w : Val) → Says r (gathered tables.now)
+      → ent 𝓤 (⋆ 𝓛 (‵ (flft κ₀ q₀) ∷ (‵ ftrue) ∷ ‵ ((held_number w64).row.own_val r (w ∷ [])) ∷ [])) (Post w)
   exits r w e =
-      qed 𝓛 (‵ (flft κ₀ q₀) ∷ (‵ ftrue) ∷ ‵ ((heldNumber w64).row.own_val r (w ∷ [])) ∷ []) ∵
+      qed 𝓛 (‵ (flft κ₀ q₀) ∷ (‵ ftrue) ∷ ‵ ((held_number w64).row.own_val r (w ∷ [])) ∷ []) ∵
       suffices ! _ (ends_at 𝓛 entry.ended stayed (entry.clauses 𝓛 mem run) here w r (tt, tt) (tt, tt)) $ says ! e $ move ! (1 ∷ []) $ drop ! $ nothing ! $ move ! (1 ∷ 0 ∷ []) $ join ! $
       frame ! $ nothing ! $ nothing ! $ fjoin ! $ frame ! $ done !
 
@@ -83,9 +83,9 @@ module _ {M : Type 1} {𝓤 : Ura M} (𝓛 : Logic 𝓤) (mem : Memory → SProp
   to-callee d v = ((tt, tt, tt, callee-args d, (v ∷ [], tt)), tt)
 
   module _ (C : Calls 𝓤 H) (Λ : Loops 𝓤 H) (fm : FmC 𝓤 H 𝓛.laws C) (known-gather : Triple 𝓤 (C #gather) (Gather 𝓛 mem run)) (known-callee : Triple 𝓤 (C #callee) (Callee 𝓛 mem run)) where
-    walk : Room Tab.row (length tables.now) → ent 𝓤 ((walk_of 𝓛 entry.ended stayed (entry.clauses 𝓛 mem run)).pre here) (WpFn 𝓤 H C Λ code.function (lentVal tables ∷ []) Post)
+    walk : Room Tab.row (length tables.now) → ent 𝓤 ((walk_of 𝓛 entry.ended stayed (entry.clauses 𝓛 mem run)).pre here) (WpFn 𝓤 H C Λ code.function (lent_val tables ∷ []) Post)
     walk tables-room =
-        via 𝓤 _ (fst∗ 𝓤 _ (emp 𝓤)) ∵ qed 𝓛 ((‵ (flft κ₀ q₀) ⊛ (‵ ftrue)) ∷ ‵ (owns (ShrSlice (named 0) κ₀ Tab.row ∷ []) (tables, tt) (lentVal tables ∷ [], tt)) ∷ []) ∵ enter ! C Λ code.function (lentVal tables ∷ []) _ $
+        via 𝓤 _ (fst∗ 𝓤 _ (emp 𝓤)) ∵ qed 𝓛 ((‵ (flft κ₀ q₀) ⊛ (‵ ftrue)) ∷ ‵ (owns (ShrSlice (named 0) κ₀ Tab.row ∷ []) (tables, tt) (lent_val tables ∷ [], tt)) ∷ []) ∵ enter ! C Λ code.function (lent_val tables ∷ []) _ $
         alloc1 ! (λ l₀. alloc1 ! (λ l₁. alloc1 ! (λ l₂. alloc0 ! $ params1 ! $ pass1 ! (init ! 2 refl (tt, (tt, (record { fits = tables-room.0 }, tt)))) $ pass0 ! $
         -- each token and what each reference owns by itself
         move ! (6 ∷ []) $ split ! $ move ! (1 ∷ []) $ drop ! $ move ! (7 ∷ []) $ fsplit ! $ move ! (1 ∷ []) $ drop ! $
@@ -96,11 +96,11 @@ module _ {M : Type 1} {𝓤 : Ura M} (𝓛 : Logic 𝓤) (mem : Memory → SProp
         nothing ! $ nothing ! $ owned ! Dir.row (Is Dir.row) (Dir.makes 𝓛) d (v ∷ []) d-is $ fjoin ! $ nothing ! $ join ! $ join ! $
         use1 𝓛 (raw ((Callee 𝓛 mem run).pre (to-callee d v))) (id⊢ 𝓤 _) $
         calls_at ! fm (Callee 𝓛 mem run) known-callee (to-callee d v) (and_then ! (load ! (from ! (stop !)) (look ! 2 refl)) (no_more !)) (λ w.
-        use1 𝓛 (later (some (λ (r : (heldNumber w64).row.Denot). ((‵ ftrue) ⊛ ‵ ((heldNumber w64).row.own_val r (w ∷ []))) ⊛ some (λ (zs : Unit {0} × (Unit {0})). ‵ (lasts callee.ended tt (callee-args d) zs) ⊛ raw (fact 𝓤 (Says r d)))))) (id⊢ 𝓤 _) $
+        use1 𝓛 (later (some (λ (r : (held_number w64).row.Denot). ((‵ ftrue) ⊛ ‵ ((held_number w64).row.own_val r (w ∷ []))) ⊛ some (λ (zs : Unit {0} × (Unit {0})). ‵ (lasts callee.ended tt (callee-args d) zs) ⊛ raw (fact 𝓤 (Says r d)))))) (id⊢ 𝓤 _) $
         await ! tt $ pick ! (λ r. split ! $ move ! (1 ∷ []) $ pick ! (λ zs. split ! $ move ! (1 ∷ []) $ heard ! (Says r d) (λ e. fsplit ! $ drop ! $ drop ! $ split ! $ move ! (1 ∷ []) $
         -- the result lands, and the locals are freed
-        peeks ! (heldNumber w64).row (Is (heldNumber w64).row) (shows 𝓛 (heldNumber w64).row) r (w ∷ []) (λ r-is.
-        land ! (from ! (stop !)) (init ! 7 refl (((heldNumber w64).lawful 𝓛).typed r _ r-is).0) $ returns ! (look ! 7 refl) $ forget ! 7 refl $ forget ! 5 refl $ forget ! 3 refl $
+        peeks ! (held_number w64).row (Is (held_number w64).row) (shows 𝓛 (held_number w64).row) r (w ∷ []) (λ r-is.
+        land ! (from ! (stop !)) (init ! 7 refl (((held_number w64).lawful 𝓛).typed r _ r-is).0) $ returns ! (look ! 7 refl) $ forget ! 7 refl $ forget ! 5 refl $ forget ! 3 refl $
         move ! (7 ∷ 8 ∷ []) $ free1 ! $ move ! (5 ∷ 6 ∷ []) $ free1 ! $ move ! (3 ∷ 4 ∷ []) $ free1 ! $ free0 ! $ keep ! (2 ∷ 1 ∷ 0 ∷ []) $
         by ! (exits r w (subst (λ (z : Directory). Says r z) e₀ e)))))))))))
 

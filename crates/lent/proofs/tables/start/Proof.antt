@@ -34,7 +34,7 @@ use denote.Exit.{yes}
 use Rattle.directory.specs.declared.table.TableDescription.{TableDescription}
 use Rattle.directory.specs.declared.directory.Directory.{Directory}
 use Rattle.lent.specs.Lent.{gathered}
-use Rattle.lent.proofs.Held.{heldNumber, Tab, Dir, lentVal}
+use Rattle.lent.proofs.Held.{held_number, Tab, Dir, lent_val}
 use Rattle.lent.proofs.Entry.{Gather, gathers}
 use Rattle.lent.proofs.slice.gather.Symbol as gather-def
 use Rattle.lent.proofs.slice.gather.Symbol.{name as #gather}
@@ -50,29 +50,29 @@ use Rattle.lent.proofs.tables.start.Statement as stated
 use Rattle.lent.proofs.tables.start.Code as code
 
 abbrev stayed : Stays (entry.ended).signature.params (entry.ended).kept
-stayed = (stay_dropped (shr_slice_of (0 ∷ []) tt (plain (λ _. Tab.row))) yes, (stay_dropped (plain (λ _. (heldNumber w64).row)) yes, tt))
+stayed = (stay_dropped (shr_slice_of (0 ∷ []) tt (plain (λ _. Tab.row))) yes, (stay_dropped (plain (λ _. (held_number w64).row)) yes, tt))
 
 module _ {M : Type 1} {𝓤 : Ura M} (𝓛 : Logic 𝓤) (mem : Memory → SProp 𝓤) (run : Routine → Fun 𝓤) where
   abbrev Callee : Contract 𝓤
   Callee = triple_of 𝓛 callee.signature (callee.spec 𝓛 mem run)
 
 module _ {M : Type 1} {𝓤 : Ura M} (𝓛 : Logic 𝓤) (mem : Memory → SProp 𝓤) (run : Routine → Fun 𝓤) (κ₀ : Lft) (q₀ : Share)
-    (tables : Bor (List TableDescription)) (row : (heldNumber w64).row.Denot) (row_is : Is (heldNumber w64).row row ((heldNumber w64).val row ∷ [])) where
+    (tables : Bor (List TableDescription)) (row : (held_number w64).row.Denot) (row_is : Is (held_number w64).row row ((held_number w64).val row ∷ [])) where
   open 𝓛 use {H}
 
-  abbrev Says : (heldNumber w64).row.Denot → Directory → Type 0
+  abbrev Says : (held_number w64).row.Denot → Directory → Type 0
   Says r d = r ≡ start_of d row
 
   abbrev here : (walk_of 𝓛 entry.ended stayed (entry.clauses 𝓛 mem run)).Ghost
-  here = (((κ₀, tt), (q₀, tt), tt, (tables, (row, tt)), (lentVal tables ∷ [], ((heldNumber w64).val row ∷ [], tt))), tt)
+  here = (((κ₀, tt), (q₀, tt), tt, (tables, (row, tt)), (lent_val tables ∷ [], ((held_number w64).val row ∷ [], tt))), tt)
 
   abbrev Post : Val → SProp 𝓤
   Post = (walk_of 𝓛 entry.ended stayed (entry.clauses 𝓛 mem run)).post here
 
-  exits : (r : (heldNumber w64).row.Denot) (w : Val) → Says r (gathered tables.now)
-      → ent 𝓤 (⋆ 𝓛 (‵ (flft κ₀ q₀) ∷ (‵ ftrue) ∷ ‵ ((heldNumber w64).row.own_val r (w ∷ [])) ∷ [])) (Post w)
+  exits : (r : (held_number w64).row.Denot) (w : Val) → Says r (gathered tables.now)
+      → ent 𝓤 (⋆ 𝓛 (‵ (flft κ₀ q₀) ∷ (‵ ftrue) ∷ ‵ ((held_number w64).row.own_val r (w ∷ [])) ∷ [])) (Post w)
   exits r w e =
-      qed 𝓛 (‵ (flft κ₀ q₀) ∷ (‵ ftrue) ∷ ‵ ((heldNumber w64).row.own_val r (w ∷ [])) ∷ []) ∵
+      qed 𝓛 (‵ (flft κ₀ q₀) ∷ (‵ ftrue) ∷ ‵ ((held_number w64).row.own_val r (w ∷ [])) ∷ []) ∵
       suffices ! _ (ends_at 𝓛 entry.ended stayed (entry.clauses 𝓛 mem run) here w r (tt, (tt, tt)) (tt, (tt, tt))) $ says ! e $ move ! (1 ∷ []) $ drop ! $ nothing ! $
       move ! (1 ∷ 0 ∷ []) $ join ! $ frame ! $ nothing ! $ nothing ! $ fjoin ! $ nothing ! $ fjoin ! $ frame ! $ done !
 
@@ -80,39 +80,39 @@ module _ {M : Type 1} {𝓤 : Ura M} (𝓛 : Logic 𝓤) (mem : Memory → SProp
   callee-args d = (d, (row, tt))
 
   abbrev to-callee : Directory → Val → (Callee 𝓛 mem run).Ghost
-  to-callee d v = ((tt, tt, tt, callee-args d, (v ∷ [], ((heldNumber w64).val row ∷ [], tt))), tt)
+  to-callee d v = ((tt, tt, tt, callee-args d, (v ∷ [], ((held_number w64).val row ∷ [], tt))), tt)
 
   module _ (C : Calls 𝓤 H) (Λ : Loops 𝓤 H) (fm : FmC 𝓤 H 𝓛.laws C) (known-gather : Triple 𝓤 (C #gather) (Gather 𝓛 mem run)) (known-callee : Triple 𝓤 (C #callee) (Callee 𝓛 mem run)) where
-    walk : Room Tab.row (length tables.now) → ent 𝓤 ((walk_of 𝓛 entry.ended stayed (entry.clauses 𝓛 mem run)).pre here) (WpFn 𝓤 H C Λ code.function (lentVal tables ∷ (heldNumber w64).val row ∷ []) Post)
+    walk : Room Tab.row (length tables.now) → ent 𝓤 ((walk_of 𝓛 entry.ended stayed (entry.clauses 𝓛 mem run)).pre here) (WpFn 𝓤 H C Λ code.function (lent_val tables ∷ (held_number w64).val row ∷ []) Post)
     walk tables-room =
-        via 𝓤 _ (fst∗ 𝓤 _ (emp 𝓤)) ∵ qed 𝓛 ((‵ (flft κ₀ q₀) ⊛ (‵ ftrue)) ∷ ‵ (owns (ShrSlice (named 0) κ₀ Tab.row ∷ (heldNumber w64).row ∷ []) (tables, (row, tt)) (lentVal tables ∷ [], ((heldNumber w64).val row ∷ [], tt))) ∷ []) ∵ enter ! C Λ code.function (lentVal tables ∷ (heldNumber w64).val row ∷ []) _ $
+        via 𝓤 _ (fst∗ 𝓤 _ (emp 𝓤)) ∵ qed 𝓛 ((‵ (flft κ₀ q₀) ⊛ (‵ ftrue)) ∷ ‵ (owns (ShrSlice (named 0) κ₀ Tab.row ∷ (held_number w64).row ∷ []) (tables, (row, tt)) (lent_val tables ∷ [], ((held_number w64).val row ∷ [], tt))) ∷ []) ∵ enter ! C Λ code.function (lent_val tables ∷ (held_number w64).val row ∷ []) _ $
         alloc1 ! (λ l₀. alloc1 ! (λ l₁. alloc1 ! (λ l₂. alloc1 ! (λ l₃. alloc0 ! $ params1 ! $ pass1 ! (init ! 4 refl (tt, (tt, (record { fits = tables-room.0 }, tt)))) $
-        pass1 ! (init ! 2 refl (((heldNumber w64).lawful 𝓛).typed row _ row_is).0) $ pass0 ! $
+        pass1 ! (init ! 2 refl (((held_number w64).lawful 𝓛).typed row _ row_is).0) $ pass0 ! $
         -- each token and what each reference owns by itself
         move ! (8 ∷ []) $ split ! $ move ! (1 ∷ []) $ drop ! $ move ! (9 ∷ []) $ fsplit ! $ move ! (1 ∷ []) $ fsplit ! $ drop ! $ drop ! $
         -- the directory
         move ! (1 ∷ 0 ∷ []) $ gathers 𝓛 mem run κ₀ q₀ tables ! fm known-gather (and_then ! (load ! (from ! (stop !)) (look ! 5 refl)) (no_more !)) (λ d v e₀ d-is.
         land ! (from ! (stop !)) (init ! 1 refl ((Dir.lawful 𝓛).typed d _ d-is).0) $
         -- the call, with what it asks put together
-        nothing ! $ nothing ! $ owned ! (heldNumber w64).row (Is (heldNumber w64).row) ((heldNumber w64).makes 𝓛) row ((heldNumber w64).val row ∷ []) row_is $ fjoin ! $
+        nothing ! $ nothing ! $ owned ! (held_number w64).row (Is (held_number w64).row) ((held_number w64).makes 𝓛) row ((held_number w64).val row ∷ []) row_is $ fjoin ! $
         owned ! Dir.row (Is Dir.row) (Dir.makes 𝓛) d (v ∷ []) d-is $ fjoin ! $ nothing ! $ join ! $ join ! $ use1 𝓛 (raw ((Callee 𝓛 mem run).pre (to-callee d v))) (id⊢ 𝓤 _) $
         calls_at ! fm (Callee 𝓛 mem run) known-callee (to-callee d v) (and_then ! (load ! (from ! (stop !)) (look ! 2 refl)) (and_then ! (load ! (from ! (stop !)) (look ! 4 refl)) (no_more !))) (λ w.
-        use1 𝓛 (later (some (λ (r : (heldNumber w64).row.Denot). ((‵ ftrue) ⊛ ‵ ((heldNumber w64).row.own_val r (w ∷ []))) ⊛ some (λ (zs : Unit {0} × (Unit {0} × (Unit {0}))). ‵ (lasts callee.ended tt (callee-args d) zs) ⊛ raw (fact 𝓤 (Says r d)))))) (id⊢ 𝓤 _) $
+        use1 𝓛 (later (some (λ (r : (held_number w64).row.Denot). ((‵ ftrue) ⊛ ‵ ((held_number w64).row.own_val r (w ∷ []))) ⊛ some (λ (zs : Unit {0} × (Unit {0} × (Unit {0}))). ‵ (lasts callee.ended tt (callee-args d) zs) ⊛ raw (fact 𝓤 (Says r d)))))) (id⊢ 𝓤 _) $
         await ! tt $ pick ! (λ r. split ! $ move ! (1 ∷ []) $ pick ! (λ zs. split ! $ move ! (1 ∷ []) $ heard ! (Says r d) (λ e. fsplit ! $ drop ! $ fsplit ! $ drop ! $ drop ! $ split ! $
         move ! (1 ∷ []) $
         -- the result lands, and the locals are freed
-        peeks ! (heldNumber w64).row (Is (heldNumber w64).row) (shows 𝓛 (heldNumber w64).row) r (w ∷ []) (λ r-is.
-        land ! (from ! (stop !)) (init ! 9 refl (((heldNumber w64).lawful 𝓛).typed r _ r-is).0) $ returns ! (look ! 9 refl) $ forget ! 9 refl $ forget ! 7 refl $ forget ! 5 refl $
+        peeks ! (held_number w64).row (Is (held_number w64).row) (shows 𝓛 (held_number w64).row) r (w ∷ []) (λ r-is.
+        land ! (from ! (stop !)) (init ! 9 refl (((held_number w64).lawful 𝓛).typed r _ r-is).0) $ returns ! (look ! 9 refl) $ forget ! 9 refl $ forget ! 7 refl $ forget ! 5 refl $
         forget ! 3 refl $ move ! (9 ∷ 10 ∷ []) $ free1 ! $ move ! (7 ∷ 8 ∷ []) $ free1 ! $ move ! (5 ∷ 6 ∷ []) $ free1 ! $ move ! (3 ∷ 4 ∷ []) $ free1 ! $ free0 ! $ keep ! (2 ∷ 1 ∷ 0 ∷ []) $
         by ! (exits r w (subst (λ (z : Directory). Says r z) e₀ e))))))))))))
 
 meets : {M : Type 1} {𝓤 : Ura M} (𝓛 : Logic 𝓤) → (mem : Memory → SProp 𝓤) (run : Routine → Fun 𝓤) (𝓣 : Tables 𝓤 𝓛.H) → Triple 𝓤 (𝓣.C #gather) (Gather 𝓛 mem run) → Triple 𝓤 (𝓣.C #callee) (Callee 𝓛 mem run)
     → Meets 𝓛 entry.signature (WpFn 𝓤 𝓛.H 𝓣.C 𝓣.Λ code.function) (entry.spec 𝓛 mem run)
 meets {𝓤 = 𝓤} 𝓛 mem run 𝓣 known-gather known-callee =
-    walk_Meets 𝓛 entry.ended stayed (Goes-dropped 𝓛 1 (shr_slice_of (0 ∷ []) tt (plain (λ _. Tab.row))) yes (λ κs x f. refl), (Goes-dropped 𝓛 1 (plain (λ _. (heldNumber w64).row)) yes (λ κs x f. refl), tt))
+    walk_Meets 𝓛 entry.ended stayed (Goes-dropped 𝓛 1 (shr_slice_of (0 ∷ []) tt (plain (λ _. Tab.row))) yes (λ κs x f. refl), (Goes-dropped 𝓛 1 (plain (λ _. (held_number w64).row)) yes (λ κs x f. refl), tt))
     (entry.clauses 𝓛 mem run) (WpFn 𝓤 𝓛.H 𝓣.C 𝓣.Λ code.function) (WpFn-mono 𝓤 𝓛.H 𝓛.laws 𝓣 code.function)
-    (walked 𝓛 entry.ended stayed (entry.clauses 𝓛 mem run) (WpFn 𝓤 𝓛.H 𝓣.C 𝓣.Λ code.function) (λ κs. (shr_slice_vals, ((λ x. (heldNumber w64).val x ∷ []), tt)))
-    (λ κs. (shr_slice_Tells (named 0) κs.0 Tab.row, ((heldNumber w64).tells, tt)))
+    (walked 𝓛 entry.ended stayed (entry.clauses 𝓛 mem run) (WpFn 𝓤 𝓛.H 𝓣.C 𝓣.Λ code.function) (λ κs. (shr_slice_vals, ((λ x. (held_number w64).val x ∷ []), tt)))
+    (λ κs. (shr_slice_Tells (named 0) κs.0 Tab.row, ((held_number w64).tells, tt)))
     (λ κs qs bounds a g are. walk 𝓛 mem run κs.0 qs.0 a.0 a.1.0 are.1.0
     𝓣.C 𝓣.Λ (fm_of 𝓤 𝓛.H 𝓛.laws 𝓣) known-gather known-callee are.0.0.1))
 

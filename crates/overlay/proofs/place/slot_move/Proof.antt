@@ -4,7 +4,7 @@ use mathlib.Core.Path.{◌≡◌, refl, ◌∙◌}
 use native.Mathlib.Omega.{arith}
 use lib.ListN.{length, length-set, take, drop}
 use lib.Seq.{paste, paste-zero}
-use Rattle.overlay.proofs.Slots.{slot-le, slot_turn, paste-self}
+use Rattle.overlay.proofs.Slots.{slot-le, slot_turn, paste_self}
 use Rattle.overlay.proofs.place.slot_move.Statement.{statement}
 use Rattle.overlay.proofs.place.slot_move.Tie as tie
 
@@ -15,7 +15,7 @@ abbrev decreases-loop : tie.decreases-loop
 decreases-loop bytes₀ s q p from to i₀ bytes i = s - i
 
 returns : tie.Need-returns invariant-loop decreases-loop
-returns c = let a = c.before.args in rw c.if1.true (paste-self a.bytes.now (a.s * a.q) a.s)
+returns c = let a = c.before.args in rw c.if1.true (paste_self a.bytes.now (a.s * a.q) a.s)
 
 mul-from : tie.Need-overflow-mul-from invariant-loop decreases-loop
 mul-from c = omega arith

@@ -1,7 +1,7 @@
 -- `order_leave` meets its contract: the second part of the words comes back with the place taken out. Assumes nothing.
 use Prim.Native.Nat.{ℕ}
 use mathlib.Core.List.{List}
-use Rattle.keys.specs.Keys.{cutOut, renameAll}
+use Rattle.keys.specs.Keys.{cut_out, rename_all}
 use Rattle.overlay.proofs.Parts.{order-back}
 use borrow.Author.Rules.{rules}
 use Rattle.overlay.proofs.removal.order_leave.Statement.{statement}
@@ -29,7 +29,7 @@ same_length : tie.Need-same-length
 same_length c = search rules
 
 returns : tie.Need-returns
-returns c = let a = c.before.before.before.before.before.args in order-back a.room a.words.now c.before.before.before.before.before.requires.0 (λ (l : List ℕ). renameAll a.last a.last a.p (cutOut a.j a.last l)) c.before.before.order-move.new.0 c.before.before.order-move.ensures
+returns c = let a = c.before.before.before.before.before.args in order-back a.room a.words.now c.before.before.before.before.before.requires.0 (λ (l : List ℕ). rename_all a.last a.last a.p (cut_out a.j a.last l)) c.before.before.order-move.new.0 c.before.before.order-move.ensures
 
 pub order-leave-spec : {M : Type 1} → statement M
 order-leave-spec =

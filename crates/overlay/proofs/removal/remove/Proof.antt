@@ -6,13 +6,13 @@ use Prim.Native.Nat.{ℕ, ◌-◌, ◌*◌}
 use native.Mathlib.Omega.{arith}
 use lib.ListN.{length}
 use Rattle.keys.specs.Keys.{rank}
-use Rattle.overlay.specs.Rules.{Overlay, rows_of, order_of, overlayOf}
-use Rattle.overlay.specs.Overlay.{rowMoved}
-use Rattle.overlay.specs.Inner.{leavingIn}
+use Rattle.overlay.specs.Rules.{Overlay, rows_of, order_of, overlay_of}
+use Rattle.overlay.specs.Overlay.{row_moved}
+use Rattle.overlay.specs.Inner.{leaving_in}
 use Rattle.overlay.specs.declared.seat.Leaving.TheVariants.{At}
 use Rattle.overlay.proofs.Ruled.{Kept, shows}
 use Rattle.overlay.proofs.Parts.{words_long}
-use Rattle.overlay.proofs.Leaves.{Leaves, leaves, leaving-keys, left_is, removal-is}
+use Rattle.overlay.proofs.Leaves.{Leaves, leaves, leaving_keys, left_is, removal_is}
 use borrow.Author.Rules.{rules}
 use Rattle.overlay.proofs.removal.remove.Statement.{statement}
 use Rattle.overlay.proofs.removal.remove.Tie as tie
@@ -20,7 +20,7 @@ use Rattle.overlay.proofs.removal.remove.Tie as tie
 -- the overlay handed in, and its rules
 module _ (s : tie.Start) where
   abbrev over : Overlay
-  over = overlayOf s.args.room s.args.words.now s.args.bytes.now s.args.n
+  over = overlay_of s.args.room s.args.words.now s.args.bytes.now s.args.n
 
   abbrev key : ℕ
   key = rank s.args.table s.args.index
@@ -31,8 +31,8 @@ module _ (s : tie.Start) where
   long : length s.args.words.now ≡ 5 * s.args.room
   long = words_long s.args.room s.args.words.now known.rows_long known.order-long
 
-  plan-is : leavingIn (overlayOf s.args.room s.args.words.now [] s.args.n) key s.args.id ≡ leavingIn over key s.args.id
-  plan-is = leaving-keys (rows_of s.args.room s.args.words.now) (order_of s.args.room s.args.words.now) s.args.bytes.now s.args.n key s.args.id
+  plan-is : leaving_in (overlay_of s.args.room s.args.words.now [] s.args.n) key s.args.id ≡ leaving_in over key s.args.id
+  plan-is = leaving_keys (rows_of s.args.room s.args.words.now) (order_of s.args.room s.args.words.now) s.args.bytes.now s.args.n key s.args.id
 
 -- what leaves
 module _ (c : tie.After-known-told) where
@@ -45,7 +45,7 @@ module _ (c : tie.After-known-told) where
   abbrev p : ℕ
   p = c.before.j.given.0.1.0
 
-  plan : leavingIn (over s) (key s) s.args.id ≡ At j p
+  plan : leaving_in (over s) (key s) s.args.id ≡ At j p
   plan = sym (c.before.before.before.leaving-of.ensures ∙ plan-is s) ∙ c.before.j.given.1
 
   there : Leaves s.args.kind s.args.room (over s) s.pre (key s) s.args.id j p
@@ -92,8 +92,8 @@ returns-2 c =
     let s = c.before.before.before.before.before.before.before.before.before.before.before.before.before.before.before.before.before.before.before.before in
     let a = s.args in
     let t = c.before.before.before.before.before.before.before.before.before.before.before.before.before in
-    removal-is a.kind (over s) (key s) a.id _ _ _ c.before.before.before.slot-size.result c.before.before.before.slot-size.ensures.0 (j t) (p t) (plan t)
-    (c.before.before.before.before.before.before.before.row-leave.ensures.0 ∙ ap (λ (r : List ℕ). rowMoved r (a.n - 1) (p t)) c.before.before.before.before.before.before.before.before.before.before.before.order-leave.ensures.0) (c.before.before.before.before.before.before.before.row-leave.ensures.1 ∙ c.before.before.before.before.before.before.before.before.before.before.before.order-leave.ensures.1) c.before.before.slot-move.ensures
+    removal_is a.kind (over s) (key s) a.id _ _ _ c.before.before.before.slot-size.result c.before.before.before.slot-size.ensures.0 (j t) (p t) (plan t)
+    (c.before.before.before.before.before.before.before.row-leave.ensures.0 ∙ ap (λ (r : List ℕ). row_moved r (a.n - 1) (p t)) c.before.before.before.before.before.before.before.before.before.before.before.order-leave.ensures.0) (c.before.before.before.before.before.before.before.row-leave.ensures.1 ∙ c.before.before.before.before.before.before.before.before.before.before.before.order-leave.ensures.1) c.before.before.slot-move.ensures
 
 pub remove-spec : {M : Type 1} → statement M
 remove-spec =

@@ -3,7 +3,7 @@ use mathlib.Core.Path.{sym}
 use native.Mathlib.Omega.{arith}
 use Prim.Native.Nat.{◌+◌, ◌*◌}
 use lib.ListN.{get_or}
-use Rattle.keys.specs.Keys.{id_at, markAt}
+use Rattle.keys.specs.Keys.{id_at, mark_at}
 use Rattle.overlay.specs.Rules.{rows_of}
 use Rattle.overlay.proofs.Parts.{row_back, rows_long}
 use borrow.Author.Rules.{rules}
@@ -29,7 +29,7 @@ returns : tie.Need-returns
 returns c =
     let a = c.before.before.before.before.before.args in
     let rows = rows_of a.room a.words.now in
-    row_back a.room a.words.now c.before.before.before.before.before.requires.0 a.p (get_or rows (4 * a.last) 0) (get_or rows (4 * a.last + 1) 0) (id_at rows a.last) (markAt rows a.last) c.before.before.row_move.new.0 c.before.before.row_move.ensures
+    row_back a.room a.words.now c.before.before.before.before.before.requires.0 a.p (get_or rows (4 * a.last) 0) (get_or rows (4 * a.last + 1) 0) (id_at rows a.last) (mark_at rows a.last) c.before.before.row_move.new.0 c.before.before.row_move.ensures
 
 pub row-leave-spec : {M : Type 1} → statement M
 row-leave-spec =

@@ -8,7 +8,7 @@ use lib.ListN.{get_or}
 use borrow.Author.Tests.{not-true, not-false}
 use Rattle.keys.specs.Keys.{rank, keys_of, holds}
 use Rattle.overlay.specs.Rules.{Overlay, lists_of}
-use Rattle.overlay.proofs.Plan.{stands-in, place-in, leaves-own, newer-leaves-not, none-leaves}
+use Rattle.overlay.proofs.Plan.{stands_in_lem, place_in_lem, leaves-own, newer_leaves_not, none-leaves}
 use borrow.Author.Rules.{rules}
 use Rattle.overlay.proofs.seat.leaving_in.Statement.{statement}
 use Rattle.overlay.proofs.seat.leaving_in.Tie as tie
@@ -28,10 +28,10 @@ module _ (c : tie.Else1) where
   held = sym c.before.stands.ensures ∙ not-false _ c.if1.false
 
   spot-low : j < s.args.n
-  spot-low = stands-in (over s) (rank s.args.t s.args.index) j c.before.before.place.ensures s.pre.1 held
+  spot-low = stands_in_lem (over s) (rank s.args.t s.args.index) j c.before.before.place.ensures s.pre.1 held
 
   place-low : get_or s.args.order.now j 0 < s.args.n
-  place-low = place-in (over s) (rank s.args.t s.args.index) j c.before.before.place.ensures s.pre.1 s.pre.2 held
+  place-low = place_in_lem (over s) (rank s.args.t s.args.index) j c.before.before.place.ensures s.pre.1 s.pre.2 held
 
 place-requires : tie.Need-place-requires
 place-requires c κs = search rules
@@ -61,7 +61,7 @@ shared-slice-read-if2 : tie.Need-shared-slice-read-if2
 shared-slice-read-if2 c = omega (arith, place-low c.before.before)
 
 returns-2 : tie.Need-returns-2
-returns-2 c = newer-leaves-not (over c.before.before.before.before.before.before.before.before) (rank c.before.before.before.before.before.before.before.before.args.t c.before.before.before.before.before.before.before.before.args.index) c.before.before.before.before.before.place.result c.before.before.before.before.before.place.ensures c.before.before.before.before.before.before.before.before.args.id (held c.before.before.before) c.if2.true
+returns-2 c = newer_leaves_not (over c.before.before.before.before.before.before.before.before) (rank c.before.before.before.before.before.before.before.before.args.t c.before.before.before.before.before.before.before.before.args.index) c.before.before.before.before.before.place.result c.before.before.before.before.before.place.ensures c.before.before.before.before.before.before.before.before.args.id (held c.before.before.before) c.if2.true
 
 returns-3 : tie.Need-returns-3
 returns-3 c = leaves-own (over c.before.before.before.before.before.before.before.before) (rank c.before.before.before.before.before.before.before.before.args.t c.before.before.before.before.before.before.before.before.args.index) c.before.before.before.before.before.place.result c.before.before.before.before.before.place.ensures c.before.before.before.before.before.before.before.before.args.id (held c.before.before.before) (omega (arith, c.if2.false))

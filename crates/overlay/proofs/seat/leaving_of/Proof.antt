@@ -5,7 +5,7 @@ use Prim.Native.Nat.{ℕ, ◌*◌}
 use native.Mathlib.Omega.{arith}
 use Rattle.keys.specs.Keys.{rank}
 use Rattle.overlay.specs.Rules.{lists_of, rows_of}
-use Rattle.overlay.specs.Inner.{leavingIn}
+use Rattle.overlay.specs.Inner.{leaving_in}
 use Rattle.overlay.proofs.Parts.{rest_part, rows_long, order-long}
 use borrow.Author.Rules.{rules}
 use Rattle.overlay.proofs.seat.leaving_of.Statement.{statement}
@@ -41,7 +41,7 @@ leaving-in-requires c κs =
 returns : tie.Need-returns
 returns c =
     let a = c.before.before.before.before.args in
-    c.leaving-in.ensures ∙ ap (λ (o : List ℕ). leavingIn (lists_of (rows_of a.room a.words.now) o [] a.n) (rank a.t a.index) a.id) (rest_part (4 * a.room) a.words.now)
+    c.leaving-in.ensures ∙ ap (λ (o : List ℕ). leaving_in (lists_of (rows_of a.room a.words.now) o [] a.n) (rank a.t a.index) a.id) (rest_part (4 * a.room) a.words.now)
 
 pub leaving-of-spec : {M : Type 1} → statement M
 leaving-of-spec =

@@ -4,7 +4,7 @@ use Rattle.memory.specs.declared.span.Holder.TheVariants.{Shared, List}
 use Rattle.memory.proofs.Lent.{fits}
 use Rattle.overlay.proofs.Ruled.{keys-room, keys-order}
 use Rattle.putting.proofs.Parts.{words-five, words-ruled}
-use Rattle.putting.proofs.Crowds.{few-shared, crowd-as}
+use Rattle.putting.proofs.Crowds.{few_shared, crowd_as}
 use borrow.Author.Rules.{rules}
 use Rattle.putting.proofs.crowd.kind_crowded.Statement.{statement}
 use Rattle.putting.proofs.crowd.kind_crowded.Tie as tie
@@ -19,7 +19,7 @@ of-requires : tie.Need-of-requires
 of-requires c κs = search rules
 
 mul-lacking : tie.Need-overflow-mul-lacking
-mul-lacking c = let l = fits Shared c.before.before.before.before.before.args.kind c.before.before.Span-of.result c.before.before.Span-of.ensures in omega (arith, l.words-rise, l.words-in, l.words-most)
+mul-lacking c = let l = fits Shared c.before.before.before.before.before.args.kind c.before.before.Span-of.result c.before.before.Span-of.ensures in omega (arith, l.words-rise, l.words_in, l.words-most)
 
 sub-lacking : tie.Need-overflow-sub-lacking
 sub-lacking c = (fits Shared c.before.before.before.before.before.args.kind c.before.before.Span-of.result c.before.before.Span-of.ensures).words-rise
@@ -28,10 +28,10 @@ part-lacking-start : tie.Need-slice-bounds-lacking-start
 part-lacking-start c = (fits Shared c.before.before.before.before.before.args.kind c.before.before.Span-of.result c.before.before.Span-of.ensures).words-rise
 
 part-lacking-end : tie.Need-slice-bounds-lacking-end
-part-lacking-end c = omega (arith, (fits Shared c.before.before.before.before.before.args.kind c.before.before.Span-of.result c.before.before.Span-of.ensures).words-in, c.before.before.before.before.before.requires.1.long)
+part-lacking-end c = omega (arith, (fits Shared c.before.before.before.before.before.args.kind c.before.before.Span-of.result c.before.before.Span-of.ensures).words_in, c.before.before.before.before.before.requires.1.long)
 
 mul-lacking-2 : tie.Need-overflow-mul-lacking-2
-mul-lacking-2 c = let l = fits List c.before.before.before.before.before.before.args.kind c.before.before.span-of2.result c.before.before.span-of2.ensures in omega (arith, l.words-rise, l.words-in, l.words-most)
+mul-lacking-2 c = let l = fits List c.before.before.before.before.before.before.args.kind c.before.before.span-of2.result c.before.before.span-of2.ensures in omega (arith, l.words-rise, l.words_in, l.words-most)
 
 sub-lacking-2 : tie.Need-overflow-sub-lacking-2
 sub-lacking-2 c = (fits List c.before.before.before.before.before.before.args.kind c.before.before.span-of2.result c.before.before.span-of2.ensures).words-rise
@@ -40,7 +40,7 @@ part-lacking-start-2 : tie.Need-slice-bounds-lacking-start-2
 part-lacking-start-2 c = (fits List c.before.before.before.before.before.before.args.kind c.before.before.span-of2.result c.before.before.span-of2.ensures).words-rise
 
 part-lacking-end-2 : tie.Need-slice-bounds-lacking-end-2
-part-lacking-end-2 c = omega (arith, (fits List c.before.before.before.before.before.before.args.kind c.before.before.span-of2.result c.before.before.span-of2.ensures).words-in, c.before.before.before.before.before.before.requires.0.long)
+part-lacking-end-2 c = omega (arith, (fits List c.before.before.before.before.before.before.args.kind c.before.before.span-of2.result c.before.before.span-of2.ensures).words_in, c.before.before.before.before.before.before.requires.0.long)
 
 of-requires-2 : tie.Need-of-requires-2
 of-requires-2 c κs = search rules
@@ -55,12 +55,12 @@ lacking-requires c κs =
     )
 
 sub-result : tie.Need-overflow-sub-result
-sub-result c = let a = c.before.before.before.before.before.before.before.before.before.args in few-shared a.kind a.list a.counts a.list-words.now a.words.now c.before.before.before.before.before.before.before.before.before.requires.1 c.before.before.before.before.of.result c.before.before.before.before.of.ensures
+sub-result c = let a = c.before.before.before.before.before.before.before.before.before.args in few_shared a.kind a.list a.counts a.list-words.now a.words.now c.before.before.before.before.before.before.before.before.before.requires.1 c.before.before.before.before.of.result c.before.before.before.before.of.ensures
 
 returns : tie.Need-returns
 returns c =
     let a = c.before.before.before.before.before.before.before.before.before.args in
-    crowd-as a.kind a.list a.counts a.list-words.now a.words.now c.before.before.before.before.before.before.before.before.before.requires.1 c.before.before.before.before.before.before.Span-of.result c.before.before.before.before.before.before.Span-of.ensures c.before.before.before.before.before.span-of2.result c.before.before.before.before.before.span-of2.ensures c.before.before.before.before.of.result c.before.before.before.before.of.ensures c.before.of2.result c.before.of2.ensures c.lacking.result c.lacking.ensures
+    crowd_as a.kind a.list a.counts a.list-words.now a.words.now c.before.before.before.before.before.before.before.before.before.requires.1 c.before.before.before.before.before.before.Span-of.result c.before.before.before.before.before.before.Span-of.ensures c.before.before.before.before.before.span-of2.result c.before.before.before.before.before.span-of2.ensures c.before.before.before.before.of.result c.before.before.before.before.of.ensures c.before.of2.result c.before.of2.ensures c.lacking.result c.lacking.ensures
 
 pub kind-crowded-spec : {M : Type 1} → statement M
 kind-crowded-spec =

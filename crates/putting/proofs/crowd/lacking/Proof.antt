@@ -3,7 +3,7 @@ use mathlib.Core.Path.{sym, ◌∙◌}
 use Prim.Native.Nat.{◌*◌}
 use native.Mathlib.Omega.{arith}
 use Rattle.overlay.proofs.Parts.{rest_part, rows_long, order-long}
-use Rattle.putting.proofs.Crowds.{lacking-as}
+use Rattle.putting.proofs.Crowds.{lacking_as}
 use borrow.Author.Rules.{rules}
 use Rattle.putting.proofs.crowd.lacking.Statement.{statement}
 use Rattle.putting.proofs.crowd.lacking.Tie as tie
@@ -55,7 +55,7 @@ lacking-requires c κs =
     )
 
 returns : tie.Need-returns
-returns c = let a = c.before.before.before.before.before.before.before.args in c.lacking.ensures ∙ lacking-as a.room a.words.now a.n a.list-room a.listed.now a.m
+returns c = let a = c.before.before.before.before.before.before.before.args in c.lacking.ensures ∙ lacking_as a.room a.words.now a.n a.list-room a.listed.now a.m
 
 pub lacking-spec : {M : Type 1} → statement M
 lacking-spec =

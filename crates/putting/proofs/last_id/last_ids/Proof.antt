@@ -11,8 +11,8 @@ use Rattle.overlay.specs.Rules.{rows_of, order_of}
 use Rattle.overlay.proofs.Parts.{order-long}
 use Rattle.overlay.proofs.Ruled.{keys-room, keys-order}
 use Rattle.change.proofs.Fitting.{table_at}
-use Rattle.putting.specs.Listed.{lastIdsBy}
-use Rattle.putting.specs.Inner.{withLastIds}
+use Rattle.putting.specs.Listed.{last_ids_by}
+use Rattle.putting.specs.Inner.{with_last_ids}
 use Rattle.putting.proofs.LastIds.{ids-done, ids_next}
 use Rattle.putting.proofs.Places.{order-word, row_word}
 use Rattle.putting.proofs.last_id.last_ids.Statement.{statement}
@@ -20,7 +20,7 @@ use Rattle.putting.proofs.last_id.last_ids.Tie as tie
 
 abbrev invariant-loop : tie.invariant-loop
 invariant-loop directory id room listed n cut o₀ i₀ o i =
-    (i ≤ n) × (withLastIds o (lastIdsBy directory id (rows_of room listed) (drop i (take n (order_of room listed))) o.last_record_ids) ≡ withLastIds o₀ (lastIdsBy directory id (rows_of room listed) (take n (order_of room listed)) o₀.last_record_ids))
+    (i ≤ n) × (with_last_ids o (last_ids_by directory id (rows_of room listed) (drop i (take n (order_of room listed))) o.last_record_ids) ≡ with_last_ids o₀ (last_ids_by directory id (rows_of room listed) (take n (order_of room listed)) o₀.last_record_ids))
 
 abbrev decreases-loop : tie.decreases-loop
 decreases-loop directory id room listed n cut o₀ i₀ o i = n - i

@@ -13,7 +13,7 @@ span-of-requires : tie.Need-span-of-requires
 span-of-requires c κs = search rules
 
 mul-last-ids : tie.Need-overflow-mul-last-ids
-mul-last-ids c = let l = fits List Value c.Span-of.result c.Span-of.ensures in omega (arith, l.words-rise, l.words-in, l.words-most)
+mul-last-ids c = let l = fits List Value c.Span-of.result c.Span-of.ensures in omega (arith, l.words-rise, l.words_in, l.words-most)
 
 sub-last-ids : tie.Need-overflow-sub-last-ids
 sub-last-ids c = (fits List Value c.Span-of.result c.Span-of.ensures).words-rise
@@ -22,7 +22,7 @@ part-last-ids-start : tie.Need-slice-bounds-last-ids-start
 part-last-ids-start c = (fits List Value c.Span-of.result c.Span-of.ensures).words-rise
 
 part-last-ids-end : tie.Need-slice-bounds-last-ids-end
-part-last-ids-end c = omega (arith, (fits List Value c.Span-of.result c.Span-of.ensures).words-in, c.before.before.requires.long)
+part-last-ids-end c = omega (arith, (fits List Value c.Span-of.result c.Span-of.ensures).words_in, c.before.before.requires.long)
 
 last-ids-requires : tie.Need-last-ids-requires
 last-ids-requires c κs =

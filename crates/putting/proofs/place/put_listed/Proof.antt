@@ -4,11 +4,11 @@ use Prim.Native.Nat.{◌-◌, ◌*◌, ◌≤◌}
 use native.Mathlib.Omega.{arith}
 use borrow.Author.Rules.{rules}
 use lib.ListN.{length}
-use Rattle.overlay.specs.Rules.{Overlay, overlayOf}
+use Rattle.overlay.specs.Rules.{Overlay, overlay_of}
 use Rattle.overlay.proofs.Parts.{words_long}
 use Rattle.overlay.proofs.Ruled.{shows}
 use Rattle.memory.specs.declared.span.Holder.TheVariants.{Shared}
-use Rattle.putting.specs.Inner.{parts_at, listPut}
+use Rattle.putting.specs.Inner.{parts_at, list_put}
 use Rattle.putting.proofs.Long.{at_words, at-bytes}
 use Rattle.putting.proofs.Puts.{Left, left-first, left-done, turn-place, turn_small, turn-goes, turn-next}
 use Rattle.putting.proofs.place.put_listed.Statement.{statement}
@@ -16,14 +16,14 @@ use Rattle.putting.proofs.place.put_listed.Tie as tie
 
 abbrev invariant-loop : tie.invariant-loop
 invariant-loop kind words₀ bytes₀ id room listed stored n cut m₀ i₀ words bytes m i =
-    (i ≤ n) × Left kind id (overlayOf room listed stored n) i (parts_at Shared m words bytes) (listPut kind id (overlayOf room listed stored n) (parts_at Shared m₀ words₀ bytes₀))
+    (i ≤ n) × Left kind id (overlay_of room listed stored n) i (parts_at Shared m words bytes) (list_put kind id (overlay_of room listed stored n) (parts_at Shared m₀ words₀ bytes₀))
 
 abbrev decreases-loop : tie.decreases-loop
 decreases-loop kind words₀ bytes₀ id room listed stored n cut m₀ i₀ words bytes m i = n - i
 
 module _ (s : tie.Start invariant-loop decreases-loop) where
   abbrev list : Overlay
-  list = overlayOf s.args.room s.args.listed.now s.args.stored.now s.args.n
+  list = overlay_of s.args.room s.args.listed.now s.args.stored.now s.args.n
 
   few : s.args.n ≤ s.args.room
   few = (shows s.args.kind s.args.room list s.pre.listed).fits

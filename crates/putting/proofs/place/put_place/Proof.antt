@@ -3,7 +3,7 @@ use mathlib.Core.Path.{refl}
 use native.Mathlib.Omega.{arith}
 use Rattle.memory.specs.Parts.{Parts}
 use Rattle.putting.specs.Inner.{parts_at}
-use Rattle.overlay.specs.Rules.{storedLength}
+use Rattle.overlay.specs.Rules.{stored_length}
 use Rattle.putting.proofs.Places.{part_lies, part-fits, part-put}
 use borrow.Author.Rules.{rules}
 use Rattle.putting.proofs.place.put_place.Statement.{statement}
@@ -16,7 +16,7 @@ slot-size-requires : tie.Need-slot-size-requires
 slot-size-requires c κs = search rules
 
 mul-from : tie.Need-overflow-mul-from
-mul-from c = let a = c.before.before.before.before.args in omega (arith, part_lies a.holder a.kind a.row a.stored.now a.p (shared c.before.before.before.before) c.before.before.before.before.requires c.slot-size.result (storedLength a.kind a.row.mark) c.slot-size.ensures.0 refl)
+mul-from c = let a = c.before.before.before.before.args in omega (arith, part_lies a.holder a.kind a.row a.stored.now a.p (shared c.before.before.before.before) c.before.before.before.before.requires c.slot-size.result (stored_length a.kind a.row.mark) c.slot-size.ensures.0 refl)
 
 stored-length-requires : tie.Need-stored-length-requires
 stored-length-requires c κs = search rules

@@ -17,7 +17,7 @@ span-of-requires : tie.Need-span-of-requires
 span-of-requires c κs = search rules
 
 mul-put-listed : tie.Need-overflow-mul-put-listed
-mul-put-listed c = let l = fits List c.before.before.before.before.before.before.before.args.kind c.before.before.Span-of.result c.before.before.Span-of.ensures in omega (arith, l.words-rise, l.words-in, l.words-most)
+mul-put-listed c = let l = fits List c.before.before.before.before.before.before.before.args.kind c.before.before.Span-of.result c.before.before.Span-of.ensures in omega (arith, l.words-rise, l.words_in, l.words-most)
 
 sub-put-listed : tie.Need-overflow-sub-put-listed
 sub-put-listed c = (fits List c.before.before.before.before.before.before.before.args.kind c.before.before.Span-of.result c.before.before.Span-of.ensures).words-rise
@@ -26,7 +26,7 @@ part-put-listed-start : tie.Need-slice-bounds-put-listed-start
 part-put-listed-start c = (fits List c.before.before.before.before.before.before.before.args.kind c.before.before.Span-of.result c.before.before.Span-of.ensures).words-rise
 
 part-put-listed-end : tie.Need-slice-bounds-put-listed-end
-part-put-listed-end c = let a = c.before.before.before.before.before.before.before.args in omega (arith, (fits List a.kind c.before.before.Span-of.result c.before.before.Span-of.ensures).words-in, at_words List a.list a.list-words.now a.list-bytes.now c.before.before.before.before.before.before.before.requires.listed)
+part-put-listed-end c = let a = c.before.before.before.before.before.before.before.args in omega (arith, (fits List a.kind c.before.before.Span-of.result c.before.before.Span-of.ensures).words_in, at_words List a.list a.list-words.now a.list-bytes.now c.before.before.before.before.before.before.before.requires.listed)
 
 sub-put-listed-2 : tie.Need-overflow-sub-put-listed-2
 sub-put-listed-2 c = (fits List c.before.before.before.before.before.before.before.before.args.kind c.before.before.before.Span-of.result c.before.before.before.Span-of.ensures).bytes-rise
@@ -35,7 +35,7 @@ part-put-listed-start-2 : tie.Need-slice-bounds-put-listed-start-2
 part-put-listed-start-2 c = (fits List c.before.before.before.before.before.before.before.before.args.kind c.before.before.before.Span-of.result c.before.before.before.Span-of.ensures).bytes-rise
 
 part-put-listed-end-2 : tie.Need-slice-bounds-put-listed-end-2
-part-put-listed-end-2 c = let a = c.before.before.before.before.before.before.before.before.args in omega (arith, (fits List a.kind c.before.before.before.Span-of.result c.before.before.before.Span-of.ensures).bytes-in, at-bytes List a.list a.list-words.now a.list-bytes.now c.before.before.before.before.before.before.before.before.requires.listed)
+part-put-listed-end-2 c = let a = c.before.before.before.before.before.before.before.before.args in omega (arith, (fits List a.kind c.before.before.before.Span-of.result c.before.before.before.Span-of.ensures).bytes_in, at-bytes List a.list a.list-words.now a.list-bytes.now c.before.before.before.before.before.before.before.before.requires.listed)
 
 of-requires : tie.Need-of-requires
 of-requires c κs = search rules

@@ -3,7 +3,7 @@ use mathlib.Core.Path.{sym, ◌∙◌}
 use native.Mathlib.Omega.{arith}
 use lib.ListN.{length}
 use lib.Seq.{length-take-le}
-use Rattle.query.proofs.Copies.{copied-short, copied-whole}
+use Rattle.query.proofs.Copies.{copied_short, copied_whole}
 use borrow.Author.Rules.{rules}
 use Rattle.query.proofs.copy.copy_over.Statement.{statement}
 use Rattle.query.proofs.copy.copy_over.Tie as tie
@@ -18,7 +18,7 @@ same_length : tie.Need-same-length
 same_length c = search rules
 
 returns : tie.Need-returns
-returns c = c.before.before.copy-in.ensures ∙ copied-short c.before.before.before.before.before.before.before.before.args.bytes.now c.before.before.before.before.before.before.before.before.args.dest.now (omega (arith, c.before.before.before.before.before.if1.true))
+returns c = c.before.before.copy-in.ensures ∙ copied_short c.before.before.before.before.before.before.before.before.args.bytes.now c.before.before.before.before.before.before.before.before.args.dest.now (omega (arith, c.before.before.before.before.before.if1.true))
 
 copy-in-requires-2 : tie.Need-copy-in-requires-2
 copy-in-requires-2 c κs = search rules
@@ -27,7 +27,7 @@ same-length-2 : tie.Need-same-length-2
 same-length-2 c = search rules
 
 returns-2 : tie.Need-returns-2
-returns-2 c = c.before.before.copy-in2.ensures ∙ copied-whole c.before.before.before.before.before.before.before.args.bytes.now c.before.before.before.before.before.before.before.args.dest.now (omega (arith, c.before.before.before.before.if1.false))
+returns-2 c = c.before.before.copy-in2.ensures ∙ copied_whole c.before.before.before.before.before.before.before.args.bytes.now c.before.before.before.before.before.before.before.args.dest.now (omega (arith, c.before.before.before.before.if1.false))
 
 pub copy-over-spec : {M : Type 1} → statement M
 copy-over-spec =

@@ -5,12 +5,12 @@ use Prim.Native.Nat.{ℕ, ◌*◌, ◌≤◌}
 use native.Mathlib.Omega.{arith}
 use lib.ListN.{length}
 use Rattle.keys.specs.Keys.{rank}
-use Rattle.overlay.specs.Rules.{Overlay, slotSize, rows_of, order_of, overlayOf}
-use Rattle.overlay.specs.Inner.{seatIn}
+use Rattle.overlay.specs.Rules.{Overlay, slot_size, rows_of, order_of, overlay_of}
+use Rattle.overlay.specs.Inner.{seat_in}
 use Rattle.overlay.specs.declared.seat.Seat.TheVariants.{Over}
 use Rattle.overlay.proofs.Ruled.{Kept, shows}
 use Rattle.overlay.proofs.Parts.{words_long}
-use Rattle.overlay.proofs.Seats.{seat-keys}
+use Rattle.overlay.proofs.Seats.{seat_keys}
 use Rattle.query.proofs.Found.{FoundAt, found, part-fits}
 use Rattle.query.proofs.Places.{place-over, place_none}
 use borrow.Author.Rules.{rules}
@@ -19,7 +19,7 @@ use Rattle.query.proofs.find.place_in.Tie as tie
 
 module _ (s : tie.Start) where
   abbrev over : Overlay
-  over = overlayOf s.args.room s.args.words.now s.args.bytes.now s.args.n
+  over = overlay_of s.args.room s.args.words.now s.args.bytes.now s.args.n
 
   abbrev key : ℕ
   key = rank s.args.table s.args.index
@@ -30,14 +30,14 @@ module _ (s : tie.Start) where
   long : length s.args.words.now ≡ 5 * s.args.room
   long = words_long s.args.room s.args.words.now known.rows_long known.order-long
 
-  seat-is : seatIn (overlayOf s.args.room s.args.words.now [] s.args.n) key ≡ seatIn over key
-  seat-is = seat-keys (rows_of s.args.room s.args.words.now) (order_of s.args.room s.args.words.now) s.args.bytes.now s.args.n key
+  seat-is : seat_in (overlay_of s.args.room s.args.words.now [] s.args.n) key ≡ seat_in over key
+  seat-is = seat_keys (rows_of s.args.room s.args.words.now) (order_of s.args.room s.args.words.now) s.args.bytes.now s.args.n key
 
 module _ (c : tie.After-known-told) where
   abbrev s : tie.Start
   s = c.before.before.before.before.before.before
 
-  seat : seatIn (over s) (key s) ≡ Over c.before.p.given.0.0
+  seat : seat_in (over s) (key s) ≡ Over c.before.p.given.0.0
   seat = sym (c.before.before.before.seat-of.ensures ∙ seat-is s) ∙ c.before.p.given.1
 
   at : FoundAt s.args.kind s.args.room (over s) s.pre (key s) c.before.p.given.0.0

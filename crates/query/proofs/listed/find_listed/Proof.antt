@@ -6,7 +6,7 @@ use Rattle.overlay.specs.Rules.{Overlay}
 use Rattle.memory.specs.declared.span.Holder.TheVariants as holder
 use Rattle.memory.proofs.Spans.{words-all, bytes-all, of_parts}
 use Rattle.memory.proofs.Lent.{fits, lent_is, lent-kept}
-use Rattle.query.specs.Inner.{foundIn}
+use Rattle.query.specs.Inner.{found_in}
 use borrow.Author.Rules.{rules}
 use Rattle.query.proofs.listed.find_listed.Statement.{statement}
 use Rattle.query.proofs.listed.find_listed.Tie as tie
@@ -15,7 +15,7 @@ span-of-requires : tie.Need-span-of-requires
 span-of-requires c κs = search rules
 
 mul-find-in : tie.Need-overflow-mul-find-in
-mul-find-in c = let l = fits holder.List c.before.before.before.args.kind c.Span-of.result c.Span-of.ensures in omega (arith, l.words-rise, l.words-in, l.words-most)
+mul-find-in c = let l = fits holder.List c.before.before.before.args.kind c.Span-of.result c.Span-of.ensures in omega (arith, l.words-rise, l.words_in, l.words-most)
 
 sub-find-in : tie.Need-overflow-sub-find-in
 sub-find-in c = (fits holder.List c.before.before.before.args.kind c.Span-of.result c.Span-of.ensures).words-rise
@@ -24,7 +24,7 @@ part-find-in-start : tie.Need-slice-bounds-find-in-start
 part-find-in-start c = (fits holder.List c.before.before.before.args.kind c.Span-of.result c.Span-of.ensures).words-rise
 
 part-find-in-end : tie.Need-slice-bounds-find-in-end
-part-find-in-end c = omega (arith, (fits holder.List c.before.before.before.args.kind c.Span-of.result c.Span-of.ensures).words-in, words-all holder.List c.before.before.before.args.counts c.before.before.before.args.words.now c.before.before.before.args.bytes.now c.before.before.before.requires)
+part-find-in-end c = omega (arith, (fits holder.List c.before.before.before.args.kind c.Span-of.result c.Span-of.ensures).words_in, words-all holder.List c.before.before.before.args.counts c.before.before.before.args.words.now c.before.before.before.args.bytes.now c.before.before.before.requires)
 
 sub-find-in-2 : tie.Need-overflow-sub-find-in-2
 sub-find-in-2 c = (fits holder.List c.before.before.before.before.args.kind c.before.Span-of.result c.before.Span-of.ensures).bytes-rise
@@ -33,7 +33,7 @@ part-find-in-start-2 : tie.Need-slice-bounds-find-in-start-2
 part-find-in-start-2 c = (fits holder.List c.before.before.before.before.args.kind c.before.Span-of.result c.before.Span-of.ensures).bytes-rise
 
 part-find-in-end-2 : tie.Need-slice-bounds-find-in-end-2
-part-find-in-end-2 c = omega (arith, (fits holder.List c.before.before.before.before.args.kind c.before.Span-of.result c.before.Span-of.ensures).bytes-in, bytes-all holder.List c.before.before.before.before.args.counts c.before.before.before.before.args.words.now c.before.before.before.before.args.bytes.now c.before.before.before.before.requires)
+part-find-in-end-2 c = omega (arith, (fits holder.List c.before.before.before.before.args.kind c.before.Span-of.result c.before.Span-of.ensures).bytes_in, bytes-all holder.List c.before.before.before.before.args.counts c.before.before.before.before.args.words.now c.before.before.before.before.args.bytes.now c.before.before.before.before.requires)
 
 of-requires : tie.Need-of-requires
 of-requires c κs = search rules
@@ -47,7 +47,7 @@ returns : tie.Need-returns
 returns c =
     let a = c.before.before.before.before.before.before.before.args in
     c.find-in.ensures
-    ∙ ap (λ (o : Overlay). foundIn a.kind o (rank a.table a.index))
+    ∙ ap (λ (o : Overlay). found_in a.kind o (rank a.table a.index))
     (lent_is holder.List a.kind a.counts a.words.now a.bytes.now c.before.before.before.before.Span-of.result c.before.before.before.before.Span-of.ensures c.before.of.result c.before.of.ensures ∙ sym (of_parts holder.List a.kind a.counts a.words.now a.bytes.now))
 
 pub find-listed-spec : {M : Type 1} → statement M

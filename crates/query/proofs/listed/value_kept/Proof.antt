@@ -5,19 +5,19 @@ use Prim.Native.Nat.{ℕ}
 use Rattle.directory.specs.declared.table.TableKind.TheVariants.{Value}
 use Rattle.keys.specs.Keys.{rank}
 use Rattle.overlay.specs.Rules.{Overlay}
-use Rattle.query.specs.Query.{sharedPart, copiedOver}
-use Rattle.change.specs.Change.{Change, changeOf}
-use Rattle.query.proofs.Looks.{listed-copied, listed-done}
+use Rattle.query.specs.Query.{shared_part, copied_over}
+use Rattle.change.specs.Change.{Change, change_of}
+use Rattle.query.proofs.Looks.{listed_copied, listed-done}
 use borrow.Author.Rules.{rules}
 use Rattle.query.proofs.listed.value_kept.Statement.{statement}
 use Rattle.query.proofs.listed.value_kept.Tie as tie
 
 module _ (s : tie.Start) where
   abbrev own : Change
-  own = changeOf s.args.list s.args.local-words.now s.args.local-bytes.now
+  own = change_of s.args.list s.args.local-words.now s.args.local-bytes.now
 
   abbrev over : Overlay
-  over = sharedPart Value s.args.overlays s.args.words.now s.args.bytes.now
+  over = shared_part Value s.args.overlays s.args.words.now s.args.bytes.now
 
 value-ref-kept-requires : tie.Need-value-ref-kept-requires
 value-ref-kept-requires c κs = search rules
@@ -29,7 +29,7 @@ same_length : tie.Need-same-length
 same_length c = search rules
 
 returns : tie.Need-returns
-returns c = (c.before.before.copy-value.ensures.0 ∙ listed-copied Value (own c.before.before.before.before.before.before.before.before.before.before) (over c.before.before.before.before.before.before.before.before.before.before) (rank c.before.before.before.before.before.before.before.before.before.before.args.table.0 c.before.before.before.before.before.before.before.before.before.before.args.index) 0 _ (listed-done Value (own c.before.before.before.before.before.before.before.before.before.before) (over c.before.before.before.before.before.before.before.before.before.before) (rank c.before.before.before.before.before.before.before.before.before.before.args.table.0 c.before.before.before.before.before.before.before.before.before.before.args.index) c.before.before.before.before.before.before.before.before.before.before.requires.0 c.before.before.before.before.before.before.before.before.before.before.requires.1 _ c.before.before.before.before.value-ref-kept.ensures), c.before.before.copy-value.ensures.1 ∙ ap (λ (b : List ℕ). copiedOver b c.before.before.before.before.before.before.before.before.before.before.args.dest.now) c.before.before.before.before.value-ref-kept.ensures)
+returns c = (c.before.before.copy-value.ensures.0 ∙ listed_copied Value (own c.before.before.before.before.before.before.before.before.before.before) (over c.before.before.before.before.before.before.before.before.before.before) (rank c.before.before.before.before.before.before.before.before.before.before.args.table.0 c.before.before.before.before.before.before.before.before.before.before.args.index) 0 _ (listed-done Value (own c.before.before.before.before.before.before.before.before.before.before) (over c.before.before.before.before.before.before.before.before.before.before) (rank c.before.before.before.before.before.before.before.before.before.before.args.table.0 c.before.before.before.before.before.before.before.before.before.before.args.index) c.before.before.before.before.before.before.before.before.before.before.requires.0 c.before.before.before.before.before.before.before.before.before.before.requires.1 _ c.before.before.before.before.value-ref-kept.ensures), c.before.before.copy-value.ensures.1 ∙ ap (λ (b : List ℕ). copied_over b c.before.before.before.before.before.before.before.before.before.before.args.dest.now) c.before.before.before.before.value-ref-kept.ensures)
 
 pub value-kept-spec : {M : Type 1} → statement M
 value-kept-spec =

@@ -3,18 +3,18 @@ use mathlib.Core.Path.{◌≡◌, sym, ap, ◌∙◌}
 use mathlib.Core.Bool.{Bool}
 use Prim.Native.Nat.{ℕ}
 use borrow.Author.Tests.{not-true, not-false}
-use Rattle.overlay.specs.Rules.{Overlay, overlayOf, overlayKept}
-use Rattle.query.specs.Query.{sharedPart}
-use Rattle.query.proofs.Places.{several-broken}
+use Rattle.overlay.specs.Rules.{Overlay, overlay_of, overlay_kept}
+use Rattle.query.specs.Query.{shared_part}
+use Rattle.query.proofs.Places.{several_broken}
 use borrow.Author.Rules.{rules}
 use Rattle.query.proofs.several.places_of.Statement.{statement}
 use Rattle.query.proofs.several.places_of.Tie as tie
 
 -- the test, by the count that the code has
-tested : (c : tie.After-kept) → overlayKept c.before.before.before.before.before.before.before.args.kind 256 (sharedPart c.before.before.before.before.before.before.before.args.kind c.before.before.before.before.before.before.before.args.overlays c.before.before.before.before.before.before.before.args.words.now c.before.before.before.before.before.before.before.args.bytes.now) ≡ c.kept.result
+tested : (c : tie.After-kept) → overlay_kept c.before.before.before.before.before.before.before.args.kind 256 (shared_part c.before.before.before.before.before.before.before.args.kind c.before.before.before.before.before.before.before.args.overlays c.before.before.before.before.before.before.before.args.words.now c.before.before.before.before.before.before.before.args.bytes.now) ≡ c.kept.result
 tested c =
     let a = c.before.before.before.before.before.before.before.args in
-    sym (c.kept.ensures ∙ ap (λ (n : ℕ). overlayKept a.kind 256 (overlayOf 256 a.words.now a.bytes.now n)) c.before.of.ensures)
+    sym (c.kept.ensures ∙ ap (λ (n : ℕ). overlay_kept a.kind 256 (overlay_of 256 a.words.now a.bytes.now n)) c.before.of.ensures)
 
 of-requires : tie.Need-of-requires
 of-requires c κs = search rules
@@ -25,7 +25,7 @@ kept-requires c κs = search rules
 returns : tie.Need-returns
 returns c =
     let a = c.before.before.before.before.before.before.before.before.args in
-    several-broken a.kind (sharedPart a.kind a.overlays a.words.now a.bytes.now) a.keys.now a.places.now (tested c.before ∙ not-true _ c.if1.true)
+    several_broken a.kind (shared_part a.kind a.overlays a.words.now a.bytes.now) a.keys.now a.places.now (tested c.before ∙ not-true _ c.if1.true)
 
 places-of-kept-requires : tie.Need-places-of-kept-requires
 places-of-kept-requires c κs = tested c.before.before ∙ not-false _ c.before.if1.false

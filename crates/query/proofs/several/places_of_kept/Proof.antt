@@ -2,10 +2,10 @@
 use mathlib.Core.Path.{sym, ap, ◌∙◌}
 use Prim.Native.Nat.{ℕ}
 use borrow.Author.Tests.{not-true, not-false}
-use Rattle.overlay.specs.Rules.{overlayOf}
-use Rattle.query.specs.Query.{sharedPart}
+use Rattle.overlay.specs.Rules.{overlay_of}
+use Rattle.query.specs.Query.{shared_part}
 use Rattle.query.specs.Places.{places_of}
-use Rattle.query.proofs.Places.{several-unpaired, several-told}
+use Rattle.query.proofs.Places.{several_unpaired, several_told}
 use borrow.Author.Rules.{rules}
 use Rattle.query.proofs.several.places_of_kept.Statement.{statement}
 use Rattle.query.proofs.several.places_of_kept.Tie as tie
@@ -17,7 +17,7 @@ returns : tie.Need-returns
 returns c =
     let s = c.before.before.before.before.before.before in
     let a = s.args in
-    several-unpaired a.kind (sharedPart a.kind a.overlays a.words.now a.bytes.now) a.keys.now a.places.now s.requires (sym c.before.in_pairs.ensures ∙ not-true _ c.if1.true)
+    several_unpaired a.kind (shared_part a.kind a.overlays a.words.now a.bytes.now) a.keys.now a.places.now s.requires (sym c.before.in_pairs.ensures ∙ not-true _ c.if1.true)
 
 of-requires : tie.Need-of-requires
 of-requires c κs = search rules
@@ -32,9 +32,9 @@ returns-2 : tie.Need-returns-2
 returns-2 c =
     let s = c.before.before.before.before.before.before.before.before.before.before.before.before in
     let a = s.args in
-    several-told a.kind (sharedPart a.kind a.overlays a.words.now a.bytes.now) a.keys.now a.places.now s.requires
+    several_told a.kind (shared_part a.kind a.overlays a.words.now a.bytes.now) a.keys.now a.places.now s.requires
     (sym c.before.before.before.before.before.before.before.in_pairs.ensures ∙ not-false _ c.before.before.before.before.before.before.if1.false) _
-    (c.before.before.tell-places.ensures ∙ ap (λ (n : ℕ). places_of a.kind (overlayOf 256 a.words.now a.bytes.now n) a.keys.now) c.before.before.before.before.of.ensures)
+    (c.before.before.tell-places.ensures ∙ ap (λ (n : ℕ). places_of a.kind (overlay_of 256 a.words.now a.bytes.now n) a.keys.now) c.before.before.before.before.of.ensures)
 
 pub places-of-kept-spec : {M : Type 1} → statement M
 places-of-kept-spec =

@@ -4,7 +4,7 @@ use mathlib.Core.Path.{◌≡◌, refl, ◌∙◌}
 use mathlib.Core.List.{◌++◌}
 use native.Mathlib.Omega.{arith}
 use lib.ListN.{length, take, drop, set, length-set}
-use Rattle.overlay.specs.Rules.{overlayOf}
+use Rattle.overlay.specs.Rules.{overlay_of}
 use Rattle.query.specs.Places.{places_of}
 use Rattle.query.proofs.Places.{pairs, told_more, told-all}
 use Rattle.query.proofs.several.tell_places.Statement.{statement}
@@ -13,7 +13,7 @@ use Rattle.query.proofs.several.tell_places.Tie as tie
 abbrev invariant-loop : tie.invariant-loop
 invariant-loop kind words bytes n keys places₀ i₀ places i =
     (i / 2 * 2 ≡ i) × (length keys / 2 * 2 ≡ length keys) × (i ≤ length keys) × (length places ≡ length keys)
-    × (take i places ++ places_of kind (overlayOf 256 words bytes n) (drop i keys) ≡ places_of kind (overlayOf 256 words bytes n) keys)
+    × (take i places ++ places_of kind (overlay_of 256 words bytes n) (drop i keys) ≡ places_of kind (overlay_of 256 words bytes n) keys)
 
 abbrev decreases-loop : tie.decreases-loop
 decreases-loop kind words bytes n keys places₀ i₀ places i = length keys - i
@@ -72,7 +72,7 @@ loop-again c =
       l.invariant.1,
       omega arith,
       length-set (set l.places l.i p.at) _ p.length ∙ length-set l.places l.i p.at ∙ l.invariant.3,
-      told_more a.kind (overlayOf 256 a.words.now a.bytes.now a.n) a.keys.now l.places l.i p (omega arith) l.invariant.3 c.place-in.ensures.0 l.invariant.4,
+      told_more a.kind (overlay_of 256 a.words.now a.bytes.now a.n) a.keys.now l.places l.i p (omega arith) l.invariant.3 c.place-in.ensures.0 l.invariant.4,
     )
 
 same_length : tie.Need-same-length invariant-loop decreases-loop
@@ -82,7 +82,7 @@ returns : tie.Need-returns invariant-loop decreases-loop
 returns c =
     let a = c.before.before.before.before.before.before.args in
     let l = c.before.loop in
-    told-all a.kind (overlayOf 256 a.words.now a.bytes.now a.n) a.keys.now l.places l.i (omega arith) l.invariant.3 l.invariant.4
+    told-all a.kind (overlay_of 256 a.words.now a.bytes.now a.n) a.keys.now l.places l.i (omega arith) l.invariant.3 l.invariant.4
 
 pub tell-places-spec : {M : Type 1} → statement M
 tell-places-spec =

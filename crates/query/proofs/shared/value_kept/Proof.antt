@@ -5,15 +5,15 @@ use Prim.Native.Nat.{ℕ}
 use Rattle.directory.specs.declared.table.TableKind.TheVariants.{Value}
 use Rattle.keys.specs.Keys.{rank}
 use Rattle.overlay.specs.Rules.{Overlay}
-use Rattle.query.specs.Query.{sharedPart, copiedOver}
-use Rattle.query.proofs.Looks.{shared-copied, shared-done}
+use Rattle.query.specs.Query.{shared_part, copied_over}
+use Rattle.query.proofs.Looks.{shared_copied, shared_done}
 use borrow.Author.Rules.{rules}
 use Rattle.query.proofs.shared.value_kept.Statement.{statement}
 use Rattle.query.proofs.shared.value_kept.Tie as tie
 
 module _ (s : tie.Start) where
   abbrev over : Overlay
-  over = sharedPart Value s.args.overlays s.args.words.now s.args.bytes.now
+  over = shared_part Value s.args.overlays s.args.words.now s.args.bytes.now
 
 value-ref-kept-requires : tie.Need-value-ref-kept-requires
 value-ref-kept-requires c κs = search rules
@@ -25,7 +25,7 @@ same_length : tie.Need-same-length
 same_length c = search rules
 
 returns : tie.Need-returns
-returns c = (c.before.before.copy-value.ensures.0 ∙ shared-copied Value (over c.before.before.before.before.before.before.before.before) (rank c.before.before.before.before.before.before.before.before.args.table.0 c.before.before.before.before.before.before.before.before.args.index) 0 _ (shared-done Value (over c.before.before.before.before.before.before.before.before) (rank c.before.before.before.before.before.before.before.before.args.table.0 c.before.before.before.before.before.before.before.before.args.index) c.before.before.before.before.before.before.before.before.requires _ c.before.before.before.before.value-ref-kept.ensures), c.before.before.copy-value.ensures.1 ∙ ap (λ (b : List ℕ). copiedOver b c.before.before.before.before.before.before.before.before.args.dest.now) c.before.before.before.before.value-ref-kept.ensures)
+returns c = (c.before.before.copy-value.ensures.0 ∙ shared_copied Value (over c.before.before.before.before.before.before.before.before) (rank c.before.before.before.before.before.before.before.before.args.table.0 c.before.before.before.before.before.before.before.before.args.index) 0 _ (shared_done Value (over c.before.before.before.before.before.before.before.before) (rank c.before.before.before.before.before.before.before.before.args.table.0 c.before.before.before.before.before.before.before.before.args.index) c.before.before.before.before.before.before.before.before.requires _ c.before.before.before.before.value-ref-kept.ensures), c.before.before.copy-value.ensures.1 ∙ ap (λ (b : List ℕ). copied_over b c.before.before.before.before.before.before.before.before.args.dest.now) c.before.before.before.before.value-ref-kept.ensures)
 
 pub value-kept-spec : {M : Type 1} → statement M
 value-kept-spec =

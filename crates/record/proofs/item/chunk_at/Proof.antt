@@ -1,6 +1,6 @@
 -- `chunk_at` meets its contract. Assumes nothing.
 use mathlib.Core.Path.{sym}
-use Rattle.record.proofs.Parts.{chunk-short, chunk-cut, chunk-met, inserted}
+use Rattle.record.proofs.Parts.{chunk-short, chunk-cut, chunk_met, inserted}
 use borrow.Author.Rules.{rules}
 use Rattle.record.proofs.item.chunk_at.Statement.{statement}
 use Rattle.record.proofs.item.chunk_at.Tie as tie
@@ -33,7 +33,7 @@ add-t8 : tie.Need-overflow-add-t8
 add-t8 c = search rules
 
 returns-3 : tie.Need-returns-3
-returns-3 c = rw (c.insert-tag.ensures, inserted _ _ _) (sym (chunk-met _ _ _ _ _ _ _ c.before.before.before.before.if1.false c.before.before.before.u64-at.ensures c.before.before.entries-length.ensures.0 c.before.if2.false))
+returns-3 c = rw (c.insert-tag.ensures, inserted _ _ _) (sym (chunk_met _ _ _ _ _ _ _ c.before.before.before.before.if1.false c.before.before.before.u64-at.ensures c.before.before.entries-length.ensures.0 c.before.if2.false))
 
 pub chunk-at-spec : {M : Type 1} → statement M
 chunk-at-spec =

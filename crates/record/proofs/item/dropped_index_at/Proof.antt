@@ -2,10 +2,10 @@
 use Prim.Native.Nat.{◌+◌}
 use mathlib.Core.Path.{sym, ap, ◌∙◌}
 use Rattle.directory.specs.declared.table.TableKind.TheVariants.{Index}
-use Rattle.record.specs.Inner.{gotTable, actionBy}
-use Rattle.record.specs.Record.{dropIndex}
+use Rattle.record.specs.Inner.{got_table, action_by}
+use Rattle.record.specs.Record.{drop_index}
 use Rattle.record.specs.declared.item.TableAnswer.{TableAnswer}
-use Rattle.record.proofs.Parts.{dropped-stop, dropped-met}
+use Rattle.record.proofs.Parts.{dropped-stop, dropped_met}
 use borrow.Author.Rules.{rules}
 use Rattle.record.proofs.item.dropped_index_at.Statement.{statement}
 use Rattle.record.proofs.item.dropped_index_at.Tie as tie
@@ -23,11 +23,11 @@ add-t8 : tie.Need-overflow-add-t8
 add-t8 c = search rules
 
 returns : tie.Need-returns
-returns c = λ d e. dropped-stop _ _ d Index dropIndex _ (sym (ap (λ (x : TableAnswer). gotTable x (c.before.before.before.before.before.args.body + 2)) c.before.a.given.1) ∙ c.before.before.before.table_at.ensures d Index e)
+returns c = λ d e. dropped-stop _ _ d Index drop_index _ (sym (ap (λ (x : TableAnswer). got_table x (c.before.before.before.before.before.args.body + 2)) c.before.a.given.1) ∙ c.before.before.before.table_at.ensures d Index e)
 
 returns-2 : tie.Need-returns-2
-unfolding actionBy
-returns-2 c = λ d e. dropped-met _ _ d Index dropIndex _ (sym (ap (λ (x : TableAnswer). gotTable x (c.before.before.before.before.before.args.body + 2)) c.before.number.given.1) ∙ c.before.before.before.table_at.ensures d Index e)
+unfolding action_by
+returns-2 c = λ d e. dropped_met _ _ d Index drop_index _ (sym (ap (λ (x : TableAnswer). got_table x (c.before.before.before.before.before.args.body + 2)) c.before.number.given.1) ∙ c.before.before.before.table_at.ensures d Index e)
 
 pub dropped-index-at-spec : {M : Type 1} → statement M
 dropped-index-at-spec =

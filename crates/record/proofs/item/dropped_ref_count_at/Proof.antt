@@ -2,10 +2,10 @@
 use Prim.Native.Nat.{◌+◌}
 use mathlib.Core.Path.{sym, ap, ◌∙◌}
 use Rattle.directory.specs.declared.table.TableKind.TheVariants.{RefCount}
-use Rattle.record.specs.Inner.{gotTable, actionBy}
-use Rattle.record.specs.Record.{dropRefCount}
+use Rattle.record.specs.Inner.{got_table, action_by}
+use Rattle.record.specs.Record.{drop_ref_count}
 use Rattle.record.specs.declared.item.TableAnswer.{TableAnswer}
-use Rattle.record.proofs.Parts.{dropped-stop, dropped-met}
+use Rattle.record.proofs.Parts.{dropped-stop, dropped_met}
 use borrow.Author.Rules.{rules}
 use Rattle.record.proofs.item.dropped_ref_count_at.Statement.{statement}
 use Rattle.record.proofs.item.dropped_ref_count_at.Tie as tie
@@ -23,11 +23,11 @@ add-t8 : tie.Need-overflow-add-t8
 add-t8 c = search rules
 
 returns : tie.Need-returns
-returns c = λ d e. dropped-stop _ _ d RefCount dropRefCount _ (sym (ap (λ (x : TableAnswer). gotTable x (c.before.before.before.before.before.args.body + 2)) c.before.a.given.1) ∙ c.before.before.before.table_at.ensures d RefCount e)
+returns c = λ d e. dropped-stop _ _ d RefCount drop_ref_count _ (sym (ap (λ (x : TableAnswer). got_table x (c.before.before.before.before.before.args.body + 2)) c.before.a.given.1) ∙ c.before.before.before.table_at.ensures d RefCount e)
 
 returns-2 : tie.Need-returns-2
-unfolding actionBy
-returns-2 c = λ d e. dropped-met _ _ d RefCount dropRefCount _ (sym (ap (λ (x : TableAnswer). gotTable x (c.before.before.before.before.before.args.body + 2)) c.before.number.given.1) ∙ c.before.before.before.table_at.ensures d RefCount e)
+unfolding action_by
+returns-2 c = λ d e. dropped_met _ _ d RefCount drop_ref_count _ (sym (ap (λ (x : TableAnswer). got_table x (c.before.before.before.before.before.args.body + 2)) c.before.number.given.1) ∙ c.before.before.before.table_at.ensures d RefCount e)
 
 pub dropped-ref-count-at-spec : {M : Type 1} → statement M
 dropped-ref-count-at-spec =

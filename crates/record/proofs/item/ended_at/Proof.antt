@@ -1,8 +1,8 @@
 -- `ended_at` meets its contract. Assumes nothing.
 use mathlib.Core.Path.{sym, ◌∙◌}
 use native.Mathlib.Nat.{add-zero}
-use Rattle.record.specs.Inner.{actionBy}
-use Rattle.record.proofs.Parts.{ended-short, ended-met}
+use Rattle.record.specs.Inner.{action_by}
+use Rattle.record.proofs.Parts.{ended-short, ended_met}
 use borrow.Author.Rules.{rules}
 use Rattle.record.proofs.item.ended_at.Statement.{statement}
 use Rattle.record.proofs.item.ended_at.Tie as tie
@@ -23,11 +23,11 @@ add-t12 : tie.Need-overflow-add-t12
 add-t12 c = search rules
 
 returns-2 : tie.Need-returns-2
-unfolding actionBy
-returns-2 c = sym (ended-met _ _ _ _ _ c.before.before.before.if1.false c.before.before.u32-at.ensures ∙ rw (sym c.before.sum-holds.ensures ∙ c.if2.true, add-zero))
+unfolding action_by
+returns-2 c = sym (ended_met _ _ _ _ _ c.before.before.before.if1.false c.before.before.u32-at.ensures ∙ rw (sym c.before.sum-holds.ensures ∙ c.if2.true, add-zero))
 
 returns-3 : tie.Need-returns-3
-returns-3 c = sym (ended-met _ _ _ _ _ c.before.before.before.if1.false c.before.before.u32-at.ensures ∙ rw (sym c.before.sum-holds.ensures ∙ c.if2.false))
+returns-3 c = sym (ended_met _ _ _ _ _ c.before.before.before.if1.false c.before.before.u32-at.ensures ∙ rw (sym c.before.sum-holds.ensures ∙ c.if2.false))
 
 pub ended-at-spec : {M : Type 1} → statement M
 ended-at-spec =

@@ -1,8 +1,8 @@
 -- `key_at` meets its contract. Assumes nothing.
 use mathlib.Core.Path.{sym, ap, ◌∙◌}
 use borrow.Author.Tests.{lt-ltb, le-ltb}
-use Rattle.directory.specs.Directory.{findTable}
-use Rattle.record.proofs.Parts.{key-short, key-met}
+use Rattle.directory.specs.Directory.{find_table}
+use Rattle.record.proofs.Parts.{key-short, key_met}
 use borrow.Author.Rules.{rules}
 use Rattle.record.proofs.item.key_at.Statement.{statement}
 use Rattle.record.proofs.item.key_at.Tie as tie
@@ -34,17 +34,17 @@ cast-count c = search rules
 returns-2 : tie.Need-returns-2
 returns-2 c = λ d kind e.
     let u = c.before.before.before in
-    sym (key-met _ _ d kind _ _ _ u.before.if1.false u.u16-at.ensures c.before.before.u64-at.ensures (sym c.enum_told.given.1 ∙ e ∙ ap (findTable d kind) (sym u.u16-at.ensures)))
+    sym (key_met _ _ d kind _ _ _ u.before.if1.false u.u16-at.ensures c.before.before.u64-at.ensures (sym c.enum_told.given.1 ∙ e ∙ ap (find_table d kind) (sym u.u16-at.ensures)))
 
 returns-3 : tie.Need-returns-3
 returns-3 c = λ d kind e.
     let u = c.before.before.before.before.before.before in
-    sym (key-met _ _ d kind _ _ _ u.before.if1.false u.u16-at.ensures c.before.before.before.before.before.u64-at.ensures (sym c.before.before.before.f.given.1 ∙ e ∙ ap (findTable d kind) (sym u.u16-at.ensures)) ∙ rw (lt-ltb _ _ c.if2.true))
+    sym (key_met _ _ d kind _ _ _ u.before.if1.false u.u16-at.ensures c.before.before.before.before.before.u64-at.ensures (sym c.before.before.before.f.given.1 ∙ e ∙ ap (find_table d kind) (sym u.u16-at.ensures)) ∙ rw (lt-ltb _ _ c.if2.true))
 
 returns-4 : tie.Need-returns-4
 returns-4 c = λ d kind e.
     let u = c.before.before.before.before.before.before in
-    sym (key-met _ _ d kind _ _ _ u.before.if1.false u.u16-at.ensures c.before.before.before.before.before.u64-at.ensures (sym c.before.before.before.f.given.1 ∙ e ∙ ap (findTable d kind) (sym u.u16-at.ensures)) ∙ rw (le-ltb _ _ c.if2.false))
+    sym (key_met _ _ d kind _ _ _ u.before.if1.false u.u16-at.ensures c.before.before.before.before.before.u64-at.ensures (sym c.before.before.before.f.given.1 ∙ e ∙ ap (find_table d kind) (sym u.u16-at.ensures)) ∙ rw (le-ltb _ _ c.if2.false))
 
 pub key-at-spec : {M : Type 1} → statement M
 key-at-spec =

@@ -1,12 +1,12 @@
 -- `sum_holds` meets its contract: the end tag's byte goes into the checksum too. Assumes nothing.
 use borrow.Author.Tests.{not-true, not-false}
-use Rattle.record.specs.Record.{sumHolds}
+use Rattle.record.specs.Record.{sum_holds}
 use borrow.Author.Rules.{rules}
 use Rattle.record.proofs.item.sum_holds.Statement.{statement}
 use Rattle.record.proofs.item.sum_holds.Tie as tie
 
 returns : tie.Need-returns
-unfolding sumHolds
+unfolding sum_holds
 returns c = rw (not-true c.before.args.validate c.if1.true)
 
 slice-aggregate-update : tie.Need-slice-aggregate-update
@@ -19,7 +19,7 @@ finish-requires : tie.Need-finish-requires
 finish-requires c κs = search rules
 
 returns-2 : tie.Need-returns-2
-unfolding sumHolds
+unfolding sum_holds
 returns-2 c = rw (not-false c.before.before.before.before.args.validate c.before.before.before.if1.false, c.finish.ensures, c.before.update.ensures)
 
 pub sum-holds-spec : {M : Type 1} → statement M

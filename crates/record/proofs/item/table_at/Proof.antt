@@ -1,7 +1,7 @@
 -- `table_at` meets its contract. Assumes nothing.
 use mathlib.Core.Path.{sym, ap, ◌∙◌}
-use Rattle.directory.specs.Directory.{findTable}
-use Rattle.record.proofs.Parts.{table-short, table-met}
+use Rattle.directory.specs.Directory.{find_table}
+use Rattle.record.proofs.Parts.{table-short, table_met}
 use borrow.Author.Rules.{rules}
 use Rattle.record.proofs.item.table_at.Statement.{statement}
 use Rattle.record.proofs.item.table_at.Tie as tie
@@ -24,12 +24,12 @@ enum-told-2 c = search rules
 returns-2 : tie.Need-returns-2
 returns-2 c = λ d kind e.
     let u = c.before.before in
-    sym (table-met _ _ d kind _ _ u.before.if1.false u.u16-at.ensures (sym c.enum_told.given.1 ∙ e ∙ ap (findTable d kind) (sym u.u16-at.ensures)))
+    sym (table_met _ _ d kind _ _ u.before.if1.false u.u16-at.ensures (sym c.enum_told.given.1 ∙ e ∙ ap (find_table d kind) (sym u.u16-at.ensures)))
 
 returns-3 : tie.Need-returns-3
 returns-3 c = λ d kind e.
     let u = c.before.before in
-    sym (table-met _ _ d kind _ _ u.before.if1.false u.u16-at.ensures (sym c.enum-told2.given.1 ∙ e ∙ ap (findTable d kind) (sym u.u16-at.ensures)))
+    sym (table_met _ _ d kind _ _ u.before.if1.false u.u16-at.ensures (sym c.enum-told2.given.1 ∙ e ∙ ap (find_table d kind) (sym u.u16-at.ensures)))
 
 pub table-at-spec : {M : Type 1} → statement M
 table-at-spec =

@@ -1,7 +1,7 @@
 -- `value_at` meets its contract. Assumes nothing.
 use mathlib.Core.Path.{sym}
-use Rattle.record.specs.Inner.{actionBy}
-use Rattle.record.proofs.Parts.{value-short, value-met}
+use Rattle.record.specs.Inner.{action_by}
+use Rattle.record.proofs.Parts.{value-short, value_met}
 use borrow.Author.Rules.{rules}
 use Rattle.record.proofs.item.value_at.Statement.{statement}
 use Rattle.record.proofs.item.value_at.Tie as tie
@@ -16,8 +16,8 @@ returns : tie.Need-returns
 returns c = sym (value-short _ _ _ (rw c.before.value-length.ensures at c.if1.true))
 
 returns-2 : tie.Need-returns-2
-unfolding actionBy
-returns-2 c = rw c.before.value-length.ensures (sym (value-met _ _ _ (rw c.before.value-length.ensures at c.if1.false)))
+unfolding action_by
+returns-2 c = rw c.before.value-length.ensures (sym (value_met _ _ _ (rw c.before.value-length.ensures at c.if1.false)))
 
 pub value-at-spec : {M : Type 1} → statement M
 value-at-spec = tie.close (tie.spec value-length-requires sub-if1 returns returns-2)

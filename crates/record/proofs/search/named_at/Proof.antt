@@ -1,6 +1,6 @@
 -- `named_at` meets its contract: one line a tag. Assumes nothing.
 use mathlib.Core.Path.{refl, ◌∙◌}
-use Rattle.record.specs.Inner.{namedByTag}
+use Rattle.record.specs.Inner.{named_by_tag}
 use Rattle.record.proofs.Naming.{unnamed, named-tag, named_none}
 use borrow.Author.Rules.{rules}
 use Rattle.record.proofs.search.named_at.Statement.{statement}
@@ -19,23 +19,23 @@ shared-slice-read-match : tie.Need-shared-slice-read-match
 shared-slice-read-match c = search rules
 
 returns-2 : tie.Need-returns-2
-unfolding namedByTag
+unfolding named_by_tag
 returns-2 c = named-tag c.before.before.before.before.before.args.log.now c.before.before.before.before.before.args.at 2 _ c.match.keys1 c.before.before.number_at.ensures
 
 returns-3 : tie.Need-returns-3
-unfolding namedByTag
+unfolding named_by_tag
 returns-3 c = named-tag c.before.before.before.before.before.args.log.now c.before.before.before.before.before.args.at 3 _ c.match.keys2 c.before.before.number_at.ensures
 
 returns-4 : tie.Need-returns-4
-unfolding namedByTag
+unfolding named_by_tag
 returns-4 c = named-tag c.before.before.before.before.before.args.log.now c.before.before.before.before.before.args.at 5 _ c.match.keys3 c.before.before.number_at.ensures
 
 returns-5 : tie.Need-returns-5
-unfolding namedByTag
+unfolding named_by_tag
 returns-5 c = named-tag c.before.before.before.before.before.args.log.now c.before.before.before.before.before.args.at 6 _ c.match.keys4 c.before.before.number_at.ensures
 
 returns-6 : tie.Need-returns-6
-unfolding namedByTag
+unfolding named_by_tag
 returns-6 c = named-tag c.before.before.before.before.before.args.log.now c.before.before.before.before.before.args.at 7 _ c.match.keys5 c.before.before.number_at.ensures
 
 returns-7 : tie.Need-returns-7

@@ -1,7 +1,7 @@
 -- `sought_in` meets its contract. Assumes nothing.
 use mathlib.Core.Path.{sym, ap, ◌∙◌}
-use Rattle.directory.specs.Inner.{directoryIn}
-use Rattle.record.specs.Inner.{lookedUp}
+use Rattle.directory.specs.Inner.{directory_in}
+use Rattle.record.specs.Inner.{looked_up}
 use borrow.Author.Rules.{rules}
 use Rattle.record.proofs.search.sought_in.Statement.{statement}
 use Rattle.record.proofs.search.sought_in.Tie as tie
@@ -19,12 +19,12 @@ find-in-requires : tie.Need-find-in-requires
 find-in-requires c κs = search rules
 
 returns : tie.Need-returns
-returns c = ap (lookedUp (directoryIn c.before.before.before.before.args.t.now)) (sym c.enum_told.given.1 ∙ c.before.before.named-at.ensures)
+returns c = ap (looked_up (directory_in c.before.before.before.before.args.t.now)) (sym c.enum_told.given.1 ∙ c.before.before.named-at.ensures)
 
 returns-2 : tie.Need-returns-2
 returns-2 c =
     c.find-in.ensures
-    ∙ ap (lookedUp (directoryIn c.before.before.before.before.before.before.args.t.now)) (sym c.before.before.kind.given.1 ∙ c.before.before.before.before.named-at.ensures)
+    ∙ ap (looked_up (directory_in c.before.before.before.before.before.before.args.t.now)) (sym c.before.before.kind.given.1 ∙ c.before.before.before.before.named-at.ensures)
 
 pub sought-in-spec : {M : Type 1} → statement M
 sought-in-spec =

@@ -7,24 +7,24 @@ use mathlib.Core.List.{List}
 use Prim.Native.Nat.{ℕ, suc, ◌-◌, ◌≤◌}
 use native.Mathlib.Omega.{arith}
 use lib.ListN.{length}
-use Rattle.directory.specs.Inner.{directoryIn}
-use Rattle.record.specs.Format.{readAt}
-use Rattle.record.specs.Inner.{gotItem}
+use Rattle.directory.specs.Inner.{directory_in}
+use Rattle.record.specs.Format.{read_at}
+use Rattle.record.specs.Inner.{got_item}
 use Rattle.record.specs.Record.{inside}
 use Rattle.record.specs.declared.item.ItemAnswer.TheVariants.{Read}
 use Rattle.record.specs.declared.reader.LogReader.{LogReader}
 use Rattle.effect.proofs.Sized.{payload-sized}
-use Rattle.replay.specs.Inner.{isWalked, moved_to}
-use Rattle.replay.specs.Replay.{rest_of, imageAfter}
-use Rattle.replay.proofs.Items.{item_refused, item-taken, item-place, item-next}
-use Rattle.replay.proofs.Rest.{unstopped, last-applied, more-applied}
+use Rattle.replay.specs.Inner.{is_walked, moved_to}
+use Rattle.replay.specs.Replay.{rest_of, image_after}
+use Rattle.replay.proofs.Items.{item_refused, item_taken, item_place, item_next}
+use Rattle.replay.proofs.Rest.{unstopped, last_applied, more_applied}
 use Rattle.replay.proofs.apply.apply_rest.Statement.{statement}
 use Rattle.replay.proofs.apply.apply_rest.Tie as tie
 
 abbrev invariant-loop : tie.invariant-loop
 invariant-loop t log r image₀ at₀ image at =
-    (at ≤ length log) × (length image ≡ length image₀) × (isWalked (rest_of (suc (length log)) (directoryIn t) log (moved_to r at)) ≡ true)
-    × (imageAfter (directoryIn t) image (rest_of (suc (length log)) (directoryIn t) log (moved_to r at)) ≡ imageAfter (directoryIn t) image₀ (rest_of (suc (length log)) (directoryIn t) log r))
+    (at ≤ length log) × (length image ≡ length image₀) × (is_walked (rest_of (suc (length log)) (directory_in t) log (moved_to r at)) ≡ true)
+    × (image_after (directory_in t) image (rest_of (suc (length log)) (directory_in t) log (moved_to r at)) ≡ image_after (directory_in t) image₀ (rest_of (suc (length log)) (directory_in t) log r))
 
 abbrev decreases-loop : tie.decreases-loop
 decreases-loop t log r image₀ at₀ image at = length log - at
@@ -36,18 +36,18 @@ sought-in-requires : tie.Need-sought-in-requires invariant-loop decreases-loop
 sought-in-requires c κs = (c.before.before.before.requires.0.flat, c.loop.invariant.0)
 
 item-at-requires : tie.Need-item-at-requires invariant-loop decreases-loop
-item-at-requires c κs = (c.before.loop.invariant.0, record { directory = directoryIn c.before.before.before.before.args.t.now; same = c.sought-in.ensures })
+item-at-requires c κs = (c.before.loop.invariant.0, record { directory = directory_in c.before.before.before.before.args.t.now; same = c.sought-in.ensures })
 
 -- what is read where the walk stands
-read : (u : tie.After-item-at invariant-loop decreases-loop) → gotItem u.item-at.result
-    ≡ readAt (inside (directoryIn u.before.before.before.before.before.args.t.now) u.before.before.before.before.before.args.r.validate u.before.before.before.before.before.args.r.crc32)
+read : (u : tie.After-item-at invariant-loop decreases-loop) → got_item u.item-at.result
+    ≡ read_at (inside (directory_in u.before.before.before.before.before.args.t.now) u.before.before.before.before.before.args.r.validate u.before.before.before.before.before.args.r.crc32)
     u.before.before.loop.at u.before.before.before.before.before.args.log.now
-read u = u.item-at.ensures (directoryIn u.before.before.before.before.before.args.t.now) u.before.sought-in.ensures
+read u = u.item-at.ensures (directory_in u.before.before.before.before.before.args.t.now) u.before.sought-in.ensures
 
-taken : (k : tie.After-action invariant-loop decreases-loop) → gotItem (Read k.before.before.i.given.0.0)
-    ≡ readAt (inside (directoryIn k.before.before.before.before.before.before.before.before.before.args.t.now) k.before.before.before.before.before.before.before.before.before.args.r.validate k.before.before.before.before.before.before.before.before.before.args.r.crc32)
+taken : (k : tie.After-action invariant-loop decreases-loop) → got_item (Read k.before.before.i.given.0.0)
+    ≡ read_at (inside (directory_in k.before.before.before.before.before.before.before.before.before.args.t.now) k.before.before.before.before.before.before.before.before.before.args.r.validate k.before.before.before.before.before.before.before.before.before.args.r.crc32)
     k.before.before.before.before.before.before.loop.at k.before.before.before.before.before.before.before.before.before.args.log.now
-taken k = sym (ap gotItem k.before.before.i.given.1) ∙ read k.before.before.before.before
+taken k = sym (ap got_item k.before.before.i.given.1) ∙ read k.before.before.before.before
 
 enum_told : tie.Need-enum-told invariant-loop decreases-loop
 enum_told c = search rules
@@ -61,9 +61,9 @@ returns c =
     let l = u.before.before in
     let s = l.before.before.before in
     let a = s.args in
-    let d = directoryIn a.t.now in
+    let d = directory_in a.t.now in
     absurd (unstopped d a.log.now (moved_to a.r l.loop.at) _ l.loop.invariant.2
-    (item_refused d a.log.now a.r s.requires.1 l.loop.at l.loop.invariant.0 _ (sym (ap gotItem c.enum_told.given.1) ∙ read u)))
+    (item_refused d a.log.now a.r s.requires.1 l.loop.at l.loop.invariant.0 _ (sym (ap got_item c.enum_told.given.1) ∙ read u)))
 
 enum-known-i : tie.Need-enum-known-i invariant-loop decreases-loop
 enum-known-i c = search rules
@@ -83,8 +83,8 @@ returns-2 c =
     let l = k.before.before.before.before.before.before in
     let s = l.before.before.before in
     let a = s.args in
-    let d = directoryIn a.t.now in
-    last-applied d a.log.now (moved_to a.r l.loop.at) _ l.loop.image (item-taken d a.log.now a.r s.requires.1 l.loop.at l.loop.invariant.0 _ _ k.action.ensures (taken k)) (sym c.before.is-end.ensures ∙ c.if1.true)
+    let d = directory_in a.t.now in
+    last_applied d a.log.now (moved_to a.r l.loop.at) _ l.loop.image (item_taken d a.log.now a.r s.requires.1 l.loop.at l.loop.invariant.0 _ _ k.action.ensures (taken k)) (sym c.before.is-end.ensures ∙ c.if1.true)
     ∙ l.loop.invariant.3
 
 apply-action-requires : tie.Need-apply-action-requires invariant-loop decreases-loop
@@ -93,8 +93,8 @@ apply-action-requires c κs =
     let l = k.before.before.before.before.before.before in
     let s = l.before.before.before in
     let a = s.args in
-    let d = directoryIn a.t.now in
-    let p = payload-sized d a.log.now (moved_to a.r l.loop.at) _ (item-taken d a.log.now a.r s.requires.1 l.loop.at l.loop.invariant.0 _ _ k.action.ensures (taken k)) in
+    let d = directory_in a.t.now in
+    let p = payload-sized d a.log.now (moved_to a.r l.loop.at) _ (item_taken d a.log.now a.r s.requires.1 l.loop.at l.loop.invariant.0 _ _ k.action.ensures (taken k)) in
     (p.within, ((s.requires.0.flat, l.loop.invariant.1 ∙ s.requires.0.long), p.sized))
 
 add_at : tie.Need-overflow-add-at invariant-loop decreases-loop
@@ -103,7 +103,7 @@ add_at c =
     let l = k.before.before.before.before.before.before in
     let s = l.before.before.before in
     let a = s.args in
-    omega (arith, (item-place (directoryIn a.t.now) a.log.now a.r s.requires.1 l.loop.at l.loop.invariant.0 _ _ k.action.ensures (taken k)).1)
+    omega (arith, (item_place (directory_in a.t.now) a.log.now a.r s.requires.1 l.loop.at l.loop.invariant.0 _ _ k.action.ensures (taken k)).1)
 
 loop-less : tie.Need-loop-smaller invariant-loop decreases-loop
 loop-less c =
@@ -111,7 +111,7 @@ loop-less c =
     let l = k.before.before.before.before.before.before in
     let s = l.before.before.before in
     let a = s.args in
-    let p = item-place (directoryIn a.t.now) a.log.now a.r s.requires.1 l.loop.at l.loop.invariant.0 _ _ k.action.ensures (taken k) in
+    let p = item_place (directory_in a.t.now) a.log.now a.r s.requires.1 l.loop.at l.loop.invariant.0 _ _ k.action.ensures (taken k) in
     omega (arith, p.0, p.1)
 
 loop-again : tie.Need-loop-preserved invariant-loop decreases-loop
@@ -120,16 +120,16 @@ loop-again c =
     let l = k.before.before.before.before.before.before in
     let s = l.before.before.before in
     let a = s.args in
-    let d = directoryIn a.t.now in
+    let d = directory_in a.t.now in
     let log = a.log.now in
     let ended = sym c.before.before.before.before.before.before.is-end.ensures ∙ c.before.before.before.before.before.if1.false in
-    let m = more-applied d log (moved_to a.r l.loop.at) _ l.loop.image (item-taken d log a.r s.requires.1 l.loop.at l.loop.invariant.0 _ _ k.action.ensures (taken k)) ended l.loop.invariant.2 in
-    let next = item-next d log a.r s.requires.1 l.loop.at l.loop.invariant.0 _ _ k.action.ensures (taken k) ended in
+    let m = more_applied d log (moved_to a.r l.loop.at) _ l.loop.image (item_taken d log a.r s.requires.1 l.loop.at l.loop.invariant.0 _ _ k.action.ensures (taken k)) ended l.loop.invariant.2 in
+    let next = item_next d log a.r s.requires.1 l.loop.at l.loop.invariant.0 _ _ k.action.ensures (taken k) ended in
     let done = c.before.before.before.apply-action in (
-      (item-place d log a.r s.requires.1 l.loop.at l.loop.invariant.0 _ _ k.action.ensures (taken k)).1,
+      (item_place d log a.r s.requires.1 l.loop.at l.loop.invariant.0 _ _ k.action.ensures (taken k)).1,
       done.auto.1.1.1.1.1.0 ∙ l.loop.invariant.1,
-      ap (λ (x : LogReader). isWalked (rest_of (suc (length log)) d log x)) (sym next) ∙ m.0,
-      ap₂ (λ (i : List ℕ) (x : LogReader). imageAfter d i (rest_of (suc (length log)) d log x)) done.ensures (sym next) ∙ sym m.1 ∙ l.loop.invariant.3,
+      ap (λ (x : LogReader). is_walked (rest_of (suc (length log)) d log x)) (sym next) ∙ m.0,
+      ap₂ (λ (i : List ℕ) (x : LogReader). image_after d i (rest_of (suc (length log)) d log x)) done.ensures (sym next) ∙ sym m.1 ∙ l.loop.invariant.3,
     )
 
 pub apply-rest-spec : {M : Type 1} → statement M

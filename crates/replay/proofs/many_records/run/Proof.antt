@@ -1,7 +1,7 @@
 -- `run` meets its contract: 13 first. Assumes nothing.
 use mathlib.Core.Path.{refl, sym, ap, ◌∙◌}
 use Rattle.replay.specs.Run.{Outcome}
-use Rattle.replay.proofs.Records.{run-kept, run-bad}
+use Rattle.replay.proofs.Records.{run-kept, run_bad}
 use borrow.Author.Rules.{rules}
 use Rattle.replay.proofs.many_records.run.Statement.{statement}
 use Rattle.replay.proofs.many_records.run.Tie as tie
@@ -31,7 +31,7 @@ same-length-2 c = refl
 returns-2 : tie.Need-returns-2
 returns-2 c =
     let a = c.before.before.before.before.before.args in
-    let e = run-bad a.d a.log.now a.at a.expected a.image.now (sym c.before.tables-kept.ensures ∙ c.if1.false) in
+    let e = run_bad a.d a.log.now a.at a.expected a.image.now (sym c.before.tables-kept.ensures ∙ c.if1.false) in
     (sym (ap (λ (o : Outcome). o.ran) e), sym (ap (λ (o : Outcome). o.image) e))
 
 pub run_spec : {M : Type 1} → statement M

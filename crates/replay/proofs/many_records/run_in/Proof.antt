@@ -4,10 +4,10 @@ use borrow.Author.Rules.{rules}
 use mathlib.Core.Path.{◌≡◌, refl, sym, ap, ◌∙◌}
 use Prim.Native.Nat.{suc, ◌-◌, ◌≤◌}
 use native.Mathlib.Omega.{arith}
-use Rattle.directory.specs.Inner.{directoryIn}
+use Rattle.directory.specs.Inner.{directory_in}
 use borrow.Author.Tests.{eq-eqb, ne_eqb}
 use lib.ListN.{length}
-use Rattle.answer.specs.Answer.{lastRecordId}
+use Rattle.answer.specs.Answer.{last_record_id}
 use Rattle.replay.specs.Run.{Outcome, run_from}
 use Rattle.replay.proofs.Records.{turn-stop, turn_last, turn_more, turn_on}
 use Rattle.replay.proofs.many_records.run_in.Statement.{statement}
@@ -15,8 +15,8 @@ use Rattle.replay.proofs.many_records.run_in.Tie as tie
 
 abbrev invariant-loop : tie.invariant-loop
 invariant-loop t log at expected image₀ position₀ id₀ count₀ image position id count =
-    (length image ≡ length image₀) × (count ≤ position) × (id ≤ lastRecordId)
-    × (run_from (suc (length log)) (directoryIn t) log position id count image ≡ run_from (suc (length log)) (directoryIn t) log position₀ id₀ count₀ image₀)
+    (length image ≡ length image₀) × (count ≤ position) × (id ≤ last_record_id)
+    × (run_from (suc (length log)) (directory_in t) log position id count image ≡ run_from (suc (length log)) (directory_in t) log position₀ id₀ count₀ image₀)
 
 abbrev decreases-loop : tie.decreases-loop
 decreases-loop t log at expected image₀ position₀ id₀ count₀ image position id count = length log - position
@@ -39,7 +39,7 @@ returns : tie.Need-returns invariant-loop decreases-loop
 returns c =
     let l = c.before.before.before.before.before.before.before.loop in
     let a = c.before.before.before.before.before.before.before.before.before.before.args in
-    let e = sym (turn-stop (directoryIn a.t.now) a.log.now l.position l.id l.count l.image _ c.before.before.before.before.before.replay-in.ensures.1 _ (sym c.before.x.given.1 ∙ c.before.before.before.before.before.replay-in.ensures.0)) ∙ l.invariant.3 in
+    let e = sym (turn-stop (directory_in a.t.now) a.log.now l.position l.id l.count l.image _ c.before.before.before.before.before.replay-in.ensures.1 _ (sym c.before.x.given.1 ∙ c.before.before.before.before.before.replay-in.ensures.0)) ∙ l.invariant.3 in
     (ap (λ (o : Outcome). o.ran) e, ap (λ (o : Outcome). o.image) e)
 
 enum-known-end : tie.Need-enum-known-end invariant-loop decreases-loop
@@ -49,7 +49,7 @@ add-count : tie.Need-overflow-add-count invariant-loop decreases-loop
 add-count c =
     let l = c.before.before.before.before.before.before.before.loop in
     let a = c.before.before.before.before.before.before.before.before.before.before.args in
-    let o = turn_on (directoryIn a.t.now) a.log.now l.position l.id l.count l.image _ c.before.before.before.before.before.replay-in.ensures.1 _ (sym c.before.end.given.1 ∙ c.before.before.before.before.before.replay-in.ensures.0) in
+    let o = turn_on (directory_in a.t.now) a.log.now l.position l.id l.count l.image _ c.before.before.before.before.before.replay-in.ensures.1 _ (sym c.before.end.given.1 ∙ c.before.before.before.before.before.replay-in.ensures.0) in
     omega (arith, o.forward, o.inside, l.invariant.1)
 
 same-length-2 : tie.Need-same-length-2 invariant-loop decreases-loop
@@ -59,7 +59,7 @@ returns-2 : tie.Need-returns-2 invariant-loop decreases-loop
 returns-2 c =
     let l = c.before.before.before.before.before.before.before.before.loop in
     let a = c.before.before.before.before.before.before.before.before.before.before.before.args in
-    let e = sym (turn_last (directoryIn a.t.now) a.log.now l.position l.id l.count l.image _ c.before.before.before.before.before.before.replay-in.ensures.1 _ (sym c.before.before.end.given.1 ∙ c.before.before.before.before.before.before.replay-in.ensures.0) (eq-eqb _ _ c.if1.true)) ∙ l.invariant.3 in
+    let e = sym (turn_last (directory_in a.t.now) a.log.now l.position l.id l.count l.image _ c.before.before.before.before.before.before.replay-in.ensures.1 _ (sym c.before.before.end.given.1 ∙ c.before.before.before.before.before.before.replay-in.ensures.0) (eq-eqb _ _ c.if1.true)) ∙ l.invariant.3 in
     (ap (λ (o : Outcome). o.ran) e, ap (λ (o : Outcome). o.image) e)
 
 add-id : tie.Need-overflow-add-id invariant-loop decreases-loop
@@ -69,18 +69,18 @@ loop-less : tie.Need-loop-smaller invariant-loop decreases-loop
 loop-less c =
     let l = c.before.before.before.before.before.before.before.before.loop in
     let a = c.before.before.before.before.before.before.before.before.before.before.before.args in
-    let o = turn_on (directoryIn a.t.now) a.log.now l.position l.id l.count l.image _ c.before.before.before.before.before.before.replay-in.ensures.1 _ (sym c.before.before.end.given.1 ∙ c.before.before.before.before.before.before.replay-in.ensures.0) in
+    let o = turn_on (directory_in a.t.now) a.log.now l.position l.id l.count l.image _ c.before.before.before.before.before.before.replay-in.ensures.1 _ (sym c.before.before.end.given.1 ∙ c.before.before.before.before.before.before.replay-in.ensures.0) in
     omega (arith, o.forward, o.inside)
 
 loop-again : tie.Need-loop-preserved invariant-loop decreases-loop
 loop-again c =
     let l = c.before.before.before.before.before.before.before.before.loop in
     let a = c.before.before.before.before.before.before.before.before.before.before.before.args in
-    let o = turn_on (directoryIn a.t.now) a.log.now l.position l.id l.count l.image _ c.before.before.before.before.before.before.replay-in.ensures.1 _ (sym c.before.before.end.given.1 ∙ c.before.before.before.before.before.before.replay-in.ensures.0) in (
+    let o = turn_on (directory_in a.t.now) a.log.now l.position l.id l.count l.image _ c.before.before.before.before.before.before.replay-in.ensures.1 _ (sym c.before.before.end.given.1 ∙ c.before.before.before.before.before.before.replay-in.ensures.0) in (
       c.before.before.before.before.before.before.replay-in.auto.1.1.1.1.0 ∙ l.invariant.0,
       omega (arith, o.forward, l.invariant.1),
       omega (arith, l.invariant.2),
-      sym (turn_more (directoryIn a.t.now) a.log.now l.position l.id l.count l.image _ c.before.before.before.before.before.before.replay-in.ensures.1 _ (sym c.before.before.end.given.1 ∙ c.before.before.before.before.before.before.replay-in.ensures.0) (ne_eqb _ _ c.if1.false)) ∙ l.invariant.3,
+      sym (turn_more (directory_in a.t.now) a.log.now l.position l.id l.count l.image _ c.before.before.before.before.before.before.replay-in.ensures.1 _ (sym c.before.before.end.given.1 ∙ c.before.before.before.before.before.before.replay-in.ensures.0) (ne_eqb _ _ c.if1.false)) ∙ l.invariant.3,
     )
 
 pub run-in-spec : {M : Type 1} → statement M

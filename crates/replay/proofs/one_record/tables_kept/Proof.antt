@@ -1,6 +1,6 @@
 -- `tables_kept` meets its contract. Assumes nothing.
 use mathlib.Core.Path.{sym, ◌∙◌}
-use Rattle.replay.specs.Replay.{tablesKept}
+use Rattle.replay.specs.Replay.{tables_kept}
 use borrow.Author.Rules.{rules}
 use Rattle.replay.proofs.one_record.tables_kept.Statement.{statement}
 use Rattle.replay.proofs.one_record.tables_kept.Tie as tie
@@ -16,11 +16,11 @@ image-length-requires : tie.Need-image-length-requires
 image-length-requires c κs = search rules
 
 returns : tie.Need-returns
-unfolding tablesKept
+unfolding tables_kept
 returns c = rw (sym c.before.before.kept.ensures ∙ c.before.if1.true, c.image-length.ensures)
 
 returns-2 : tie.Need-returns-2
-unfolding tablesKept
+unfolding tables_kept
 returns-2 c = rw (sym c.before.kept.ensures ∙ c.if1.false)
 
 pub tables-kept-spec : {M : Type 1} → statement M

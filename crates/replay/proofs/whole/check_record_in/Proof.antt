@@ -2,14 +2,14 @@
 use mathlib.Core.Path.{◌≡◌, refl, sym, ap, ◌∙◌}
 use mathlib.Core.Bool.{true}
 use Prim.Native.Nat.{suc}
-use Rattle.directory.specs.Inner.{directoryIn}
+use Rattle.directory.specs.Inner.{directory_in}
 use lib.ListN.{length}
-use Rattle.record.specs.Next.{readerAt, openingOf, step_of}
+use Rattle.record.specs.Next.{reader_at, opening_of, step_of}
 use Rattle.record.specs.declared.reader.LogReader.{LogReader}
 use Rattle.replay.specs.Replay.{rest_of, whole_of}
 use Rattle.record.proofs.Steps.{step-opens}
 use Rattle.replay.proofs.Opening.{opening}
-use Rattle.replay.proofs.AnyId.{whole-not, whole_is}
+use Rattle.replay.proofs.AnyId.{whole_not, whole_is}
 use borrow.Author.Rules.{rules}
 use Rattle.replay.proofs.whole.check_record_in.Statement.{statement}
 use Rattle.replay.proofs.whole.check_record_in.Tie as tie
@@ -21,10 +21,10 @@ open-requires : tie.Need-open-requires
 open-requires c κs = search rules
 
 -- what the opening's step gave, of the reader that `new` made
-stepped : (u : tie.After-open) → u.open.result ≡ step_of (directoryIn u.before.before.before.args.t.now) u.before.before.before.args.log.now (readerAt u.before.before.before.args.at true)
+stepped : (u : tie.After-open) → u.open.result ≡ step_of (directory_in u.before.before.before.args.t.now) u.before.before.before.args.log.now (reader_at u.before.before.before.args.at true)
 stepped u =
     let a = u.before.before.before.args in
-    u.open.ensures ∙ ap (λ (r : LogReader). openingOf a.log.now r) u.before.new.ensures ∙ sym (step-opens (directoryIn a.t.now) a.log.now (readerAt a.at true) refl)
+    u.open.ensures ∙ ap (λ (r : LogReader). opening_of a.log.now r) u.before.new.ensures ∙ sym (step-opens (directory_in a.t.now) a.log.now (reader_at a.at true) refl)
 
 enum-known-x : tie.Need-enum-known-x
 enum-known-x c = search rules
@@ -35,7 +35,7 @@ enum-known-s c = search rules
 checked-rest-requires : tie.Need-checked-rest-requires
 checked-rest-requires c κs =
     let u = c.before.before.before.before in
-    (u.before.before.before.requires, opening (directoryIn u.before.before.before.args.t.now) _ _ _ (sym (stepped u) ∙ c.before.before.s.given.1))
+    (u.before.before.before.requires, opening (directory_in u.before.before.before.args.t.now) _ _ _ (sym (stepped u) ∙ c.before.before.s.given.1))
 
 enum-known-x-2 : tie.Need-enum-known-x-2
 enum-known-x-2 c = search rules
@@ -52,13 +52,13 @@ returns-2 : tie.Need-returns-2
 returns-2 c =
     let u = c.before.before.before.before.before.before.before.before in
     let a = u.before.before.before.args in
-    whole-not (rest_of (suc (length a.log.now)) (directoryIn a.t.now) a.log.now) _ _ (sym (stepped u) ∙ c.before.before.before.before.before.before.s.given.1) _ (sym c.before.x2.given.1 ∙ c.before.before.before.checked-rest.ensures)
+    whole_not (rest_of (suc (length a.log.now)) (directory_in a.t.now) a.log.now) _ _ (sym (stepped u) ∙ c.before.before.before.before.before.before.s.given.1) _ (sym c.before.x2.given.1 ∙ c.before.before.before.checked-rest.ensures)
 
 returns-3 : tie.Need-returns-3
 returns-3 c =
     let u = c.before.before.before.before.before.before.before.before in
     let a = u.before.before.before.args in
-    whole_is (rest_of (suc (length a.log.now)) (directoryIn a.t.now) a.log.now) _ _ (sym (stepped u) ∙ c.before.before.before.before.before.before.s.given.1) _ (sym c.before.end.given.1 ∙ c.before.before.before.checked-rest.ensures)
+    whole_is (rest_of (suc (length a.log.now)) (directory_in a.t.now) a.log.now) _ _ (sym (stepped u) ∙ c.before.before.before.before.before.before.s.given.1) _ (sym c.before.end.given.1 ∙ c.before.before.before.checked-rest.ensures)
 
 pub check-record-in-spec : {M : Type 1} → statement M
 check-record-in-spec =

@@ -1,6 +1,6 @@
 -- `keep_records` meets its contract and ends. The invariant: the lines cover no more than was gone through. Assumes nothing.
 use Rattle.std.proofs.Common.{◌+◌, ◌-◌, ◌<◌, ◌≤◌, length, arith, rules}
-use Rattle.salvaging.proofs.Seeking.{inside-record, inside-open}
+use Rattle.salvaging.proofs.Seeking.{inside_record, inside_open}
 use Rattle.salvage.specs.Bounds.{Covering}
 use Rattle.salvage.proofs.pass.keep_records.Statement.{statement}
 use Rattle.salvage.proofs.pass.keep_records.Tie as tie
@@ -36,7 +36,7 @@ returns-2 : tie.Need-returns-2 invariant-loop decreases-loop
 returns-2 c =
     let l = c.before.before.before.before.before.loop in
     let s = c.before.before.before.before.search-kept in
-    omega (arith, c.gone2.ensures, l.invariant, inside-open s.result l.at (length c.before.before.before.before.before.before.before.args.bytes.now) s.ensures.1 _ c.before.before.place.given.1)
+    omega (arith, c.gone2.ensures, l.invariant, inside_open s.result l.at (length c.before.before.before.before.before.before.before.args.bytes.now) s.ensures.1 _ c.before.before.place.given.1)
 
 -- where the record lies
 spot : (c : tie.After-known-told2 invariant-loop decreases-loop)
@@ -45,7 +45,7 @@ spot : (c : tie.After-known-told2 invariant-loop decreases-loop)
 spot c =
     let l = c.before.before.before.before.loop in
     let s = c.before.before.before.search-kept in
-    inside-record s.result l.at (length c.before.before.before.before.before.before.args.bytes.now) s.ensures.1 _ c.before.f.given.1
+    inside_record s.result l.at (length c.before.before.before.before.before.before.args.bytes.now) s.ensures.1 _ c.before.f.given.1
 
 enum-known-f : tie.Need-enum-known-f invariant-loop decreases-loop
 enum-known-f c = search rules

@@ -3,8 +3,8 @@ use mathlib.Core.Path.{◌≡◌, ap}
 use Prim.Native.Nat.{◌+◌, ◌-◌, ◌*◌, ◌≤◌}
 use native.Mathlib.Omega.{arith}
 use lib.ListN.{length, get_or, take, drop}
-use Rattle.output.proofs.Laws.{wrote-nil}
-use Rattle.salvaging.specs.Salvage.{lineBytes}
+use Rattle.output.proofs.Laws.{wrote_nil}
+use Rattle.salvaging.specs.Salvage.{line_bytes}
 use Rattle.salvaging.specs.Inner.{line_of}
 use Rattle.salvaging.proofs.Copied.{lost-bytes, kept-within, kept-bytes}
 use borrow.Author.Rules.{rules}
@@ -23,7 +23,7 @@ element-copy-out-if1 c = search rules
 returns : tie.Need-returns
 returns c =
     let a = c.before.before.before.before.args in
-    rw (lost-bytes a.words.now a.log.now (4 * a.i) c.if1.true) (wrote-nil a.out.now a.at)
+    rw (lost-bytes a.words.now a.log.now (4 * a.i) c.if1.true) (wrote_nil a.out.now a.at)
 
 add-from : tie.Need-overflow-add-from
 add-from c = search rules
@@ -52,7 +52,7 @@ inside c =
 
 -- and these are its bytes
 bytes : (c : tie.Else1)
-    → lineBytes c.before.before.before.before.args.log.now (line_of (drop (4 * c.before.before.before.before.args.i) c.before.before.before.before.args.words.now))
+    → line_bytes c.before.before.before.before.args.log.now (line_of (drop (4 * c.before.before.before.before.args.i) c.before.before.before.before.args.words.now))
     ≡ take (get_or c.before.before.before.before.args.words.now (4 * c.before.before.before.before.args.i + 1) 0 + get_or c.before.before.before.before.args.words.now (4 * c.before.before.before.before.args.i + 2) 0 - get_or c.before.before.before.before.args.words.now (4 * c.before.before.before.before.args.i + 1) 0) (drop (get_or c.before.before.before.before.args.words.now (4 * c.before.before.before.before.args.i + 1) 0) c.before.before.before.before.args.log.now)
 bytes c =
     let a = c.before.before.before.before.args in

@@ -6,16 +6,16 @@ use borrow.Author.Rules.{rules}
 use lib.ListN.{length}
 use Rattle.output.specs.Put.{put, Wrote}
 use Rattle.output.proofs.Laws.{all_left}
-use Rattle.salvaging.specs.Salvage.{keptBytes}
-use Rattle.salvaging.specs.Inner.{linesIn, AllWithin}
-use Rattle.salvaging.proofs.Copied.{linesLeft, none_passed, line-within, rest-within, line-room, line-rest, lines-done}
+use Rattle.salvaging.specs.Salvage.{kept_bytes}
+use Rattle.salvaging.specs.Inner.{lines_in, AllWithin}
+use Rattle.salvaging.proofs.Copied.{lines_left, none_passed, line-within, rest-within, line-room, line-rest, lines-done}
 use Rattle.salvaging.proofs.copying.put_records.Statement.{statement}
 use Rattle.salvaging.proofs.copying.put_records.Tie as tie
 
 abbrev invariant-loop : tie.invariant-loop
 invariant-loop words count log out₀ at₀ i₀ out at i =
-    (i ≤ count) × (length out ≡ length out₀) × AllWithin (length log) (linesLeft words count i)
-    × Wrote out at (keptBytes log (linesLeft words count i)) (put out₀ 0 (keptBytes log (linesIn count words))) (0 + length (keptBytes log (linesIn count words)))
+    (i ≤ count) × (length out ≡ length out₀) × AllWithin (length log) (lines_left words count i)
+    × Wrote out at (kept_bytes log (lines_left words count i)) (put out₀ 0 (kept_bytes log (lines_in count words))) (0 + length (kept_bytes log (lines_in count words)))
 
 abbrev decreases-loop : tie.decreases-loop
 decreases-loop words count log out₀ at₀ i₀ out at i = count - i
@@ -23,7 +23,7 @@ decreases-loop words count log out₀ at₀ i₀ out at i = count - i
 loop-holds : tie.Need-loop-init invariant-loop decreases-loop
 loop-holds c =
     let s = c.before.before in
-    let e : linesLeft s.args.words.now s.args.count 0 ≡ linesIn s.args.count s.args.words.now = none_passed s.args.words.now s.args.count in
+    let e : lines_left s.args.words.now s.args.count 0 ≡ lines_in s.args.count s.args.words.now = none_passed s.args.words.now s.args.count in
     (search rules, refl, rw e s.requires.1, rw e (all_left _ _ _))
 
 put-record-requires : tie.Need-put-record-requires invariant-loop decreases-loop

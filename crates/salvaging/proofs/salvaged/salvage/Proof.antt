@@ -1,7 +1,7 @@
 -- `salvage` meets its contract. Assumes nothing.
 use mathlib.Core.Path.{sym, ◌∙◌}
 use borrow.Author.Tests.{not-true, not-false}
-use Rattle.salvaging.proofs.Calls.{bad-directory, bad-memory, door}
+use Rattle.salvaging.proofs.Calls.{bad_directory, bad_memory, door}
 use borrow.Author.Rules.{rules}
 use Rattle.salvaging.proofs.salvaged.salvage.Statement.{statement}
 use Rattle.salvaging.proofs.salvaged.salvage.Tie as tie
@@ -15,7 +15,7 @@ refused-requires c κs = search rules
 returns : tie.Need-returns
 returns c =
     let a = c.before.before.before.before.before.before.args in
-    bad-directory a.d a.log.now a.out.now a.list.now c.refused.result (sym c.before.before.kept.ensures ∙ not-true _ c.before.if1.true) c.refused.ensures
+    bad_directory a.d a.log.now a.out.now a.list.now c.refused.result (sym c.before.before.kept.ensures ∙ not-true _ c.before.if1.true) c.refused.ensures
 
 refused-requires-2 : tie.Need-refused-requires-2
 refused-requires-2 c κs = search rules
@@ -23,7 +23,7 @@ refused-requires-2 c κs = search rules
 returns-2 : tie.Need-returns-2
 returns-2 c =
     let a = c.before.before.before.before.before.before.before.args in
-    bad-memory a.d a.log.now a.out.now a.list.now c.refused2.result (sym c.before.before.before.kept.ensures ∙ not-false _ c.before.before.if1.false) c.before.if2.true c.refused2.ensures
+    bad_memory a.d a.log.now a.out.now a.list.now c.refused2.result (sym c.before.before.before.kept.ensures ∙ not-false _ c.before.before.if1.false) c.before.if2.true c.refused2.ensures
 
 salvage-kept-requires : tie.Need-salvage-kept-requires
 salvage-kept-requires c κs = (sym c.before.before.before.before.kept.ensures ∙ not-false _ c.before.before.before.if1.false, c.before.before.if2.false)

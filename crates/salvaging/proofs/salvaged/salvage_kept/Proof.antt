@@ -1,6 +1,6 @@
 -- `salvage_kept` meets its contract. Assumes nothing.
 use Rattle.salvaging.specs.Inner.{Lists}
-use Rattle.salvaging.specs.Salvage.{linesOf}
+use Rattle.salvaging.specs.Salvage.{lines_of}
 use Rattle.salvaging.proofs.Calls.{over-64, short-output, all-within, all-fits, all-put}
 use borrow.Author.Rules.{rules}
 use Rattle.salvaging.proofs.salvaged.salvage_kept.Statement.{statement}
@@ -17,7 +17,7 @@ module _ (u : tie.After-lines-of) where
   abbrev s : tie.Start
   s = u.before.before.before.before.before.before
 
-  listed : Lists s.args.log.now u.lines_of.result (linesOf s.args.d s.args.log.now)
+  listed : Lists s.args.log.now u.lines_of.result (lines_of s.args.d s.args.log.now)
   listed = rw u.before.before.flat.ensures.0 at u.lines_of.ensures
 
 refused-requires : tie.Need-refused-requires

@@ -3,14 +3,14 @@ use mathlib.Core.Path.{◌≡◌, sym, ◌∙◌}
 use Prim.Native.Nat.{◌+◌, ◌-◌}
 use native.Mathlib.Omega.{arith}
 use lib.ListN.{length}
-use Rattle.directory.specs.Inner.{directoryIn}
+use Rattle.directory.specs.Inner.{directory_in}
 use borrow.Author.Rules.{rules}
-use Rattle.salvaging.proofs.Seeking.{Seeks, seeks-first, seeks-nothing, seeks-record, seeks-open, seeks-on}
+use Rattle.salvaging.proofs.Seeking.{Seeks, seeks_first, seeks_nothing, seeks_record, seeks_open, seeks_on}
 use Rattle.salvaging.proofs.search.search_in.Statement.{statement}
 use Rattle.salvaging.proofs.search.search_in.Tie as tie
 
 abbrev invariant-loop : tie.invariant-loop
-invariant-loop t log from more at₀ at = Seeks more (directoryIn t) log from at
+invariant-loop t log from more at₀ at = Seeks more (directory_in t) log from at
 
 abbrev decreases-loop : tie.decreases-loop
 decreases-loop t log from more at₀ at = length log - at
@@ -21,7 +21,7 @@ next-begin-requires c κs = search rules
 loop-holds : tie.Need-loop-init invariant-loop decreases-loop
 loop-holds c =
     let a = c.before.before.args in
-    seeks-first a.more (directoryIn a.t.now) a.log.now a.from c.next-begin.result c.next-begin.ensures
+    seeks_first a.more (directory_in a.t.now) a.log.now a.from c.next-begin.result c.next-begin.ensures
 
 check-record-in-requires : tie.Need-check-record-in-requires invariant-loop decreases-loop
 check-record-in-requires c κs = search rules
@@ -33,7 +33,7 @@ returns : tie.Need-returns invariant-loop decreases-loop
 returns c =
     let a = c.before.before.before.before.before.before.before.before.before.args in
     let l = c.before.before.before.before.before.before.loop in
-    seeks-record a.more (directoryIn a.t.now) a.log.now a.from l.at l.invariant c.before.before.before.before.before.loop-test.true _ (sym c.before.before.w.given.1 ∙ c.before.before.before.before.check-record-in.ensures)
+    seeks_record a.more (directory_in a.t.now) a.log.now a.from l.at l.invariant c.before.before.before.before.before.loop-test.true _ (sym c.before.before.w.given.1 ∙ c.before.before.before.before.check-record-in.ensures)
 
 enum-known-x : tie.Need-enum-known-x invariant-loop decreases-loop
 enum-known-x c = search rules
@@ -45,7 +45,7 @@ returns-2 : tie.Need-returns-2 invariant-loop decreases-loop
 returns-2 c =
     let a = c.before.before.before.before.before.before.before.before.before.before.args in
     let l = c.before.before.before.before.before.before.before.loop in
-    seeks-open a.more (directoryIn a.t.now) a.log.now a.from l.at l.invariant c.before.before.before.before.before.before.loop-test.true _ (sym c.before.before.before.x.given.1 ∙ c.before.before.before.before.before.check-record-in.ensures) (sym c.before.is_open.ensures ∙ c.if1.true)
+    seeks_open a.more (directory_in a.t.now) a.log.now a.from l.at l.invariant c.before.before.before.before.before.before.loop-test.true _ (sym c.before.before.before.x.given.1 ∙ c.before.before.before.before.before.check-record-in.ensures) (sym c.before.is_open.ensures ∙ c.if1.true)
 
 add-next-begin : tie.Need-overflow-add-next-begin invariant-loop decreases-loop
 add-next-begin c = search rules
@@ -61,12 +61,12 @@ loop-again : tie.Need-loop-preserved invariant-loop decreases-loop
 loop-again c =
     let a = c.before.before.before.before.before.before.before.before.before.before.before.args in
     let l = c.before.before.before.before.before.before.before.before.loop in
-    seeks-on a.more (directoryIn a.t.now) a.log.now a.from l.at l.invariant c.before.before.before.before.before.before.before.loop-test.true _ (sym c.before.before.before.before.x.given.1 ∙ c.before.before.before.before.before.before.check-record-in.ensures) (sym c.before.before.is_open.ensures ∙ c.before.if1.false) c.next-begin2.result c.next-begin2.ensures
+    seeks_on a.more (directory_in a.t.now) a.log.now a.from l.at l.invariant c.before.before.before.before.before.before.before.loop-test.true _ (sym c.before.before.before.before.x.given.1 ∙ c.before.before.before.before.before.before.check-record-in.ensures) (sym c.before.before.is_open.ensures ∙ c.before.if1.false) c.next-begin2.result c.next-begin2.ensures
 
 returns-3 : tie.Need-returns-3 invariant-loop decreases-loop
 returns-3 c =
     let a = c.before.before.before.before.args in
-    seeks-nothing a.more (directoryIn a.t.now) a.log.now a.from c.before.loop.at c.before.loop.invariant c.loop-test.false
+    seeks_nothing a.more (directory_in a.t.now) a.log.now a.from c.before.loop.at c.before.loop.invariant c.loop-test.false
 
 pub search-in-spec : {M : Type 1} → statement M
 search-in-spec =

@@ -2,7 +2,7 @@
 use native.Mathlib.Omega.{arith}
 use Rattle.output.specs.Put.{le}
 use Rattle.output.proofs.Laws.{◌⨾◌}
-use Rattle.writer.specs.Bytes.{dropBytes}
+use Rattle.writer.specs.Bytes.{drop_bytes}
 use borrow.Author.Rules.{rules}
 use Rattle.writer.proofs.drops.put_drop.Statement.{statement}
 use Rattle.writer.proofs.drops.put_drop.Tie as tie
@@ -18,7 +18,7 @@ same_length : tie.Need-same-length
 same_length c = search rules
 
 returns : tie.Need-returns
-unfolding dropBytes
+unfolding drop_bytes
 returns c =
     let b = c.before.before in
     let a = b.before.before.before.before in

@@ -6,13 +6,13 @@ use borrow.Author.Rules.{rules}
 use lib.ListN.{length, take, drop}
 use Rattle.output.specs.Put.{put, Wrote, le, joined}
 use Rattle.output.proofs.Laws.{all_left, joined-room, joined-rest, joined-done}
-use Rattle.writer.specs.Bytes.{dropBytes, dropsBytes}
+use Rattle.writer.specs.Bytes.{drop_bytes, drops_bytes}
 use Rattle.writer.proofs.drops.put_drops.Statement.{statement}
 use Rattle.writer.proofs.drops.put_drops.Tie as tie
 
 abbrev invariant-loop : tie.invariant-loop
 invariant-loop out₀ at tag s n o₀ i₀ out o i =
-    (i ≤ n) × (length out ≡ length out₀) × Wrote out o (joined (dropBytes tag.0) (drop i (take n s.tables))) (put out₀ at (dropsBytes tag.0 s)) (at + length (dropsBytes tag.0 s))
+    (i ≤ n) × (length out ≡ length out₀) × Wrote out o (joined (drop_bytes tag.0) (drop i (take n s.tables))) (put out₀ at (drops_bytes tag.0 s)) (at + length (drops_bytes tag.0 s))
 
 abbrev decreases-loop : tie.decreases-loop
 decreases-loop out₀ at tag s n o₀ i₀ out o i = n - i
@@ -23,7 +23,7 @@ long s =
     omega (arith, s.requires.0)
 
 loop-holds : tie.Need-loop-init invariant-loop decreases-loop
-unfolding dropsBytes
+unfolding drops_bytes
 loop-holds c = (search rules, refl, all_left _ _ _)
 
 mul-put-drop : tie.Need-overflow-mul-put-drop invariant-loop decreases-loop
@@ -33,12 +33,12 @@ element-copy-out-put-drop : tie.Need-element-copy-out-put-drop invariant-loop de
 element-copy-out-put-drop c = search rules
 
 put-drop-requires : tie.Need-put-drop-requires invariant-loop decreases-loop
-unfolding dropBytes le
+unfolding drop_bytes le
 put-drop-requires c κs =
     let b = c.before.before in
     let l = b.before.loop in
     let s = b.before.before.before in
-    omega (arith, joined-room (dropBytes s.args.tag.0) s.args.t4.tables s.args.t4.count (long s) l.i l.invariant.2 b.loop-test.true, l.invariant.1, s.requires)
+    omega (arith, joined-room (drop_bytes s.args.tag.0) s.args.t4.tables s.args.t4.count (long s) l.i l.invariant.2 b.loop-test.true, l.invariant.1, s.requires)
 
 add-i : tie.Need-overflow-add-i invariant-loop decreases-loop
 add-i c = search rules
@@ -53,7 +53,7 @@ loop-again c =
     let s = b.before.before.before in (
       omega (arith, b.loop-test),
       c.before.before.put-drop.auto.0 ∙ l.invariant.1,
-      joined-rest (dropBytes s.args.tag.0) s.args.t4.tables s.args.t4.count (long s) l.i l.invariant.2 b.loop-test.true c.before.before.put-drop.ensures,
+      joined-rest (drop_bytes s.args.tag.0) s.args.t4.tables s.args.t4.count (long s) l.i l.invariant.2 b.loop-test.true c.before.before.put-drop.ensures,
     )
 
 same_length : tie.Need-same-length invariant-loop decreases-loop
@@ -62,7 +62,7 @@ same_length c = search rules
 returns : tie.Need-returns invariant-loop decreases-loop
 returns c =
     let s = c.before.before.before in
-    joined-done (dropBytes s.args.tag.0) s.args.t4.tables s.args.t4.count (long s) c.before.loop.i c.loop-test.false c.before.loop.invariant.2
+    joined-done (drop_bytes s.args.tag.0) s.args.t4.tables s.args.t4.count (long s) c.before.loop.i c.loop-test.false c.before.loop.invariant.2
 
 pub put-drops-spec : {M : Type 1} → statement M
 put-drops-spec =

@@ -5,13 +5,13 @@ use lib.ListN.{length}
 use borrow.Author.Rules.{rules}
 use Rattle.output.specs.Put.{le}
 use Rattle.output.proofs.Laws.{◌⨾◌}
-use Rattle.writer.specs.Bytes.{payloadOf, entryBytes}
+use Rattle.writer.specs.Bytes.{payload_of, entry_bytes}
 use Rattle.writer.proofs.Masks.{length-entry}
 use Rattle.writer.proofs.entry.put_entry.Statement.{statement}
 use Rattle.writer.proofs.entry.put_entry.Tie as tie
 
 -- the whole has room
-fits : (s : tie.Start) → s.args.at + 11 + length (payloadOf s.args.kind s.args.mark s.args.bytes.now) ≤ length s.args.out.now
+fits : (s : tie.Start) → s.args.at + 11 + length (payload_of s.args.kind s.args.mark s.args.bytes.now) ≤ length s.args.out.now
 fits s = omega (arith, s.requires.1, length-entry s.args.kind s.args.table s.args.index s.args.mark s.args.bytes.now)
 
 insert-tag-requires : tie.Need-insert-tag-requires
@@ -36,7 +36,7 @@ same_length : tie.Need-same-length
 same_length c = search rules
 
 returns : tie.Need-returns
-unfolding entryBytes
+unfolding entry_bytes
 returns c =
     let e = c.before.before in
     let d = e.before.before.before.before in

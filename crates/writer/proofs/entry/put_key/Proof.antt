@@ -4,14 +4,14 @@ use Prim.Native.Nat.{ℕ, ◌*◌, ◌≤◌}
 use native.Mathlib.Omega.{arith}
 use lib.ListN.{length}
 use borrow.Author.Rules.{rules}
-use Rattle.overlay.specs.Rules.{slotSize}
-use Rattle.writer.specs.Bytes.{entryBytesAt}
-use Rattle.writer.proofs.Rules.{begins-in, lies-there, part-is}
+use Rattle.overlay.specs.Rules.{slot_size}
+use Rattle.writer.specs.Bytes.{entry_bytes_at}
+use Rattle.writer.proofs.Rules.{begins_in, lies-there, part-is}
 use Rattle.writer.proofs.entry.put_key.Statement.{statement}
 use Rattle.writer.proofs.entry.put_key.Tie as tie
 
-begins : (s : tie.Start) (size : ℕ) → size ≡ slotSize s.args.kind → size * s.args.p ≤ length s.args.bytes.now
-begins s size e = begins-in s.args.kind s.args.rows.now s.args.bytes.now s.args.p s.requires.0 size e
+begins : (s : tie.Start) (size : ℕ) → size ≡ slot_size s.args.kind → size * s.args.p ≤ length s.args.bytes.now
+begins s size e = begins_in s.args.kind s.args.rows.now s.args.bytes.now s.args.p s.requires.0 size e
 
 slot-size-requires : tie.Need-slot-size-requires
 slot-size-requires c κs = search rules
@@ -69,7 +69,7 @@ part-put-entry-end : tie.Need-slice-bounds-put-entry-end
 part-put-entry-end c = search rules
 
 put-entry-requires : tie.Need-put-entry-requires
-unfolding entryBytesAt
+unfolding entry_bytes_at
 put-entry-requires c κs =
     let b = c.before.before.before.before.before in
     let s = b.before.before.before.before in
@@ -80,7 +80,7 @@ same_length : tie.Need-same-length
 same_length c = search rules
 
 returns : tie.Need-returns
-unfolding entryBytesAt
+unfolding entry_bytes_at
 returns c =
     let b = c.before.before.before.before.before.before.before.before in
     let s = b.before.before.before.before in

@@ -2,14 +2,14 @@
 use mathlib.Core.Path.{sym, ◌∙◌}
 use borrow.Author.Tests.{not-true, not-false}
 use borrow.Author.Rules.{rules}
-use Rattle.change.specs.Change.{Change, changeOf}
+use Rattle.change.specs.Change.{Change, change_of}
 use Rattle.change.proofs.Rules.{kept-ruled}
 use Rattle.writer.proofs.Answers.{bad-state, as-kept}
 use Rattle.writer.proofs.flush.flush_to_file.Statement.{statement}
 use Rattle.writer.proofs.flush.flush_to_file.Tie as tie
 
 abbrev list : tie.Start → Change
-list s = changeOf s.args.list s.args.words.now s.args.bytes.now
+list s = change_of s.args.list s.args.words.now s.args.bytes.now
 
 kept-requires : tie.Need-kept-requires
 kept-requires c κs = search rules

@@ -6,18 +6,18 @@ use mir.Syntax.{w16, w64}
 use mir.Val.{Fits}
 use lib.ListN.{length, get_or}
 use borrow.Author.Rules.{rules}
-use Rattle.change.specs.Change.{Change, changeOf}
+use Rattle.change.specs.Change.{Change, change_of}
 use Rattle.change.specs.declared.size.Sized.{Sized}
-use Rattle.writer.specs.Bytes.{recordOf}
+use Rattle.writer.specs.Bytes.{record_of}
 use Rattle.writer.specs.Typed.{Typed}
 use Rattle.writer.proofs.Answers.{too_short, flushes}
-use Rattle.writer.proofs.Sizes.{length-record}
+use Rattle.writer.proofs.Sizes.{length_record}
 use Rattle.writer.proofs.Words.{typed}
 use Rattle.writer.proofs.flush.flush_to_file_kept.Statement.{statement}
 use Rattle.writer.proofs.flush.flush_to_file_kept.Tie as tie
 
 abbrev list : tie.Start → Change
-list s = changeOf s.args.list s.args.words.now s.args.bytes.now
+list s = change_of s.args.list s.args.words.now s.args.bytes.now
 
 -- what the types say
 words-fit : (c : tie.After-shared-slice-known) (i : ℕ) → get_or c.before.args.words.now i 0 < 18446744073709551616
@@ -37,10 +37,10 @@ list-typed c =
     let s = c.before in
     typed s.args.list s.args.words.now s.args.bytes.now (words-fit c) (id-fits s).ranges (λ i. (drops-fit s i).fits) (λ i. (count-drops-fit s i).fits) (search rules) (search rules)
 
-long : (c : tie.After-record-size-kept) → length (recordOf (list c.before.before.before.before)) ≡ c.record-size-kept.result.length
+long : (c : tie.After-record-size-kept) → length (record_of (list c.before.before.before.before)) ≡ c.record-size-kept.result.length
 long c =
     let k = c.before.before.before in
-    length-record (list k.before) k.before.requires (list-typed k) ∙ ap (λ (x : Sized). x.length) (sym c.record-size-kept.ensures)
+    length_record (list k.before) k.before.requires (list-typed k) ∙ ap (λ (x : Sized). x.length) (sym c.record-size-kept.ensures)
 
 record-size-kept-requires : tie.Need-record-size-kept-requires
 record-size-kept-requires c κs = search rules

@@ -4,21 +4,21 @@ use Prim.Native.Nat.{◌+◌, ◌≤◌}
 use native.Mathlib.Omega.{arith}
 use lib.ListN.{length, length-append}
 use borrow.Author.Rules.{rules}
-use Rattle.change.specs.Change.{Change, changeOf}
+use Rattle.change.specs.Change.{Change, change_of}
 use Rattle.change.proofs.Rules.{ruled-shows}
 use Rattle.output.proofs.Laws.{◌⨾◌}
-use Rattle.writer.specs.Bytes.{dropsBytes}
-use Rattle.writer.specs.Inner.{insertsOf}
+use Rattle.writer.specs.Bytes.{drops_bytes}
+use Rattle.writer.specs.Inner.{inserts_of}
 use Rattle.writer.proofs.flush.put_changes.Statement.{statement}
 use Rattle.writer.proofs.flush.put_changes.Tie as tie
 
 abbrev list : tie.Start → Change
-list s = changeOf s.args.list s.args.words.now s.args.bytes.now
+list s = change_of s.args.list s.args.words.now s.args.bytes.now
 
 -- the whole has room
-fits : (s : tie.Start) → length (insertsOf (list s)) + length (dropsBytes 5 (list s).drops) + length (dropsBytes 7 (list s).countDrops) ≤ length s.args.out.now
+fits : (s : tie.Start) → length (inserts_of (list s)) + length (drops_bytes 5 (list s).drops) + length (drops_bytes 7 (list s).count_drops) ≤ length s.args.out.now
 fits s =
-    omega (arith, length-append (insertsOf (list s)) (dropsBytes 5 (list s).drops), length-append (insertsOf (list s) ++ dropsBytes 5 (list s).drops) (dropsBytes 7 (list s).countDrops), s.requires.1)
+    omega (arith, length-append (inserts_of (list s)) (drops_bytes 5 (list s).drops), length-append (inserts_of (list s) ++ drops_bytes 5 (list s).drops) (drops_bytes 7 (list s).count_drops), s.requires.1)
 
 put-inserts-requires : tie.Need-put-inserts-requires
 put-inserts-requires c κs =

@@ -8,9 +8,9 @@ use lib.ListN.{length, length-append}
 use borrow.Author.Rules.{rules}
 use Rattle.directory.specs.declared.table.TableKind.{TableKind}
 use Rattle.directory.specs.declared.table.TableKind.TheVariants.{Index, Value, RefCount}
-use Rattle.memory.specs.Parts.{part_of, parts_of, partsKept}
+use Rattle.memory.specs.Parts.{part_of, parts_of, parts_kept}
 use Rattle.memory.specs.declared.span.Holder.TheVariants as holder
-use Rattle.change.specs.Change.{changeOf}
+use Rattle.change.specs.Change.{change_of}
 use Rattle.change.proofs.Rules.{ruled-parts}
 use Rattle.output.specs.Put.{le}
 use Rattle.output.proofs.Laws.{◌⨾◌, length-le}
@@ -25,8 +25,8 @@ E s kind = entries kind (part_of holder.List kind s.args.list.counts s.args.word
 fits : (s : tie.Start) → 9 + length (E s Index) + length (E s Value) + length (E s RefCount) ≤ length s.args.out.now
 fits s = omega (arith, simp (length-append, length-le) at s.requires.1)
 
-kept : (s : tie.Start) → partsKept holder.List (parts_of holder.List s.args.list.counts s.args.words.now s.args.bytes.now) ≡ true
-kept s = ruled-parts (changeOf s.args.list s.args.words.now s.args.bytes.now) s.requires.0
+kept : (s : tie.Start) → parts_kept holder.List (parts_of holder.List s.args.list.counts s.args.words.now s.args.bytes.now) ≡ true
+kept s = ruled-parts (change_of s.args.list s.args.words.now s.args.bytes.now) s.requires.0
 
 put-u8-requires : tie.Need-put-u8-requires
 put-u8-requires c κs = omega (arith, fits c.before.before.before.before.before)

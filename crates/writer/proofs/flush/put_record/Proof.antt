@@ -5,22 +5,22 @@ use native.Mathlib.Omega.{arith}
 use lib.ListN.{length}
 use lib.Seq.{length-take-le}
 use borrow.Author.Rules.{rules}
-use Rattle.checksum.specs.Checksum.{checksumOf}
-use Rattle.change.specs.Change.{Change, changeOf}
+use Rattle.checksum.specs.Checksum.{checksum_of}
+use Rattle.change.specs.Change.{Change, change_of}
 use Rattle.output.specs.Put.{le}
 use Rattle.output.proofs.Laws.{◌⨾◌, wrote-front}
-use Rattle.writer.specs.Bytes.{body, recordOf}
-use Rattle.writer.specs.Inner.{changesOf}
-use Rattle.writer.proofs.Masks.{length-record-of}
+use Rattle.writer.specs.Bytes.{body, record_of}
+use Rattle.writer.specs.Inner.{changes_of}
+use Rattle.writer.proofs.Masks.{length_record_of}
 use Rattle.writer.proofs.flush.put_record.Statement.{statement}
 use Rattle.writer.proofs.flush.put_record.Tie as tie
 
 abbrev list : tie.Start → Change
-list s = changeOf s.args.list s.args.words.now s.args.bytes.now
+list s = change_of s.args.list s.args.words.now s.args.bytes.now
 
 -- the whole has room
-fits : (s : tie.Start) → length (changesOf (list s)) + 5 ≤ length s.args.out.now
-fits s = omega (arith, length-record-of (list s), s.requires.1)
+fits : (s : tie.Start) → length (changes_of (list s)) + 5 ≤ length s.args.out.now
+fits s = omega (arith, length_record_of (list s), s.requires.1)
 
 -- behind the end tag the checksum has room
 abbrev begun : tie.After-put-u8 → tie.Start
@@ -58,12 +58,12 @@ same_length : tie.Need-same-length
 same_length c = search rules
 
 returns : tie.Need-returns
-unfolding recordOf body
+unfolding record_of body
 returns c =
     let b = c.before.before.before.before.before.before.before.before in
     let a = b.before.before.before.before in
     let w = a.put-changes.ensures ⨾ b.put-u8.ensures in
-    let e : c.before.before.before.before.checksum.result ≡ checksumOf (body (list (begun b))) = c.before.before.before.before.checksum.ensures ∙ ap checksumOf (wrote-front w) in
+    let e : c.before.before.before.before.checksum.result ≡ checksum_of (body (list (begun b))) = c.before.before.before.before.checksum.ensures ∙ ap checksum_of (wrote-front w) in
     (w ⨾ (rw e at c.before.before.put-u32.ensures)).bytes
 
 pub put-record-spec : {M : Type 1} → statement M

@@ -4,13 +4,13 @@ use Prim.Native.Nat.{◌*◌}
 use native.Mathlib.Omega.{arith}
 use lib.ListN.{length}
 use borrow.Author.Rules.{rules}
-use Rattle.overlay.specs.Rules.{overlayOf}
+use Rattle.overlay.specs.Rules.{overlay_of}
 use Rattle.overlay.proofs.Parts.{rest_part, words_long}
 use Rattle.overlay.proofs.Ruled.{Kept, shows}
 use Rattle.writer.proofs.kinds.put_entries.Statement.{statement}
 use Rattle.writer.proofs.kinds.put_entries.Tie as tie
 
-known : (s : tie.Start) → Kept s.args.kind s.args.room (overlayOf s.args.room s.args.words.now s.args.bytes.now s.args.n)
+known : (s : tie.Start) → Kept s.args.kind s.args.room (overlay_of s.args.room s.args.words.now s.args.bytes.now s.args.n)
 known s = shows s.args.kind s.args.room _ s.requires.1
 
 long : (s : tie.Start) → length s.args.words.now ≡ 5 * s.args.room

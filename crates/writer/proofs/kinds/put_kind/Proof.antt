@@ -23,7 +23,7 @@ span-of-requires : tie.Need-span-of-requires
 span-of-requires c κs = search rules
 
 mul-put-entries : tie.Need-overflow-mul-put-entries
-mul-put-entries c = let l = lies c.before in omega (arith, l.words-rise, l.words-in, l.words-most)
+mul-put-entries c = let l = lies c.before in omega (arith, l.words-rise, l.words_in, l.words-most)
 
 sub-put-entries : tie.Need-overflow-sub-put-entries
 sub-put-entries c = (lies c.before).words-rise
@@ -32,7 +32,7 @@ part-put-entries-start : tie.Need-slice-bounds-put-entries-start
 part-put-entries-start c = (lies c.before).words-rise
 
 part-put-entries-end : tie.Need-slice-bounds-put-entries-end
-part-put-entries-end c = omega (arith, (lies c.before).words-in, words_long c.before.before.before.before.before)
+part-put-entries-end c = omega (arith, (lies c.before).words_in, words_long c.before.before.before.before.before)
 
 sub-put-entries-2 : tie.Need-overflow-sub-put-entries-2
 sub-put-entries-2 c = (lies c.before.before).bytes-rise
@@ -41,7 +41,7 @@ part-put-entries-start-2 : tie.Need-slice-bounds-put-entries-start-2
 part-put-entries-start-2 c = (lies c.before.before).bytes-rise
 
 part-put-entries-end-2 : tie.Need-slice-bounds-put-entries-end-2
-part-put-entries-end-2 c = omega (arith, (lies c.before.before).bytes-in, bytes-long c.before.before.before.before.before.before)
+part-put-entries-end-2 c = omega (arith, (lies c.before.before).bytes_in, bytes-long c.before.before.before.before.before.before)
 
 of-requires : tie.Need-of-requires
 of-requires c κs = search rules

@@ -9,7 +9,7 @@ use lib.ListN.{length, drop}
 use Rattle.words.proofs.Runs.{Turn, turn}
 use Rattle.output.specs.Put.{put, Wrote}
 use Rattle.output.proofs.Laws.{all_left}
-use Rattle.writer.specs.Bytes.{setSlots}
+use Rattle.writer.specs.Bytes.{set_slots}
 use Rattle.writer.proofs.Masks.{slots-room, slots-rest, slots-done}
 use Rattle.writer.proofs.slots.put_slots.Statement.{statement}
 use Rattle.writer.proofs.slots.put_slots.Tie as tie
@@ -17,7 +17,7 @@ use Rattle.writer.proofs.slots.put_slots.Tie as tie
 abbrev invariant-loop : tie.invariant-loop
 invariant-loop out₀ at width mask chunk o₀ m₀ slot₀ out o m slot =
     (slot ≤ 64) × (length out ≡ length out₀) × (m < 2 ^ (64 - slot))
-    × Wrote out o (setSlots (64 - slot) width m (drop (slot * width) chunk)) (put out₀ at (setSlots 64 width mask chunk)) (at + length (setSlots 64 width mask chunk))
+    × Wrote out o (set_slots (64 - slot) width m (drop (slot * width) chunk)) (put out₀ at (set_slots 64 width mask chunk)) (at + length (set_slots 64 width mask chunk))
 
 abbrev decreases-loop : tie.decreases-loop
 decreases-loop out₀ at width mask chunk o₀ m₀ slot₀ out o m slot = 64 - slot

@@ -1,9 +1,9 @@
 -- `LogChange::drop_ref_count_table` meets its contract: 13, then as a list that keeps its rules. Assumes nothing.
 use mathlib.Core.Path.{sym, ◌∙◌}
 use borrow.Author.Tests.{not-true, not-false}
-use Rattle.words.proofs.Choices.{if-true, if-false}
-use Rattle.change.specs.Change.{changeOf, changeKept}
-use Rattle.change.specs.Drop.{countTableDropped}
+use Rattle.words.proofs.Choices.{if_true, if_false}
+use Rattle.change.specs.Change.{change_of, change_kept}
+use Rattle.change.specs.Drop.{count_table_dropped}
 use Rattle.change.proofs.change.LogChange.drop_ref_count_table.Statement.{statement}
 use Rattle.change.proofs.change.LogChange.drop_ref_count_table.Tie as tie
 
@@ -11,15 +11,15 @@ kept-requires : tie.Need-kept-requires
 kept-requires c κs = tt
 
 returns : tie.Need-returns
-unfolding countTableDropped
-returns c = sym (if-false (changeKept c.before.before.before.before.args.directory (changeOf c.before.before.before.before.args.self c.before.before.before.before.args.words.now c.before.before.before.before.args.bytes.now)) _ _ (sym c.before.kept.ensures ∙ not-true _ c.if1.true))
+unfolding count_table_dropped
+returns c = sym (if_false (change_kept c.before.before.before.before.args.directory (change_of c.before.before.before.before.args.self c.before.before.before.before.args.words.now c.before.before.before.before.args.bytes.now)) _ _ (sym c.before.kept.ensures ∙ not-true _ c.if1.true))
 
 drop-ref-count-table-kept-requires : tie.Need-drop-ref-count-table-kept-requires
 drop-ref-count-table-kept-requires c κs = sym c.before.kept.ensures ∙ not-false _ c.if1.false
 
 returns-2 : tie.Need-returns-2
-unfolding countTableDropped
-returns-2 c = c.drop-ref-count-table-kept.ensures ∙ sym (if-true (changeKept c.before.before.before.before.before.args.directory (changeOf c.before.before.before.before.before.args.self c.before.before.before.before.before.args.words.now c.before.before.before.before.before.args.bytes.now)) _ _ (sym c.before.before.kept.ensures ∙ not-false _ c.before.if1.false))
+unfolding count_table_dropped
+returns-2 c = c.drop-ref-count-table-kept.ensures ∙ sym (if_true (change_kept c.before.before.before.before.before.args.directory (change_of c.before.before.before.before.before.args.self c.before.before.before.before.before.args.words.now c.before.before.before.before.before.args.bytes.now)) _ _ (sym c.before.before.kept.ensures ∙ not-false _ c.before.if1.false))
 
 pub drop-ref-count-table-spec : {M : Type 1} → statement M
 drop-ref-count-table-spec =

@@ -1,22 +1,22 @@
 -- `LogChange::drop_ref_count_table_kept` meets its contract. Assumes nothing.
 use mathlib.Core.Path.{ap}
 use Rattle.change.specs.declared.drops.Dropped.{Dropped}
-use Rattle.change.specs.Change.{Change, changeOf, withCountDrops}
+use Rattle.change.specs.Change.{Change, change_of, with_count_drops}
 use Rattle.change.specs.Insert.{Made}
-use Rattle.change.specs.Drop.{countTableDroppedKept}
+use Rattle.change.specs.Drop.{count_table_dropped_kept}
 use borrow.Author.Rules.{rules}
 use Rattle.change.proofs.change.LogChange.drop_ref_count_table_kept.Statement.{statement}
 use Rattle.change.proofs.change.LogChange.drop_ref_count_table_kept.Tie as tie
 
 abbrev made : Change → Dropped → Made
-made l s = record { answer = s.answer; change = withCountDrops l s.drops }
+made l s = record { answer = s.answer; change = with_count_drops l s.drops }
 
 dropped-requires : tie.Need-dropped-requires
 dropped-requires c κs = search rules
 
 returns : tie.Need-returns
-unfolding countTableDroppedKept
-returns c = ap (made (changeOf c.before.before.before.before.before.args.self c.before.before.before.before.before.args.words.now c.before.before.before.before.before.args.bytes.now)) c.before.dropped.ensures
+unfolding count_table_dropped_kept
+returns c = ap (made (change_of c.before.before.before.before.before.args.self c.before.before.before.before.before.args.words.now c.before.before.before.before.before.args.bytes.now)) c.before.dropped.ensures
 
 pub drop-ref-count-table-kept-spec : {M : Type 1} → statement M
 drop-ref-count-table-kept-spec = tie.close (tie.spec dropped-requires returns)

@@ -1,12 +1,12 @@
 -- `LogChange::insert_kept` meets its contract: a refusal changes nothing, else one put. Assumes nothing.
 use mathlib.Core.Path.{◌≡◌, refl, sym, ◌∙◌}
 use Prim.Native.Nat.{ℕ}
-use Rattle.directory.specs.Directory.{findTable}
-use Rattle.memory.specs.Parts.{ofKind}
+use Rattle.directory.specs.Directory.{find_table}
+use Rattle.memory.specs.Parts.{of_kind}
 use Rattle.change.specs.declared.plans.Plan.{Plan}
 use Rattle.change.specs.declared.plans.Plan.TheVariants.{Go}
-use Rattle.change.specs.Change.{Change, changeOf}
-use Rattle.change.specs.Insert.{planIn}
+use Rattle.change.specs.Change.{Change, change_of}
+use Rattle.change.specs.Insert.{plan_in}
 use Rattle.change.proofs.Rules.{kept-directory, kept-parts}
 use Rattle.change.proofs.Accepted.{Accepted, accepted, made-refused, made-put}
 use borrow.Author.Rules.{rules}
@@ -15,10 +15,10 @@ use Rattle.change.proofs.change.LogChange.insert_kept.Tie as tie
 
 module _ (s : tie.Start) where
   abbrev list : Change
-  list = changeOf s.args.self s.args.words.now s.args.bytes.now
+  list = change_of s.args.self s.args.words.now s.args.bytes.now
 
   abbrev plan : Plan
-  plan = planIn s.args.kind (ofKind s.args.kind list.parts) (findTable s.args.directory s.args.kind s.args.number) s.args.number s.args.index s.args.sub s.args.«data».now
+  plan = plan_in s.args.kind (of_kind s.args.kind list.parts) (find_table s.args.directory s.args.kind s.args.number) s.args.number s.args.index s.args.sub s.args.«data».now
 
   -- nothing is refused
   go : (q : Plan) → q ≡ plan → (old : ℕ) → q ≡ Go old → Accepted s.args.kind s.args.directory list.parts s.args.number s.args.index s.args.sub s.args.«data».now old

@@ -1,13 +1,13 @@
 -- `LogChange::kept` meets its contract: the directory, the list, and both together. Assumes nothing.
 use mathlib.Core.Path.{sym, ◌∙◌}
 use borrow.Author.Tests.{not-true, not-false}
-use Rattle.change.specs.Change.{Change, changeOf}
+use Rattle.change.specs.Change.{Change, change_of}
 use Rattle.change.proofs.Rules.{kept-stops, kept-stops-ruled, kept-goes-on}
 use Rattle.change.proofs.change.LogChange.kept.Statement.{statement}
 use Rattle.change.proofs.change.LogChange.kept.Tie as tie
 
 abbrev list : tie.Start → Change
-list s = changeOf s.args.self s.args.words.now s.args.bytes.now
+list s = change_of s.args.self s.args.words.now s.args.bytes.now
 
 kept-requires : tie.Need-kept-requires
 kept-requires c κs = tt

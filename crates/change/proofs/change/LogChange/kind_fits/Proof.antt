@@ -2,7 +2,7 @@
 use mathlib.Core.Path.{refl, ◌∙◌, ◌≡◌}
 use native.Mathlib.Omega.{arith}
 use Rattle.memory.specs.Parts.{count_of, span_of}
-use Rattle.change.specs.Change.{changeOf, entriesFit}
+use Rattle.change.specs.Change.{change_of, entries_fit}
 use Rattle.change.proofs.OneKind.{KindLent, kind-lent, reads-part}
 use Rattle.memory.specs.declared.span.Span.{Span}
 use Rattle.memory.specs.declared.span.Holder.TheVariants as holder
@@ -14,7 +14,7 @@ use Rattle.change.proofs.change.LogChange.kind_fits.Tie as tie
 
 -- the kind's part of the words
 lent : (s : tie.Start) (span : Span) → span ≡ span_of holder.List s.args.kind → KindLent s.args.kind span s.args.words.now (count_of s.args.kind s.args.self.counts)
-lent s span e = kind-lent s.args.kind s.args.self.counts s.args.words.now s.args.bytes.now span e (count_of s.args.kind s.args.self.counts) refl (ruled-parts (changeOf s.args.self s.args.words.now s.args.bytes.now) s.requires)
+lent s span e = kind-lent s.args.kind s.args.self.counts s.args.words.now s.args.bytes.now span e (count_of s.args.kind s.args.self.counts) refl (ruled-parts (change_of s.args.self s.args.words.now s.args.bytes.now) s.requires)
 
 span-of-requires : tie.Need-span-of-requires
 span-of-requires c κs = search rules
@@ -41,7 +41,7 @@ returns : tie.Need-returns
 returns c =
     let a = c.before.before.before.before.before.before.before.args in
     c.entries_fit.ensures
-    ∙ reads-part a.kind a.self.counts a.words.now a.bytes.now c.before.before.before.before.Span-of.result c.before.before.before.before.Span-of.ensures c.before.of.result c.before.of.ensures (entriesFit a.directory a.kind) (fit-keys a.directory a.kind)
+    ∙ reads-part a.kind a.self.counts a.words.now a.bytes.now c.before.before.before.before.Span-of.result c.before.before.before.before.Span-of.ensures c.before.of.result c.before.of.ensures (entries_fit a.directory a.kind) (fit-keys a.directory a.kind)
 
 pub kind-fits-spec : {M : Type 1} → statement M
 kind-fits-spec =

@@ -2,11 +2,11 @@
 use mathlib.Core.Path.{refl, ◌∙◌, ◌≡◌}
 use native.Mathlib.Omega.{arith}
 use Rattle.memory.specs.Parts.{count_of, span_of}
-use Rattle.change.specs.Change.{changeOf}
+use Rattle.change.specs.Change.{change_of}
 use Rattle.change.proofs.OneKind.{KindLent, kind-lent, reads-part}
 use Rattle.memory.specs.declared.span.Span.{Span}
 use Rattle.memory.specs.declared.span.Holder.TheVariants as holder
-use Rattle.change.specs.Size.{entriesSize}
+use Rattle.change.specs.Size.{entries_size}
 use Rattle.change.proofs.Rules.{ruled-parts}
 use Rattle.change.proofs.Sizes.{size-keys}
 use borrow.Author.Rules.{rules}
@@ -15,7 +15,7 @@ use Rattle.change.proofs.change.LogChange.kind_size.Tie as tie
 
 -- the kind's part of the words
 lent : (s : tie.Start) (span : Span) → span ≡ span_of holder.List s.args.kind → KindLent s.args.kind span s.args.words.now (count_of s.args.kind s.args.self.counts)
-lent s span e = kind-lent s.args.kind s.args.self.counts s.args.words.now s.args.bytes.now span e (count_of s.args.kind s.args.self.counts) refl (ruled-parts (changeOf s.args.self s.args.words.now s.args.bytes.now) s.requires)
+lent s span e = kind-lent s.args.kind s.args.self.counts s.args.words.now s.args.bytes.now span e (count_of s.args.kind s.args.self.counts) refl (ruled-parts (change_of s.args.self s.args.words.now s.args.bytes.now) s.requires)
 
 span-of-requires : tie.Need-span-of-requires
 span-of-requires c κs = search rules
@@ -43,7 +43,7 @@ returns c =
     let a = c.before.before.before.before.before.before.before.args in
     let l = lent c.before.before.before.before.before.before.before c.before.before.before.before.Span-of.result c.before.before.before.before.Span-of.ensures in (
       c.entries-size.ensures.0
-          ∙ reads-part a.kind a.self.counts a.words.now a.bytes.now c.before.before.before.before.Span-of.result c.before.before.before.before.Span-of.ensures c.before.of.result c.before.of.ensures (entriesSize a.kind) (size-keys a.kind),
+          ∙ reads-part a.kind a.self.counts a.words.now a.bytes.now c.before.before.before.before.Span-of.result c.before.before.before.before.Span-of.ensures c.before.of.result c.before.of.ensures (entries_size a.kind) (size-keys a.kind),
       omega (arith, c.entries-size.ensures.1, c.before.of.ensures, l.low, l.room_most),
     )
 

@@ -7,13 +7,13 @@ use Rattle.answer.specs.declared.answer.Answer.TheVariants.{Done}
 use Rattle.directory.specs.declared.table.TableKind.TheVariants.{Value}
 use Rattle.keys.specs.Keys.{rank}
 use Rattle.overlay.specs.Rules.{Overlay, lists_of}
-use Rattle.overlay.specs.Overlay.{spotIn}
+use Rattle.overlay.specs.Overlay.{spot_in_of}
 use Rattle.memory.specs.declared.span.Span.{Span}
 use Rattle.memory.specs.declared.span.Holder.TheVariants as holder
 use Rattle.memory.specs.Parts.{span_of}
 use Rattle.change.specs.declared.values.LocalValues.{LocalValues}
-use Rattle.change.specs.Change.{Change, changeOf}
-use Rattle.change.specs.Values.{valuesOfKept}
+use Rattle.change.specs.Change.{Change, change_of}
+use Rattle.change.specs.Values.{values_of_kept}
 use Rattle.change.proofs.Rules.{ruled-parts}
 use Rattle.change.proofs.OneKind.{KindLent, kind-lent, reads-part}
 use borrow.Author.Rules.{rules}
@@ -24,15 +24,15 @@ use Rattle.change.proofs.change.LogChange.local_values_changes_kept.Tie as tie
 lent : (s : tie.Start) (span : Span) → span ≡ span_of holder.List Value → KindLent Value span s.args.words.now s.args.self.counts.value
 lent s span e =
     kind-lent Value s.args.self.counts s.args.words.now s.args.bytes.now span e s.args.self.counts.value refl
-    (ruled-parts (changeOf s.args.self s.args.words.now s.args.bytes.now) s.requires)
+    (ruled-parts (change_of s.args.self s.args.words.now s.args.bytes.now) s.requires)
 
 -- the bytes are not asked
-spot-keys : (k : ℕ) (rows order bytes : List ℕ) (n : ℕ) → spotIn (lists_of rows order [] n) k ≡ spotIn (lists_of rows order bytes n) k
-unfolding spotIn
+spot-keys : (k : ℕ) (rows order bytes : List ℕ) (n : ℕ) → spot_in_of (lists_of rows order [] n) k ≡ spot_in_of (lists_of rows order bytes n) k
+unfolding spot_in_of
 spot-keys k rows order bytes n = refl
 
-ends : (l : Change) (number a b : ℕ) → a ≡ spotIn l.parts.value (rank number 0) → b ≡ spotIn l.parts.value (rank (number + 1) 0)
-    → ◌≡◌ {A = LocalValues} (record { answer = Done; from = a; to = b }) (valuesOfKept l number)
+ends : (l : Change) (number a b : ℕ) → a ≡ spot_in_of l.parts.value (rank number 0) → b ≡ spot_in_of l.parts.value (rank (number + 1) 0)
+    → ◌≡◌ {A = LocalValues} (record { answer = Done; from = a; to = b }) (values_of_kept l number)
 ends l number a b p q = rw (p, q)
 
 span-of-requires : tie.Need-span-of-requires
@@ -78,9 +78,9 @@ returns : tie.Need-returns
 returns c =
     let a = c.before.before.before.before.before.before.before.before.before.args in
     let number = a.id.0 in
-    ends (changeOf a.self a.words.now a.bytes.now) number _ _
-    (c.before.before.spot_of_lem.ensures ∙ reads-part Value a.self.counts a.words.now a.bytes.now c.before.before.before.before.before.before.Span-of.result c.before.before.before.before.before.before.Span-of.ensures a.self.counts.value refl (λ (o : Overlay). spotIn o (rank number 0)) (spot-keys (rank number 0)))
-    (c.spot-of2.ensures ∙ reads-part Value a.self.counts a.words.now a.bytes.now c.before.before.before.before.before.before.Span-of.result c.before.before.before.before.before.before.Span-of.ensures a.self.counts.value refl (λ (o : Overlay). spotIn o (rank (number + 1) 0)) (spot-keys (rank (number + 1) 0)))
+    ends (change_of a.self a.words.now a.bytes.now) number _ _
+    (c.before.before.spot_of_lem.ensures ∙ reads-part Value a.self.counts a.words.now a.bytes.now c.before.before.before.before.before.before.Span-of.result c.before.before.before.before.before.before.Span-of.ensures a.self.counts.value refl (λ (o : Overlay). spot_in_of o (rank number 0)) (spot-keys (rank number 0)))
+    (c.spot-of2.ensures ∙ reads-part Value a.self.counts a.words.now a.bytes.now c.before.before.before.before.before.before.Span-of.result c.before.before.before.before.before.before.Span-of.ensures a.self.counts.value refl (λ (o : Overlay). spot_in_of o (rank (number + 1) 0)) (spot-keys (rank (number + 1) 0)))
 
 pub local-values-changes-kept-spec : {M : Type 1} → statement M
 local-values-changes-kept-spec =

@@ -2,16 +2,16 @@
 use mathlib.Core.Path.{◌≡◌}
 use Prim.Native.Nat.{ℕ}
 use Rattle.memory.specs.declared.counts.Counts.{Counts}
-use Rattle.memory.specs.Parts.{noCounts}
+use Rattle.memory.specs.Parts.{no_counts}
 use Rattle.change.specs.declared.drops.Drops.{Drops}
 use Rattle.change.specs.declared.change.LogChange.{LogChange}
-use Rattle.change.specs.Change.{noDrops, newList}
+use Rattle.change.specs.Change.{no_drops, new_list}
 use borrow.Author.Rules.{rules}
 use Rattle.change.proofs.change.LogChange.new.Statement.{statement}
 use Rattle.change.proofs.change.LogChange.new.Tie as tie
 
-made : (id : ℕ) (n : Counts) (s t : Drops) → n ≡ noCounts → s ≡ noDrops → t ≡ noDrops
-    → ◌≡◌ {A = LogChange} (record { record_id = id; counts = n; dropped_tables = s; dropped_ref_count_tables = t }) (newList id)
+made : (id : ℕ) (n : Counts) (s t : Drops) → n ≡ no_counts → s ≡ no_drops → t ≡ no_drops
+    → ◌≡◌ {A = LogChange} (record { record_id = id; counts = n; dropped_tables = s; dropped_ref_count_tables = t }) (new_list id)
 made id n s t p q r = rw (p, q, r)
 
 new-requires : tie.Need-new-requires

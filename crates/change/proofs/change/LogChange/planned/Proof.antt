@@ -1,16 +1,16 @@
 -- `LogChange::planned` meets its contract: the kind's part of the words is lent. Assumes nothing.
 use mathlib.Core.Path.{refl, ap, ◌∙◌, ◌≡◌}
 use native.Mathlib.Omega.{arith}
-use Rattle.memory.specs.Parts.{count_of, span_of, partFrom}
-use Rattle.change.specs.Change.{changeOf}
+use Rattle.memory.specs.Parts.{count_of, span_of, part_from}
+use Rattle.change.specs.Change.{change_of}
 use Rattle.change.proofs.OneKind.{KindLent, kind-lent, reads-part}
 use mathlib.Core.List.{[]}
-use Rattle.directory.specs.Directory.{findTable}
+use Rattle.directory.specs.Directory.{find_table}
 use Rattle.directory.specs.declared.directory.Found.{Found}
-use Rattle.overlay.specs.Rules.{Overlay, overlayOf}
+use Rattle.overlay.specs.Rules.{Overlay, overlay_of}
 use Rattle.memory.specs.declared.span.Span.{Span}
 use Rattle.memory.specs.declared.span.Holder.TheVariants as holder
-use Rattle.change.specs.Insert.{planIn}
+use Rattle.change.specs.Insert.{plan_in}
 use Rattle.change.proofs.Rules.{kept-parts}
 use Rattle.change.proofs.Accepted.{plan-keys}
 use borrow.Author.Rules.{rules}
@@ -19,7 +19,7 @@ use Rattle.change.proofs.change.LogChange.planned.Tie as tie
 
 -- the kind's part of the words
 lent : (s : tie.Start) (span : Span) → span ≡ span_of holder.List s.args.kind → KindLent s.args.kind span s.args.words.now (count_of s.args.kind s.args.self.counts)
-lent s span e = kind-lent s.args.kind s.args.self.counts s.args.words.now s.args.bytes.now span e (count_of s.args.kind s.args.self.counts) refl (kept-parts s.args.directory (changeOf s.args.self s.args.words.now s.args.bytes.now) s.requires)
+lent s span e = kind-lent s.args.kind s.args.self.counts s.args.words.now s.args.bytes.now span e (count_of s.args.kind s.args.self.counts) refl (kept-parts s.args.directory (change_of s.args.self s.args.words.now s.args.bytes.now) s.requires)
 
 span-of-requires : tie.Need-span-of-requires
 span-of-requires c κs = search rules
@@ -50,10 +50,10 @@ returns c =
     let a = c.before.before.before.before.before.before.before.before.before.args in
     let s = c.before.before.before.before.before.Span-of.result in
     c.plan-for.ensures
-    ∙ ap (λ (f : Found). planIn a.kind (overlayOf s.room (partFrom s.words_at s.words_end a.words.now) [] c.before.of.result) f a.number a.index a.sub a.«data».now) c.before.before.before.find.ensures
+    ∙ ap (λ (f : Found). plan_in a.kind (overlay_of s.room (part_from s.words_at s.words_end a.words.now) [] c.before.of.result) f a.number a.index a.sub a.«data».now) c.before.before.before.find.ensures
     ∙ reads-part a.kind a.self.counts a.words.now a.bytes.now s c.before.before.before.before.before.Span-of.ensures c.before.of.result c.before.of.ensures
-    (λ (o : Overlay). planIn a.kind o (findTable a.directory a.kind a.number) a.number a.index a.sub a.«data».now)
-    (plan-keys a.kind (findTable a.directory a.kind a.number) a.number a.index a.sub a.«data».now)
+    (λ (o : Overlay). plan_in a.kind o (find_table a.directory a.kind a.number) a.number a.index a.sub a.«data».now)
+    (plan-keys a.kind (find_table a.directory a.kind a.number) a.number a.index a.sub a.«data».now)
 
 pub planned-spec : {M : Type 1} → statement M
 planned-spec =

@@ -5,19 +5,19 @@ use native.Mathlib.Omega.{arith}
 use Rattle.answer.specs.declared.answer.Answer.TheVariants.{Done}
 use Rattle.directory.specs.declared.table.TableKind.TheVariants.{Index, Value, RefCount}
 use Rattle.change.specs.declared.size.Sized.{Sized}
-use Rattle.change.specs.Change.{Change, changeOf}
-use Rattle.change.specs.Size.{entriesSize, recordSize, sizedKept}
+use Rattle.change.specs.Change.{Change, change_of}
+use Rattle.change.specs.Size.{entries_size, record_size, sized_kept}
 use Rattle.change.proofs.Rules.{RuledList, ruled-shows}
 use borrow.Author.Rules.{rules}
 use Rattle.change.proofs.change.LogChange.record_size_kept.Statement.{statement}
 use Rattle.change.proofs.change.LogChange.record_size_kept.Tie as tie
 
-rules : (s : tie.Start) → RuledList (changeOf s.args.self s.args.words.now s.args.bytes.now)
-rules s = ruled-shows (changeOf s.args.self s.args.words.now s.args.bytes.now) s.requires
+rules : (s : tie.Start) → RuledList (change_of s.args.self s.args.words.now s.args.bytes.now)
+rules s = ruled-shows (change_of s.args.self s.args.words.now s.args.bytes.now) s.requires
 
-whole : (l : Change) (a b c : ℕ) → a ≡ entriesSize Index l.parts.index → b ≡ entriesSize Value l.parts.value → c ≡ entriesSize RefCount l.parts.refCount
-    → ◌≡◌ {A = Sized} (record { answer = Done; length = 14 + a + b + c + 3 * l.drops.count + 3 * l.countDrops.count }) (sizedKept l)
-unfolding recordSize
+whole : (l : Change) (a b c : ℕ) → a ≡ entries_size Index l.parts.index → b ≡ entries_size Value l.parts.value → c ≡ entries_size RefCount l.parts.ref_count
+    → ◌≡◌ {A = Sized} (record { answer = Done; length = 14 + a + b + c + 3 * l.drops.count + 3 * l.count_drops.count }) (sized_kept l)
+unfolding record_size
 whole l a b c p q r = rw (p, q, r)
 
 kind-size-requires : tie.Need-kind-size-requires
@@ -51,7 +51,7 @@ add-t17 : tie.Need-overflow-add-t17
 add-t17 c = omega (arith, c.before.before.before.before.kind-size.ensures.1, c.before.before.before.kind-size2.ensures.1, c.before.before.kind-size3.ensures.1, rules c.before.before.before.before.before.before.before.before.before)
 
 returns : tie.Need-returns
-returns c = whole (changeOf c.before.before.before.before.before.before.before.before.before.args.self c.before.before.before.before.before.before.before.before.before.args.words.now c.before.before.before.before.before.before.before.before.before.args.bytes.now) _ _ _ c.before.before.before.before.kind-size.ensures.0 c.before.before.before.kind-size2.ensures.0 c.before.before.kind-size3.ensures.0
+returns c = whole (change_of c.before.before.before.before.before.before.before.before.before.args.self c.before.before.before.before.before.before.before.before.before.args.words.now c.before.before.before.before.before.before.before.before.before.args.bytes.now) _ _ _ c.before.before.before.before.kind-size.ensures.0 c.before.before.before.kind-size2.ensures.0 c.before.before.kind-size3.ensures.0
 
 pub record-size-kept-spec : {M : Type 1} → statement M
 record-size-kept-spec =

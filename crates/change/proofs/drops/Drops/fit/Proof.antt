@@ -8,7 +8,7 @@ use lib.ListN.{length, take, drop}
 use Rattle.directory.specs.Directory.{tables_of, stands}
 use Rattle.keys.specs.Keys.{every}
 use Rattle.overlay.proofs.Order.{every-fails, every-goes, every-ends}
-use Rattle.change.specs.Change.{dropsFit}
+use Rattle.change.specs.Change.{drops_fit}
 use Rattle.change.proofs.drops.Drops.fit.Statement.{statement}
 use Rattle.change.proofs.drops.Drops.fit.Tie as tie
 
@@ -34,7 +34,7 @@ is-there-requires : tie.Need-is-there-requires invariant-loop decreases-loop
 is-there-requires c κs = tt
 
 returns : tie.Need-returns invariant-loop decreases-loop
-unfolding dropsFit
+unfolding drops_fit
 returns c =
     let a = c.before.before.before.before.before.args in
     let f = stands (tables_of a.directory) a.kind in
@@ -53,7 +53,7 @@ loop-again c =
     (omega arith, sym (every-goes f a.t1.tables a.t1.count (long c.before.before.before.before.before) c.before.before.before.before.loop.i c.before.before.before.loop-test.true (sym c.before.is-there.ensures ∙ not-false _ c.if1.false)) ∙ c.before.before.before.before.loop.invariant.1)
 
 returns-2 : tie.Need-returns-2 invariant-loop decreases-loop
-unfolding dropsFit
+unfolding drops_fit
 returns-2 c =
     let a = c.before.before.args in
     let f = stands (tables_of a.directory) a.kind in

@@ -2,7 +2,7 @@
 use mathlib.Core.Path.{sym}
 use native.Mathlib.Omega.{arith}
 use lib.Seq.{length-take-le}
-use Rattle.checker.proofs.Calls.{takes-room, more_left, more-right, front_fits, front_of}
+use Rattle.checker.proofs.Calls.{takes-room, more_left, more_right, front_fits, front_of}
 use borrow.Author.Rules.{rules}
 use Rattle.checker.proofs.checker.LogChecker.across.Statement.{statement}
 use Rattle.checker.proofs.checker.LogChecker.across.Tie as tie
@@ -22,12 +22,12 @@ least-requires c κs = search rules
 
 -- src/checker.rt:278:30
 slice-aggregate-join : tie.Need-slice-aggregate-join
-slice-aggregate-join c = sym (length-take-le _ c.before.before.before.before.args.bytes.now (more-right c.before.before.before.before.args.old.now c.before.before.before.before.args.bytes.now _ (omega (arith, takes-room c.before.before.before.before.args.self c.before.before.before.before.args.bytes.now c.before.before.before.before.requires.0, c.before.before.before.before.requires.2)) c.before.least.ensures))
+slice-aggregate-join c = sym (length-take-le _ c.before.before.before.before.args.bytes.now (more_right c.before.before.before.before.args.old.now c.before.before.before.before.args.bytes.now _ (omega (arith, takes-room c.before.before.before.before.args.self c.before.before.before.before.args.bytes.now c.before.before.before.before.requires.0, c.before.before.before.before.requires.2)) c.before.least.ensures))
 
 -- src/checker.rt:278:20
 join-requires : tie.Need-join-requires
 join-requires c κs =
-    omega (arith, more_left c.before.before.before.before.args.old.now c.before.before.before.before.args.bytes.now _ (omega (arith, takes-room c.before.before.before.before.args.self c.before.before.before.before.args.bytes.now c.before.before.before.before.requires.0, c.before.before.before.before.requires.2)) c.before.least.ensures, length-take-le _ c.before.before.before.before.args.bytes.now (more-right c.before.before.before.before.args.old.now c.before.before.before.before.args.bytes.now _ (omega (arith, takes-room c.before.before.before.before.args.self c.before.before.before.before.args.bytes.now c.before.before.before.before.requires.0, c.before.before.before.before.requires.2)) c.before.least.ensures))
+    omega (arith, more_left c.before.before.before.before.args.old.now c.before.before.before.before.args.bytes.now _ (omega (arith, takes-room c.before.before.before.before.args.self c.before.before.before.before.args.bytes.now c.before.before.before.before.requires.0, c.before.before.before.before.requires.2)) c.before.least.ensures, length-take-le _ c.before.before.before.before.args.bytes.now (more_right c.before.before.before.before.args.old.now c.before.before.before.before.args.bytes.now _ (omega (arith, takes-room c.before.before.before.before.args.self c.before.before.before.before.args.bytes.now c.before.before.before.before.requires.0, c.before.before.before.before.requires.2)) c.before.least.ensures))
 
 -- src/checker.rt:279:13
 slice-aggregate-all : tie.Need-slice-aggregate-all

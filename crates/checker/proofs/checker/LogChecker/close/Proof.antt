@@ -1,6 +1,6 @@
 -- `close` meets its contract. Assumes nothing.
 use mathlib.Core.Path.{sym, ◌∙◌}
-use Rattle.checker.proofs.Calls.{close-door, close-13}
+use Rattle.checker.proofs.Calls.{close_door, close-13}
 use borrow.Author.Rules.{rules}
 use Rattle.checker.proofs.checker.LogChecker.close.Statement.{statement}
 use Rattle.checker.proofs.checker.LogChecker.close.Tie as tie
@@ -26,7 +26,7 @@ no-run-requires c κs = search rules
 returns : tie.Need-returns
 returns c =
     let a = c.before.before.before.args in
-    close-door a.self _ (sym c.before.before.kept.ensures ∙ c.before.if1.true) c.close-kept.ensures
+    close_door a.self _ (sym c.before.before.kept.ensures ∙ c.before.if1.true) c.close-kept.ensures
 
 -- src/checker.rt:333:5
 returns-2 : tie.Need-returns-2

@@ -1,5 +1,5 @@
 -- `close_kept` meets its contract. Assumes nothing.
-use Rattle.checker.proofs.Calls.{close_late, close-now}
+use Rattle.checker.proofs.Calls.{close_late, close_now}
 use borrow.Author.Rules.{rules}
 use Rattle.checker.proofs.checker.LogChecker.close_kept.Statement.{statement}
 use Rattle.checker.proofs.checker.LogChecker.close_kept.Tie as tie
@@ -26,7 +26,7 @@ report-requires c κs = (c.before.requires, c.if1.false)
 returns-2 : tie.Need-returns-2
 returns-2 c =
     let a = c.before.before.args in
-    close-now a.self _ c.before.if1.false c.report.ensures
+    close_now a.self _ c.before.if1.false c.report.ensures
 
 pub close-kept-spec : {M : Type 1} → statement M
 close-kept-spec = tie.close (tie.spec no-run-requires returns report-requires returns-2)

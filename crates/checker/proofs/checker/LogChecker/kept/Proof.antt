@@ -3,8 +3,8 @@ use mathlib.Core.Path.{sym, ◌∙◌}
 use mathlib.Core.Bool.{true, true≢false}
 use native.Mathlib.Omega.{arith}
 use borrow.Author.Tests.{not-true, not-false}
-use Rattle.checker.proofs.Calls.{open-now, not-open}
-use Rattle.checker.proofs.Rules.{refutes, kept-directory, kept-total, kept-settled, settled-checker, closed-checker, open-last}
+use Rattle.checker.proofs.Calls.{open_now, not_open}
+use Rattle.checker.proofs.Rules.{refutes, kept-directory, kept-total, kept-settled, settled_checker, closed_checker, open_last}
 use borrow.Author.Rules.{rules}
 use Rattle.checker.proofs.checker.LogChecker.kept.Statement.{statement}
 use Rattle.checker.proofs.checker.LogChecker.kept.Tie as tie
@@ -29,7 +29,7 @@ returns-2 c = refutes (λ e. omega (arith, kept-total c.before.before.before.bef
 
 -- src/checker.rt:232:13
 returns-3 : tie.Need-returns-3
-returns-3 c = sym (closed-checker c.before.before.before.before.before.args.self (sym c.before.before.before.before.kept.ensures ∙ not-false _ c.before.before.before.if1.false) (omega (arith, c.before.if2.false)) c.if3.true)
+returns-3 c = sym (closed_checker c.before.before.before.before.before.args.self (sym c.before.before.before.before.kept.ensures ∙ not-false _ c.before.before.before.if1.false) (omega (arith, c.before.if2.false)) c.if3.true)
 
 -- src/checker.rt:234:12
 is-settled-requires : tie.Need-is-settled-requires
@@ -37,7 +37,7 @@ is-settled-requires c κs = search rules
 
 -- src/checker.rt:235:13
 returns-4 : tie.Need-returns-4
-returns-4 c = sym (settled-checker c.before.before.before.before.before.before.before.args.self (sym c.before.before.before.before.before.before.kept.ensures ∙ not-false _ c.before.before.before.before.before.if1.false) (omega (arith, c.before.before.before.if2.false)) (sym c.before.is-settled.ensures ∙ c.if4.true))
+returns-4 c = sym (settled_checker c.before.before.before.before.before.before.before.args.self (sym c.before.before.before.before.before.before.kept.ensures ∙ not-false _ c.before.before.before.before.before.if1.false) (omega (arith, c.before.before.before.if2.false)) (sym c.before.is-settled.ensures ∙ c.if4.true))
 
 -- src/checker.rt:237:12
 number-requires : tie.Need-number-requires
@@ -46,7 +46,7 @@ number-requires c κs = search rules
 -- src/checker.rt:238:13
 returns-5 : tie.Need-returns-5
 returns-5 c =
-    refutes (λ e. true≢false (sym (kept-settled c.before.before.before.before.before.before.before.before.before.args.self e c.before.before.before.before.if3.false (not-open c.before.before.before.before.before.before.before.before.before.args.self _ c.before.number.ensures c.if5.true)) ∙ sym c.before.before.before.is-settled.ensures ∙ c.before.before.if4.false))
+    refutes (λ e. true≢false (sym (kept-settled c.before.before.before.before.before.before.before.before.before.args.self e c.before.before.before.before.if3.false (not_open c.before.before.before.before.before.before.before.before.before.args.self _ c.before.number.ensures c.if5.true)) ∙ sym c.before.before.before.is-settled.ensures ∙ c.before.before.if4.false))
 
 -- src/checker.rt:240:9
 open-kept-requires : tie.Need-open-kept-requires
@@ -55,7 +55,7 @@ open-kept-requires c κs = sym c.before.before.before.before.before.before.befor
 -- src/checker.rt:222:5
 returns-6 : tie.Need-returns-6
 returns-6 c =
-    c.open_kept.ensures ∙ open-last c.before.before.before.before.before.before.before.before.before.before.args.self (sym c.before.before.before.before.before.before.before.before.before.kept.ensures ∙ not-false _ c.before.before.before.before.before.before.before.before.if1.false) (omega (arith, c.before.before.before.before.before.before.if2.false)) c.before.before.before.before.before.if3.false (open-now c.before.before.before.before.before.before.before.before.before.before.args.self _ c.before.before.number.ensures (omega (arith, c.before.if5.false)))
+    c.open_kept.ensures ∙ open_last c.before.before.before.before.before.before.before.before.before.before.args.self (sym c.before.before.before.before.before.before.before.before.before.kept.ensures ∙ not-false _ c.before.before.before.before.before.before.before.before.if1.false) (omega (arith, c.before.before.before.before.before.before.if2.false)) c.before.before.before.before.before.if3.false (open_now c.before.before.before.before.before.before.before.before.before.before.args.self _ c.before.before.number.ensures (omega (arith, c.before.if5.false)))
 
 pub kept-spec : {M : Type 1} → statement M
 kept-spec =

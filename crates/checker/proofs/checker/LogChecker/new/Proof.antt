@@ -1,6 +1,6 @@
 -- `new` meets its contract. Assumes nothing.
 use mathlib.Core.Path.{refl, sym, ◌∙◌}
-use Rattle.checker.proofs.Calls.{starts, start-kept, start-broken}
+use Rattle.checker.proofs.Calls.{starts, start-kept, start_broken}
 use borrow.Author.Rules.{rules}
 use Rattle.checker.proofs.checker.LogChecker.new.Statement.{statement}
 use Rattle.checker.proofs.checker.LogChecker.new.Tie as tie
@@ -34,7 +34,7 @@ returns c =
 -- src/checker.rt:95:5
 returns-2 : tie.Need-returns-2
 returns-2 c =
-    start-broken c.before.before.before.before.args.directory c.before.before.before.before.args.first _ _ (sym c.before.before.kept.ensures ∙ c.before.if1.false) (starts c.before.before.before.before.args.directory c.before.before.before.before.args.first _ _ c.before.before.before.new.ensures refl) c.answered2.ensures
+    start_broken c.before.before.before.before.args.directory c.before.before.before.before.args.first _ _ (sym c.before.before.kept.ensures ∙ c.before.if1.false) (starts c.before.before.before.before.args.directory c.before.before.before.before.args.first _ _ c.before.before.before.new.ensures refl) c.answered2.ensures
 
 pub new_spec : {M : Type 1} → statement M
 new_spec =

@@ -1,6 +1,6 @@
 -- `piece` meets its contract. Assumes nothing.
 use mathlib.Core.Path.{sym, ◌∙◌}
-use Rattle.checker.proofs.Calls.{piece-door, piece-13}
+use Rattle.checker.proofs.Calls.{piece_door, piece-13}
 use borrow.Author.Rules.{rules}
 use Rattle.checker.proofs.checker.LogChecker.piece.Statement.{statement}
 use Rattle.checker.proofs.checker.LogChecker.piece.Tie as tie
@@ -25,7 +25,7 @@ answered-requires c κs = search rules
 -- src/checker.rt:312:5
 returns : tie.Need-returns
 returns c =
-    piece-door c.before.before.before.before.args.self c.before.before.before.before.args.bytes.now _ (sym c.before.before.kept.ensures ∙ c.before.if1.true) c.piece-kept.ensures
+    piece_door c.before.before.before.before.args.self c.before.before.before.before.args.bytes.now _ (sym c.before.before.kept.ensures ∙ c.before.if1.true) c.piece-kept.ensures
 
 -- src/checker.rt:312:5
 returns-2 : tie.Need-returns-2

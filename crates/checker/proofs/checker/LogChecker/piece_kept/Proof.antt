@@ -1,6 +1,6 @@
 -- `piece_kept` meets its contract. Assumes nothing.
 use native.Mathlib.Omega.{arith}
-use Rattle.checker.proofs.Calls.{open-now, not-open, piece-late, piece-much, piece-open, piece-told}
+use Rattle.checker.proofs.Calls.{open_now, not_open, piece_late, piece_much, piece_open, piece_told}
 use Rattle.checker.proofs.Rules.{kept-total}
 use borrow.Author.Rules.{rules}
 use Rattle.checker.proofs.checker.LogChecker.piece_kept.Statement.{statement}
@@ -19,7 +19,7 @@ answered-requires c κs = search rules
 
 -- src/checker.rt:300:13
 returns : tie.Need-returns
-returns c = piece-late c.before.before.before.args.self c.before.before.before.args.bytes.now _ c.before.if1.true c.answered.ensures
+returns c = piece_late c.before.before.before.args.self c.before.before.before.args.bytes.now _ c.before.if1.true c.answered.ensures
 
 -- src/checker.rt:302:12
 sub-if2 : tie.Need-overflow-sub-if2
@@ -31,7 +31,7 @@ answered-requires-2 c κs = search rules
 
 -- src/checker.rt:303:13
 returns-2 : tie.Need-returns-2
-returns-2 c = piece-much c.before.before.before.before.before.args.self c.before.before.before.before.before.args.bytes.now _ c.before.before.before.if1.false c.before.if2.true c.answered2.ensures
+returns-2 c = piece_much c.before.before.before.before.before.args.self c.before.before.before.before.before.args.bytes.now _ c.before.before.before.if1.false c.before.if2.true c.answered2.ensures
 
 -- src/checker.rt:305:12
 number-requires : tie.Need-number-requires
@@ -42,7 +42,7 @@ taken-requires : tie.Need-taken-requires
 taken-requires c κs =
     record {
       kept = c.before.before.before.before.before.before.requires;
-      open-yet = open-now c.before.before.before.before.before.before.args.self _ c.before.number.ensures c.if3.true;
+      open_yet = open_now c.before.before.before.before.before.before.args.self _ c.before.number.ensures c.if3.true;
       going = c.before.before.before.before.if1.false;
       few = omega (arith, kept-total c.before.before.before.before.before.before.args.self c.before.before.before.before.before.before.requires, c.before.before.if2.false);
     }
@@ -50,7 +50,7 @@ taken-requires c κs =
 -- src/checker.rt:306:13
 returns-3 : tie.Need-returns-3
 returns-3 c =
-    piece-open c.before.before.before.before.before.before.before.args.self c.before.before.before.before.before.before.before.args.bytes.now _ c.before.before.before.before.before.if1.false (omega (arith, c.before.before.before.if2.false)) (open-now c.before.before.before.before.before.before.before.args.self _ c.before.before.number.ensures c.before.if3.true) c.taken.ensures
+    piece_open c.before.before.before.before.before.before.before.args.self c.before.before.before.before.before.before.before.args.bytes.now _ c.before.before.before.before.before.if1.false (omega (arith, c.before.before.before.if2.false)) (open_now c.before.before.before.before.before.before.before.args.self _ c.before.before.number.ensures c.before.if3.true) c.taken.ensures
 
 -- src/checker.rt:308:9
 counted-requires : tie.Need-counted-requires
@@ -63,7 +63,7 @@ told-requires c κs = search rules
 -- src/checker.rt:295:5
 returns-4 : tie.Need-returns-4
 returns-4 c =
-    piece-told c.before.before.before.before.before.before.before.before.args.self c.before.before.before.before.before.before.before.before.args.bytes.now _ c.before.before.before.before.before.before.if1.false (omega (arith, c.before.before.before.before.if2.false)) (not-open c.before.before.before.before.before.before.before.before.args.self _ c.before.before.before.number.ensures c.before.before.if3.false) _ c.before.counted.ensures c.told.ensures
+    piece_told c.before.before.before.before.before.before.before.before.args.self c.before.before.before.before.before.before.before.before.args.bytes.now _ c.before.before.before.before.before.before.if1.false (omega (arith, c.before.before.before.before.if2.false)) (not_open c.before.before.before.before.before.before.before.before.args.self _ c.before.before.before.number.ensures c.before.before.if3.false) _ c.before.counted.ensures c.told.ensures
 
 pub piece-kept-spec : {M : Type 1} → statement M
 piece-kept-spec =

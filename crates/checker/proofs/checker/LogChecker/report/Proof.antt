@@ -1,8 +1,8 @@
 -- `report` meets its contract. Assumes nothing.
 use native.Mathlib.Omega.{arith}
 use mathlib.Core.Bool.{true, false}
-use Rattle.checker.proofs.Calls.{reports-settled, reports-open, open-now}
-use Rattle.checker.proofs.Rules.{kept-open}
+use Rattle.checker.proofs.Calls.{reports-settled, reports_open, open_now}
+use Rattle.checker.proofs.Rules.{kept_open}
 use borrow.Author.Rules.{rules}
 use Rattle.checker.proofs.checker.LogChecker.report.Statement.{statement}
 use Rattle.checker.proofs.checker.LogChecker.report.Tie as tie
@@ -25,8 +25,8 @@ returns c =
 sub-place : tie.Need-overflow-sub-place
 sub-place c =
     let s = c.before.before.before.before.before in
-    let live = open-now s.args.self _ c.before.before.before.before.number.ensures c.before.before.before.if1.false in
-    omega (arith, (kept-open s.args.self s.requires.0 s.requires.1 live).taken)
+    let live = open_now s.args.self _ c.before.before.before.before.number.ensures c.before.before.before.if1.false in
+    omega (arith, (kept_open s.args.self s.requires.0 s.requires.1 live).taken)
 
 -- src/checker.rt:297:13
 report-requires : tie.Need-report-requires
@@ -36,7 +36,7 @@ report-requires c κs = search rules
 returns-2 : tie.Need-returns-2
 returns-2 c =
     let a = c.before.before.before.before.before.before.before.args in
-    reports-open a.self _ c.before.before.before.before.before.before.number.ensures c.before.before.before.before.before.if1.false true c.before.if2.true _ c.report.ensures
+    reports_open a.self _ c.before.before.before.before.before.before.number.ensures c.before.before.before.before.before.if1.false true c.before.if2.true _ c.report.ensures
 
 -- src/checker.rt:299:9
 report-requires-2 : tie.Need-report-requires-2
@@ -46,7 +46,7 @@ report-requires-2 c κs = search rules
 returns-3 : tie.Need-returns-3
 returns-3 c =
     let a = c.before.before.before.before.before.before.before.args in
-    reports-open a.self _ c.before.before.before.before.before.before.number.ensures c.before.before.before.before.before.if1.false false c.before.if2.false _ c.report2.ensures
+    reports_open a.self _ c.before.before.before.before.before.before.number.ensures c.before.before.before.before.before.if1.false false c.before.if2.false _ c.report2.ensures
 
 pub report-spec : {M : Type 1} → statement M
 report-spec =

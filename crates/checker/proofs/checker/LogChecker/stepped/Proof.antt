@@ -1,7 +1,7 @@
 -- `stepped` meets its contract. Assumes nothing.
 use mathlib.Core.Path.{sym, ◌∙◌}
 use native.Mathlib.Omega.{arith}
-use Rattle.checker.proofs.Calls.{front-directory, front-after, front-held, front_length, front-stands, across-told, across-kept, on-back, on-stands, across-on-in}
+use Rattle.checker.proofs.Calls.{front-directory, front-after, front-held, front_length, front-stands, across_told, across_kept, on-back, on-stands, across_on_in}
 use borrow.Author.Rules.{rules}
 use Rattle.checker.proofs.checker.LogChecker.stepped.Statement.{statement}
 use Rattle.checker.proofs.checker.LogChecker.stepped.Tie as tie
@@ -67,17 +67,17 @@ walked-requires c κs = (front-after c.before.before.before.before.before.before
 -- src/checker.rt:259:5
 returns : tie.Need-returns
 returns c =
-    across-told c.before.before.before.before.before.before.before.before.before.before.args.self c.before.before.before.before.before.before.before.before.before.before.args.bytes.now c.before.before.before.before.before.before.before.before.before.before.args.front.now c.before.before.before.before.before.before.before.before.before.before.requires.0 c.before.before.before.before.before.before.before.before.before.before.requires.1 _ (sym c.before.before.before.ran.given.1 ∙ c.before.before.before.before.before.one-step.ensures) _ _ _ c.before.before.before.before.before.before.counted.ensures c.before.settled.ensures c.told.ensures
+    across_told c.before.before.before.before.before.before.before.before.before.before.args.self c.before.before.before.before.before.before.before.before.before.before.args.bytes.now c.before.before.before.before.before.before.before.before.before.before.args.front.now c.before.before.before.before.before.before.before.before.before.before.requires.0 c.before.before.before.before.before.before.before.before.before.before.requires.1 _ (sym c.before.before.before.ran.given.1 ∙ c.before.before.before.before.before.one-step.ensures) _ _ _ c.before.before.before.before.before.before.counted.ensures c.before.settled.ensures c.told.ensures
 
 -- src/checker.rt:259:5
 returns-2 : tie.Need-returns-2
 returns-2 c =
-    across-kept c.before.before.before.before.before.before.before.before.before.before.args.self c.before.before.before.before.before.before.before.before.before.before.args.bytes.now c.before.before.before.before.before.before.before.before.before.before.args.front.now c.before.before.before.before.before.before.before.before.before.before.requires.0 c.before.before.before.before.before.before.before.before.before.before.requires.1 _ (sym c.before.before.before.s.given.1 ∙ c.before.before.before.before.before.one-step.ensures) _ _ _ c.before.before.before.before.before.before.counted.ensures c.before.keep.ensures c.answered.ensures
+    across_kept c.before.before.before.before.before.before.before.before.before.before.args.self c.before.before.before.before.before.before.before.before.before.before.args.bytes.now c.before.before.before.before.before.before.before.before.before.before.args.front.now c.before.before.before.before.before.before.before.before.before.before.requires.0 c.before.before.before.before.before.before.before.before.before.before.requires.1 _ (sym c.before.before.before.s.given.1 ∙ c.before.before.before.before.before.one-step.ensures) _ _ _ c.before.before.before.before.before.before.counted.ensures c.before.keep.ensures c.answered.ensures
 
 -- src/checker.rt:259:5
 returns-3 : tie.Need-returns-3
 returns-3 c =
-    across-on-in c.before.before.before.before.before.before.before.before.before.before.args.self c.before.before.before.before.before.before.before.before.before.before.args.bytes.now c.before.before.before.before.before.before.before.before.before.before.args.front.now c.before.before.before.before.before.before.before.before.before.before.requires.0 c.before.before.before.before.before.before.before.before.before.before.requires.1 _ (sym c.before.before.before.s2.given.1 ∙ c.before.before.before.before.before.one-step.ensures) _ _ _ c.before.before.before.before.before.before.counted.ensures c.before.back.ensures c.walked.ensures
+    across_on_in c.before.before.before.before.before.before.before.before.before.before.args.self c.before.before.before.before.before.before.before.before.before.before.args.bytes.now c.before.before.before.before.before.before.before.before.before.before.args.front.now c.before.before.before.before.before.before.before.before.before.before.requires.0 c.before.before.before.before.before.before.before.before.before.before.requires.1 _ (sym c.before.before.before.s2.given.1 ∙ c.before.before.before.before.before.one-step.ensures) _ _ _ c.before.before.before.before.before.before.counted.ensures c.before.back.ensures c.walked.ensures
 
 pub stepped-spec : {M : Type 1} → statement M
 stepped-spec =

@@ -3,7 +3,7 @@ use mathlib.Core.Path.{sym, ◌∙◌}
 use mathlib.Core.Bool.{true, true≢false}
 use native.Mathlib.Omega.{arith}
 use borrow.Author.Tests.{not-true, not-false}
-use Rattle.checker.proofs.Rules.{refutes, stands-facts, stands-kept, stands-between}
+use Rattle.checker.proofs.Rules.{refutes, stands_facts, stands-kept, stands-between}
 use Rattle.checker.proofs.standing.Standing.stands.Statement.{statement}
 use Rattle.checker.proofs.standing.Standing.stands.Tie as tie
 use Rattle.checker.proofs.standing.Standing.stands.Reads as reads
@@ -11,19 +11,19 @@ use Rattle.checker.proofs.standing.Standing.stands.Lts as lts
 
 -- src/standing.rt:77:13
 returns : tie.Need-returns
-returns c = refutes (λ e. c.if1.true (stands-facts c.before.before.before.args.before c.before.before.before.args.self e).front)
+returns c = refutes (λ e. c.if1.true (stands_facts c.before.before.before.args.before c.before.before.before.args.self e).front)
 
 -- src/standing.rt:80:13
 returns-2 : tie.Need-returns-2
-returns-2 c = refutes (λ e. true≢false (sym (stands-facts c.before.before.before.before.before.args.before c.before.before.before.before.before.args.self e).validates ∙ not-true _ c.if2.true))
+returns-2 c = refutes (λ e. true≢false (sym (stands_facts c.before.before.before.before.before.args.before c.before.before.before.before.before.args.self e).validates ∙ not-true _ c.if2.true))
 
 -- src/standing.rt:83:13
 returns-3 : tie.Need-returns-3
-returns-3 c = refutes (λ e. omega (arith, (stands-facts c.before.before.before.before.before.before.before.args.before c.before.before.before.before.before.before.before.args.self e).counts, c.if3.true))
+returns-3 c = refutes (λ e. omega (arith, (stands_facts c.before.before.before.before.before.before.before.args.before c.before.before.before.before.before.before.before.args.self e).counts, c.if3.true))
 
 -- src/standing.rt:86:13
 returns-4 : tie.Need-returns-4
-returns-4 c = refutes (λ e. omega (arith, (stands-facts c.before.before.before.before.before.before.before.before.before.args.before c.before.before.before.before.before.before.before.before.before.args.self e).begins, c.if4.true))
+returns-4 c = refutes (λ e. omega (arith, (stands_facts c.before.before.before.before.before.before.before.before.before.args.before c.before.before.before.before.before.before.before.before.before.args.self e).begins, c.if4.true))
 
 -- src/standing.rt:89:13
 returns-5 : tie.Need-returns-5

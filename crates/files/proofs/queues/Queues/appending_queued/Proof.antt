@@ -1,5 +1,5 @@
 -- `Queues::appending_queued` meets its contract. Assumes nothing.
-use Rattle.files.proofs.Made.{queued-as}
+use Rattle.files.proofs.Made.{queued_as}
 use borrow.Author.Rules.{rules}
 use Rattle.files.proofs.queues.Queues.appending_queued.Statement.{statement}
 use Rattle.files.proofs.queues.Queues.appending_queued.Tie as tie
@@ -15,7 +15,7 @@ none-requires : tie.Need-none-requires
 none-requires c κs = search rules
 
 returns : tie.Need-returns
-returns c = queued-as c.before.before.args.self _ _ c.before.push-back.ensures c.none.ensures
+returns c = queued_as c.before.before.args.self _ _ c.before.push-back.ensures c.none.ensures
 
 pub appending-queued-spec : {M : Type 1} → statement M
 appending-queued-spec = tie.close (tie.spec push-back-requires none-requires returns)

@@ -1,7 +1,7 @@
 -- `Queues::file_count` meets its contract. Assumes nothing.
 use native.Mathlib.Omega.{arith}
 use Rattle.numbers.proofs.Laws.{one-le}
-use Rattle.files.specs.Queues.{fileCount}
+use Rattle.files.specs.Queues.{file_count}
 use borrow.Author.Rules.{rules}
 use Rattle.files.proofs.queues.Queues.file_count.Statement.{statement}
 use Rattle.files.proofs.queues.Queues.file_count.Tie as tie
@@ -31,7 +31,7 @@ add-result-5 : tie.Need-overflow-add-result-5
 add-result-5 c = omega (arith, c.before.before.before.before.before.count.ensures, c.before.before.before.before.count2.ensures, one-le c.before.before.before.before.before.before.args.self.appending.some, one-le c.before.before.before.before.before.before.args.self.reading.some, c.before.before.before.before.before.before.requires)
 
 returns : tie.Need-returns
-unfolding fileCount
+unfolding file_count
 returns c = rw (c.before.before.before.before.before.count.ensures, c.before.before.before.before.count2.ensures)
 
 pub file-count-spec : {M : Type 1} → statement M

@@ -2,8 +2,8 @@
 use Prim.Native.Nat.{ℕ}
 use mathlib.Core.Path.{sym, ap, ◌∙◌}
 use lib.Dec.{eqb}
-use Rattle.files.specs.Calls.{fileSetFull}
-use Rattle.files.proofs.Rule.{kept-facts}
+use Rattle.files.specs.Calls.{file_set_full}
+use Rattle.files.proofs.Rule.{kept_facts}
 use borrow.Author.Rules.{rules}
 use Rattle.files.proofs.queues.Queues.file_set_full.Statement.{statement}
 use Rattle.files.proofs.queues.Queues.file_set_full.Tie as tie
@@ -17,15 +17,15 @@ needs-new-requires c κs = search rules
 
 file-count-requires : tie.Need-file-count-requires
 file-count-requires c κs =
-    let r = (kept-facts c.before.before.args.self c.before.before.requires).room in
+    let r = (kept_facts c.before.before.args.self c.before.before.requires).room in
     (r.read, r.cleanup, r.pool, r.replay)
 
 returns : tie.Need-returns
-unfolding fileSetFull
+unfolding file_set_full
 returns c = rw (sym c.before.before.needs-new.ensures ∙ c.before.if1.true) (ap (λ (n : ℕ). eqb n 64) c.file-count.ensures)
 
 returns-2 : tie.Need-returns-2
-unfolding fileSetFull
+unfolding file_set_full
 returns-2 c = rw (sym c.before.needs-new.ensures ∙ c.if1.false)
 
 pub file-set-full-spec : {M : Type 1} → statement M

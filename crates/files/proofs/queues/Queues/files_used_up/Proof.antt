@@ -4,9 +4,9 @@ use Prim.Native.Nat.{◌+◌}
 use lib.Dec.{leb}
 use native.Mathlib.Omega.{arith}
 use mathlib.Core.Path.{sym, ap, ◌∙◌}
-use Rattle.files.specs.Queues.{appendingSize}
-use Rattle.files.specs.Calls.{filesUsedUp}
-use Rattle.files.proofs.Rule.{kept-facts, leb-moved}
+use Rattle.files.specs.Queues.{appending_size}
+use Rattle.files.specs.Calls.{files_used_up}
+use Rattle.files.proofs.Rule.{kept_facts, leb_moved}
 use borrow.Author.Rules.{rules}
 use Rattle.files.proofs.queues.Queues.files_used_up.Statement.{statement}
 use Rattle.files.proofs.queues.Queues.files_used_up.Tie as tie
@@ -19,20 +19,20 @@ lacks-number-requires : tie.Need-lacks-number-requires
 lacks-number-requires c κs = search rules
 
 returns : tie.Need-returns
-unfolding filesUsedUp
+unfolding files_used_up
 returns c = rw (sym c.before.lacks-number.ensures ∙ c.if1.true)
 
 size-requires : tie.Need-size-requires
 size-requires c κs = search rules
 
 sub-result : tie.Need-overflow-sub-result
-sub-result c = omega (arith, c.size.ensures, (kept-facts c.before.before.before.args.self c.before.before.before.requires).size)
+sub-result c = omega (arith, c.size.ensures, (kept_facts c.before.before.before.args.self c.before.before.before.requires).size)
 
 returns-2 : tie.Need-returns-2
-unfolding filesUsedUp
+unfolding files_used_up
 returns-2 c =
     let q = c.before.before.before.args.self in
-    leb-moved (appendingSize q) c.size.result c.before.before.before.args.length c.size.ensures (kept-facts q c.before.before.before.requires).size ∙ ap (λ (b : Bool). b || leb 9223372036854775808 (appendingSize q + c.before.before.before.args.length)) (sym (sym c.before.before.lacks-number.ensures ∙ c.before.if1.false))
+    leb_moved (appending_size q) c.size.result c.before.before.before.args.length c.size.ensures (kept_facts q c.before.before.before.requires).size ∙ ap (λ (b : Bool). b || leb 9223372036854775808 (appending_size q + c.before.before.before.args.length)) (sym (sym c.before.before.lacks-number.ensures ∙ c.before.if1.false))
 
 pub files-used-up-spec : {M : Type 1} → statement M
 files-used-up-spec =

@@ -1,7 +1,7 @@
 -- `Queues::front_replayed` meets its contract. Assumes nothing.
 -- `Queues::front_replayed` meets its contract. Assumes nothing.
 use borrow.Author.Rules.{rules}
-use Rattle.files.proofs.Made.{front-as}
+use Rattle.files.proofs.Made.{front_as}
 use Rattle.files.proofs.queues.Queues.front_replayed.Statement.{statement}
 use Rattle.files.proofs.queues.Queues.front_replayed.Tie as tie
 use Rattle.files.proofs.queues.Queues.front_replayed.Reads as reads
@@ -23,7 +23,7 @@ file-requires : tie.Need-file-requires
 file-requires c κs = search rules
 
 returns : tie.Need-returns
-returns c = front-as c.before.before.before.before.before.before.args.self _ _ _ _ c.before.before.before.before.without-first.ensures c.before.before.before.without-first2.ensures c.before.front.ensures c.file.ensures
+returns c = front_as c.before.before.before.before.before.before.args.self _ _ _ _ c.before.before.before.before.without-first.ensures c.before.before.before.without-first2.ensures c.before.front.ensures c.file.ensures
 
 pub front-replayed-spec : {M : Type 1} → statement M
 front-replayed-spec =

@@ -6,8 +6,8 @@ use borrow.Author.Tests.{not-true, not-false}
 use lib.Dec.{ltb}
 use lib.ListN.{length}
 use Rattle.numbers.specs.Numbers.{distinct}
-use Rattle.files.specs.Queues.{queuesKept}
-use Rattle.files.proofs.Rule.{room-facts, below_as}
+use Rattle.files.specs.Queues.{queues_kept}
+use Rattle.files.proofs.Rule.{room_facts, below_as}
 use borrow.Author.Rules.{rules}
 use Rattle.files.proofs.queues.Queues.kept.Statement.{statement}
 use Rattle.files.proofs.queues.Queues.kept.Tie as tie
@@ -25,7 +25,7 @@ room-kept-requires : tie.Need-room-kept-requires
 room-kept-requires c κs = search rules
 
 returns : tie.Need-returns
-unfolding queuesKept
+unfolding queues_kept
 returns c = rw (sym c.before.room-kept.ensures ∙ not-true _ c.if1.true)
 
 gather-requires : tie.Need-gather-requires
@@ -41,7 +41,7 @@ all-below-requires : tie.Need-all-below-requires
 all-below-requires c κs = let l : length c.before.before.before.gather.result.numbers ≡ 64 = search rules in omega (arith, l, c.before.before.before.gather.ensures.0)
 
 returns-2 : tie.Need-returns-2
-unfolding queuesKept
+unfolding queues_kept
 returns-2 c = rw (sym c.before.before.before.before.before.before.before.room-kept.ensures ∙ not-false _ c.before.before.before.before.before.before.if1.false, below_as _ _ _ _ _ c.before.before.wide.ensures c.before.before.before.before.before.gather.ensures.1 c.before.all-below.ensures ∙ not-true _ c.if2.true)
 
 slice-aggregate-no-twice : tie.Need-slice-aggregate-no-twice
@@ -51,21 +51,21 @@ no-twice-requires : tie.Need-no-twice-requires
 no-twice-requires c κs = let l : length c.before.before.before.before.before.before.gather.result.numbers ≡ 64 = search rules in omega (arith, l, c.before.before.before.before.before.before.gather.ensures.0)
 
 returns-3 : tie.Need-returns-3
-unfolding queuesKept
+unfolding queues_kept
 returns-3 c = rw (sym c.before.before.before.before.before.before.before.before.before.before.room-kept.ensures ∙ not-false _ c.before.before.before.before.before.before.before.before.before.if1.false, below_as _ _ _ _ _ c.before.before.before.before.before.wide.ensures c.before.before.before.before.before.before.before.before.gather.ensures.1 c.before.before.before.before.all-below.ensures ∙ not-false _ c.before.before.before.if2.false, sym (c.before.no-twice.ensures ∙ ap distinct c.before.before.before.before.before.before.before.before.gather.ensures.1) ∙ not-true _ c.if3.true)
 
 rises-requires : tie.Need-rises-requires
-rises-requires c κs = let l : length c.before.before.before.before.before.before.before.before.before.before.before.before.before.before.before.args.self.log_pool.numbers ≡ 64 = search rules in omega (arith, l, (room-facts c.before.before.before.before.before.before.before.before.before.before.before.before.before.before.before.args.self (sym c.before.before.before.before.before.before.before.before.before.before.before.before.before.before.room-kept.ensures ∙ not-false _ c.before.before.before.before.before.before.before.before.before.before.before.before.before.if1.false)).pool)
+rises-requires c κs = let l : length c.before.before.before.before.before.before.before.before.before.before.before.before.before.before.before.args.self.log_pool.numbers ≡ 64 = search rules in omega (arith, l, (room_facts c.before.before.before.before.before.before.before.before.before.before.before.before.before.before.before.args.self (sym c.before.before.before.before.before.before.before.before.before.before.before.before.before.before.room-kept.ensures ∙ not-false _ c.before.before.before.before.before.before.before.before.before.before.before.before.before.if1.false)).pool)
 
 returns-4 : tie.Need-returns-4
-unfolding queuesKept
+unfolding queues_kept
 returns-4 c = rw (sym c.before.before.before.before.before.before.before.before.before.before.before.before.before.before.before.before.room-kept.ensures ∙ not-false _ c.before.before.before.before.before.before.before.before.before.before.before.before.before.before.before.if1.false, below_as _ _ _ _ _ c.before.before.before.before.before.before.before.before.before.before.before.wide.ensures c.before.before.before.before.before.before.before.before.before.before.before.before.before.before.gather.ensures.1 c.before.before.before.before.before.before.before.before.before.before.all-below.ensures ∙ not-false _ c.before.before.before.before.before.before.before.before.before.if2.false, sym (c.before.before.before.before.before.before.before.no-twice.ensures ∙ ap distinct c.before.before.before.before.before.before.before.before.before.before.before.before.before.before.gather.ensures.1) ∙ not-false _ c.before.before.before.before.before.before.if3.false, sym c.before.rises.ensures ∙ not-true _ c.if4.true)
 
 size-requires : tie.Need-size-requires
 size-requires c κs = search rules
 
 returns-5 : tie.Need-returns-5
-unfolding queuesKept
+unfolding queues_kept
 returns-5 c = rw (sym c.before.before.before.before.before.before.before.before.before.before.before.before.before.before.before.before.before.room-kept.ensures ∙ not-false _ c.before.before.before.before.before.before.before.before.before.before.before.before.before.before.before.before.if1.false, below_as _ _ _ _ _ c.before.before.before.before.before.before.before.before.before.before.before.before.wide.ensures c.before.before.before.before.before.before.before.before.before.before.before.before.before.before.before.gather.ensures.1 c.before.before.before.before.before.before.before.before.before.before.before.all-below.ensures ∙ not-false _ c.before.before.before.before.before.before.before.before.before.before.if2.false, sym (c.before.before.before.before.before.before.before.before.no-twice.ensures ∙ ap distinct c.before.before.before.before.before.before.before.before.before.before.before.before.before.before.before.gather.ensures.1) ∙ not-false _ c.before.before.before.before.before.before.before.if3.false, sym c.before.before.rises.ensures ∙ not-false _ c.before.if4.false) (ap (λ (n : ℕ). ltb n 9223372036854775808) c.size.ensures)
 
 pub kept-spec : {M : Type 1} → statement M

@@ -4,9 +4,9 @@ use Rattle.numbers.specs.declared.queue.NumberQueue.{NumberQueue}
 -- `Queues::kill_logs` meets its contract: the test, and what comes behind it. Assumes nothing.
 use mathlib.Core.Path.{sym, ap, ◌∙◌}
 use borrow.Author.Tests.{not-true, not-false}
-use Rattle.words.proofs.Choices.{if-true, if-false}
-use Rattle.files.specs.Queues.{queuesKept}
-use Rattle.files.specs.Calls.{killLogs}
+use Rattle.words.proofs.Choices.{if_true, if_false}
+use Rattle.files.specs.Queues.{queues_kept}
+use Rattle.files.specs.Calls.{kill_logs}
 use borrow.Author.Rules.{rules}
 use Rattle.files.proofs.queues.Queues.kill_logs.Statement.{statement}
 use Rattle.files.proofs.queues.Queues.kill_logs.Tie as tie
@@ -23,15 +23,15 @@ new-requires : tie.Need-new-requires
 new-requires c κs = search rules
 
 returns : tie.Need-returns
-unfolding killLogs
-returns c = ap (λ (l : NumberQueue). record { answer = BadState; remove = l; queues = c.before.before.before.args.self }) c.new.ensures ∙ sym (if-false (queuesKept c.before.before.before.args.self) _ _ (sym c.before.before.kept.ensures ∙ not-true _ c.before.if1.true))
+unfolding kill_logs
+returns c = ap (λ (l : NumberQueue). record { answer = BadState; remove = l; queues = c.before.before.before.args.self }) c.new.ensures ∙ sym (if_false (queues_kept c.before.before.before.args.self) _ _ (sym c.before.before.kept.ensures ∙ not-true _ c.before.if1.true))
 
 kill-logs-kept-requires : tie.Need-kill-logs-kept-requires
 kill-logs-kept-requires c κs = sym c.before.kept.ensures ∙ not-false _ c.if1.false
 
 returns-2 : tie.Need-returns-2
-unfolding killLogs
-returns-2 c = c.kill-logs-kept.ensures ∙ sym (if-true (queuesKept c.before.before.before.args.self) _ _ (sym c.before.before.kept.ensures ∙ not-false _ c.before.if1.false))
+unfolding kill_logs
+returns-2 c = c.kill-logs-kept.ensures ∙ sym (if_true (queues_kept c.before.before.before.args.self) _ _ (sym c.before.before.kept.ensures ∙ not-false _ c.before.if1.false))
 
 pub kill-logs-spec : {M : Type 1} → statement M
 kill-logs-spec =

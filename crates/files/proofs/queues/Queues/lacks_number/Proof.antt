@@ -1,6 +1,6 @@
 -- `Queues::lacks_number` meets its contract. Assumes nothing.
 use mathlib.Core.Path.{sym, ◌∙◌}
-use Rattle.files.specs.Calls.{lacksNumber}
+use Rattle.files.specs.Calls.{lacks_number}
 use borrow.Author.Rules.{rules}
 use Rattle.files.proofs.queues.Queues.lacks_number.Statement.{statement}
 use Rattle.files.proofs.queues.Queues.lacks_number.Tie as tie
@@ -12,11 +12,11 @@ needs-new-requires : tie.Need-needs-new-requires
 needs-new-requires c κs = search rules
 
 returns : tie.Need-returns
-unfolding lacksNumber
+unfolding lacks_number
 returns c = rw (sym c.before.before.needs-new.ensures ∙ c.before.if1.true)
 
 returns-2 : tie.Need-returns-2
-unfolding lacksNumber
+unfolding lacks_number
 returns-2 c = rw (sym c.before.needs-new.ensures ∙ c.if1.false)
 
 pub lacks-number-spec : {M : Type 1} → statement M

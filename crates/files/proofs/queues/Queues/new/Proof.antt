@@ -1,5 +1,5 @@
 -- `Queues::new` meets its contract. Assumes nothing.
-use Rattle.files.proofs.Made.{new-as}
+use Rattle.files.proofs.Made.{new_as}
 use borrow.Author.Rules.{rules}
 use Rattle.files.proofs.queues.Queues.new.Statement.{statement}
 use Rattle.files.proofs.queues.Queues.new.Tie as tie
@@ -28,7 +28,7 @@ new-requires-4 : tie.Need-new-requires-4
 new-requires-4 c κs = search rules
 
 returns : tie.Need-returns
-returns c = new-as _ _ _ _ _ _ c.before.before.before.before.before.none.ensures c.before.before.before.before.new.ensures c.before.before.before.none2.ensures c.before.before.new2.ensures c.before.new3.ensures c.new4.ensures
+returns c = new_as _ _ _ _ _ _ c.before.before.before.before.before.none.ensures c.before.before.before.before.new.ensures c.before.before.before.none2.ensures c.before.before.new2.ensures c.before.new3.ensures c.new4.ensures
 
 pub new_spec : {M : Type 1} → statement M
 new_spec =

@@ -1,6 +1,6 @@
 -- `Queues::now_reading` meets its contract. Assumes nothing.
 use mathlib.Core.Path.{sym, ◌∙◌}
-use Rattle.files.proofs.ReadOf.{now_on, now-front}
+use Rattle.files.proofs.ReadOf.{now_on, now_front}
 use borrow.Author.Rules.{rules}
 use Rattle.files.proofs.queues.Queues.now_reading.Statement.{statement}
 use Rattle.files.proofs.queues.Queues.now_reading.Tie as tie
@@ -15,7 +15,7 @@ front-read-requires : tie.Need-front-read-requires
 front-read-requires c κs = search rules
 
 returns-2 : tie.Need-returns-2
-returns-2 c = c.front_read.ensures ∙ sym (now-front c.before.before.args.self c.before.if1.false)
+returns-2 c = c.front_read.ensures ∙ sym (now_front c.before.before.args.self c.before.if1.false)
 
 pub now-reading-spec : {M : Type 1} → statement M
 now-reading-spec = tie.close (tie.spec returns front-read-requires returns-2)

@@ -1,6 +1,6 @@
 -- `Queues::open` meets its contract. Assumes nothing.
 use mathlib.Core.Path.{ap, ◌∙◌}
-use Rattle.files.specs.Open.{openedBy, openLogs}
+use Rattle.files.specs.Open.{opened_by, open_logs}
 use Rattle.files.specs.declared.queues.Queues.{Queues}
 use borrow.Author.Rules.{rules}
 use Rattle.files.proofs.queues.Queues.open.Statement.{statement}
@@ -20,11 +20,11 @@ same_length : tie.Need-same-length
 same_length c = search rules
 
 returns : tie.Need-returns
-unfolding openLogs
+unfolding open_logs
 returns c =
     let f = c.before.before.before.log-files.result in
     let w = c.before.before.before.log-files.ensures in
-    (ap (λ (q : Queues). record { answer = f.answer; remove_count = f.remove_count; queues = q }) c.Opened-with.ensures ∙ ap openedBy w.0, w.1)
+    (ap (λ (q : Queues). record { answer = f.answer; remove_count = f.remove_count; queues = q }) c.Opened-with.ensures ∙ ap opened_by w.0, w.1)
 
 pub open_spec : {M : Type 1} → statement M
 open_spec = tie.close (tie.spec log-files-requires opened-with-requires same_length returns)

@@ -1,5 +1,5 @@
 -- `Queues::reading_cleaned` meets its contract. Assumes nothing.
-use Rattle.files.proofs.Made.{cleaned-as}
+use Rattle.files.proofs.Made.{cleaned_as}
 use borrow.Author.Rules.{rules}
 use Rattle.files.proofs.queues.Queues.reading_cleaned.Statement.{statement}
 use Rattle.files.proofs.queues.Queues.reading_cleaned.Tie as tie
@@ -15,7 +15,7 @@ none-requires : tie.Need-none-requires
 none-requires c κs = search rules
 
 returns : tie.Need-returns
-returns c = cleaned-as c.before.before.args.self _ _ c.before.push-if.ensures c.none.ensures
+returns c = cleaned_as c.before.before.args.self _ _ c.before.push-if.ensures c.none.ensures
 
 pub reading-cleaned-spec : {M : Type 1} → statement M
 reading-cleaned-spec = tie.close (tie.spec push-if-requires none-requires returns)

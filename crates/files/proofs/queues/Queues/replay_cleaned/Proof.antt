@@ -1,5 +1,5 @@
 -- `Queues::replay_cleaned` meets its contract. Assumes nothing.
-use Rattle.files.proofs.Made.{emptied-as}
+use Rattle.files.proofs.Made.{emptied_as}
 use borrow.Author.Rules.{rules}
 use Rattle.files.proofs.queues.Queues.replay_cleaned.Statement.{statement}
 use Rattle.files.proofs.queues.Queues.replay_cleaned.Tie as tie
@@ -15,7 +15,7 @@ clear-requires : tie.Need-clear-requires
 clear-requires c κs = search rules
 
 returns : tie.Need-returns
-returns c = emptied-as c.before.before.args.self _ _ c.before.append.ensures c.clear.ensures
+returns c = emptied_as c.before.before.args.self _ _ c.before.append.ensures c.clear.ensures
 
 pub replay-cleaned-spec : {M : Type 1} → statement M
 replay-cleaned-spec = tie.close (tie.spec append-requires clear-requires returns)

@@ -1,9 +1,9 @@
 -- `Queues::replay_next` meets its contract: the test, and what comes behind it. Assumes nothing.
 use mathlib.Core.Path.{sym, ◌∙◌}
 use borrow.Author.Tests.{not-true, not-false}
-use Rattle.words.proofs.Choices.{if-true, if-false}
-use Rattle.files.specs.Queues.{queuesKept}
-use Rattle.files.specs.Calls.{replayNext}
+use Rattle.words.proofs.Choices.{if_true, if_false}
+use Rattle.files.specs.Queues.{queues_kept}
+use Rattle.files.specs.Calls.{replay_next}
 use borrow.Author.Rules.{rules}
 use Rattle.files.proofs.queues.Queues.replay_next.Statement.{statement}
 use Rattle.files.proofs.queues.Queues.replay_next.Tie as tie
@@ -20,15 +20,15 @@ no-replay-requires : tie.Need-no-replay-requires
 no-replay-requires c κs = search rules
 
 returns : tie.Need-returns
-unfolding replayNext
-returns c = c.no-replay.ensures ∙ sym (if-false (queuesKept c.before.before.before.args.self) _ _ (sym c.before.before.kept.ensures ∙ not-true _ c.before.if1.true))
+unfolding replay_next
+returns c = c.no-replay.ensures ∙ sym (if_false (queues_kept c.before.before.before.args.self) _ _ (sym c.before.before.kept.ensures ∙ not-true _ c.before.if1.true))
 
 replay-next-kept-requires : tie.Need-replay-next-kept-requires
 replay-next-kept-requires c κs = sym c.before.kept.ensures ∙ not-false _ c.if1.false
 
 returns-2 : tie.Need-returns-2
-unfolding replayNext
-returns-2 c = c.replay-next-kept.ensures ∙ sym (if-true (queuesKept c.before.before.before.args.self) _ _ (sym c.before.before.kept.ensures ∙ not-false _ c.before.if1.false))
+unfolding replay_next
+returns-2 c = c.replay-next-kept.ensures ∙ sym (if_true (queues_kept c.before.before.before.args.self) _ _ (sym c.before.before.kept.ensures ∙ not-false _ c.before.if1.false))
 
 pub replay-next-spec : {M : Type 1} → statement M
 replay-next-spec =

@@ -1,7 +1,7 @@
 -- `Queues::take_file_kept` meets its contract: a return at a time. Assumes nothing.
 use mathlib.Core.Path.{sym, ◌∙◌}
-use Rattle.words.proofs.Choices.{if-true, if-false}
-use Rattle.files.specs.Calls.{fileSetFull, filesUsedUp, takeFileKept}
+use Rattle.words.proofs.Choices.{if_true, if_false}
+use Rattle.files.specs.Calls.{file_set_full, files_used_up, take_file_kept}
 use borrow.Author.Rules.{rules}
 use Rattle.files.proofs.queues.Queues.take_file_kept.Statement.{statement}
 use Rattle.files.proofs.queues.Queues.take_file_kept.Tie as tie
@@ -19,8 +19,8 @@ not-taken-requires : tie.Need-not-taken-requires
 not-taken-requires c κs = search rules
 
 returns : tie.Need-returns
-unfolding takeFileKept
-returns c = c.not_taken.ensures ∙ sym (if-true (fileSetFull c.before.before.before.args.self) _ _ (sym c.before.before.file-set-full.ensures ∙ c.before.if1.true))
+unfolding take_file_kept
+returns c = c.not_taken.ensures ∙ sym (if_true (file_set_full c.before.before.before.args.self) _ _ (sym c.before.before.file-set-full.ensures ∙ c.before.if1.true))
 
 files-used-up-requires : tie.Need-files-used-up-requires
 files-used-up-requires c κs = c.before.before.requires
@@ -29,19 +29,19 @@ not-taken-requires-2 : tie.Need-not-taken-requires-2
 not-taken-requires-2 c κs = search rules
 
 returns-2 : tie.Need-returns-2
-unfolding takeFileKept
+unfolding take_file_kept
 returns-2 c =
     let q = c.before.before.before.before.before.args.self in
-    c.not-taken2.ensures ∙ sym (if-false (fileSetFull q) _ _ (sym c.before.before.before.before.file-set-full.ensures ∙ c.before.before.before.if1.false) ∙ if-true (filesUsedUp q c.before.before.before.before.before.args.length) _ _ (sym c.before.before.files-used-up.ensures ∙ c.before.if2.true))
+    c.not-taken2.ensures ∙ sym (if_false (file_set_full q) _ _ (sym c.before.before.before.before.file-set-full.ensures ∙ c.before.before.before.if1.false) ∙ if_true (files_used_up q c.before.before.before.before.before.args.length) _ _ (sym c.before.before.files-used-up.ensures ∙ c.before.if2.true))
 
 taken-requires : tie.Need-taken-requires
 taken-requires c κs = (c.before.before.before.before.requires, sym c.before.files-used-up.ensures ∙ c.if2.false)
 
 returns-3 : tie.Need-returns-3
-unfolding takeFileKept
+unfolding take_file_kept
 returns-3 c =
     let q = c.before.before.before.before.before.args.self in
-    c.taken.ensures ∙ sym (if-false (fileSetFull q) _ _ (sym c.before.before.before.before.file-set-full.ensures ∙ c.before.before.before.if1.false) ∙ if-false (filesUsedUp q c.before.before.before.before.before.args.length) _ _ (sym c.before.before.files-used-up.ensures ∙ c.before.if2.false))
+    c.taken.ensures ∙ sym (if_false (file_set_full q) _ _ (sym c.before.before.before.before.file-set-full.ensures ∙ c.before.before.before.if1.false) ∙ if_false (files_used_up q c.before.before.before.before.before.args.length) _ _ (sym c.before.before.files-used-up.ensures ∙ c.before.if2.false))
 
 pub take-file-kept-spec : {M : Type 1} → statement M
 take-file-kept-spec =

@@ -1,6 +1,6 @@
 -- `LogReader::after` meets its contract. Assumes nothing.
 use mathlib.Core.Path.{sym, ◌∙◌}
-use Rattle.record.specs.Next.{readerAfter}
+use Rattle.record.specs.Next.{reader_after}
 use borrow.Author.Rules.{rules}
 use Rattle.record.proofs.reader.LogReader.after.Statement.{statement}
 use Rattle.record.proofs.reader.LogReader.after.Tie as tie
@@ -16,11 +16,11 @@ forward-requires : tie.Need-forward-requires
 forward-requires c κs = search rules
 
 returns : tie.Need-returns
-unfolding readerAfter
+unfolding reader_after
 returns c = rw (sym c.before.is-end.ensures ∙ c.if1.true)
 
 returns-2 : tie.Need-returns-2
-unfolding readerAfter
+unfolding reader_after
 returns-2 c = rw (sym c.before.before.is-end.ensures ∙ c.before.if1.false) c.forward.ensures
 
 pub after-spec : {M : Type 1} → statement M

@@ -1,5 +1,5 @@
 -- `LogReader::forward` meets its contract. Assumes nothing.
-use Rattle.record.specs.Next.{forwardTo}
+use Rattle.record.specs.Next.{forward_to}
 use borrow.Author.Rules.{rules}
 use Rattle.record.proofs.reader.LogReader.forward.Statement.{statement}
 use Rattle.record.proofs.reader.LogReader.forward.Tie as tie
@@ -20,11 +20,11 @@ update-requires : tie.Need-update-requires
 update-requires c κs = search rules
 
 returns : tie.Need-returns
-unfolding forwardTo
+unfolding forward_to
 returns c = rw (c.before.before.if1.true, ← c.update.ensures)
 
 returns-2 : tie.Need-returns-2
-unfolding forwardTo
+unfolding forward_to
 returns-2 c = rw c.if1.false
 
 pub forward-spec : {M : Type 1} → statement M

@@ -1,9 +1,9 @@
 -- `LogReader::step_inside` meets its contract: what was read lies within the log. Assumes nothing.
-use Rattle.record.proofs.Parts.{item-step}
+use Rattle.record.proofs.Parts.{item_step}
 use mathlib.Core.Path.{sym, ap, ◌∙◌}
 use native.Mathlib.Omega.{arith}
 use Rattle.record.specs.Format.{Got}
-use Rattle.record.specs.Inner.{gotItem}
+use Rattle.record.specs.Inner.{got_item}
 use Rattle.record.specs.Next.{stepped}
 use Rattle.record.specs.Record.{Item, inside}
 use Rattle.record.proofs.Formats.{within}
@@ -31,7 +31,7 @@ add-after c =
     let s = c.before.before.before.before.before.before.before in
     let a = s.args in
     let p = s.requires.1 in
-    let w = within (inside p.directory a.self.validate a.self.crc32) _ _ _ _ s.requires.0 (sym (c.before.before.before.before.before.item-at.ensures p.directory p.same) ∙ ap gotItem c.before.before.before.i.given.1) in
+    let w = within (inside p.directory a.self.validate a.self.crc32) _ _ _ _ s.requires.0 (sym (c.before.before.before.before.before.item-at.ensures p.directory p.same) ∙ ap got_item c.before.before.before.i.given.1) in
     omega (arith, w.inside)
 
 after-requires : tie.Need-after-requires
@@ -39,16 +39,16 @@ after-requires c κs =
     let s = c.before.before.before.before.before.before.before in
     let a = s.args in
     let p = s.requires.1 in
-    let w = within (inside p.directory a.self.validate a.self.crc32) _ _ _ _ s.requires.0 (sym (c.before.before.before.before.before.item-at.ensures p.directory p.same) ∙ ap gotItem c.before.before.before.i.given.1) in
+    let w = within (inside p.directory a.self.validate a.self.crc32) _ _ _ _ s.requires.0 (sym (c.before.before.before.before.before.item-at.ensures p.directory p.same) ∙ ap got_item c.before.before.before.i.given.1) in
     (w.behind, w.inside)
 
 returns : tie.Need-returns
 returns c = λ d e.
     let a = c.before.before.before.before.before.before.args in
-    c.refuse.ensures ∙ ap (λ (g : Got Item). stepped a.log.now a.self g) (sym (ap gotItem c.before.before.a.given.1) ∙ c.before.before.before.before.item-at.ensures d e)
+    c.refuse.ensures ∙ ap (λ (g : Got Item). stepped a.log.now a.self g) (sym (ap got_item c.before.before.a.given.1) ∙ c.before.before.before.before.item-at.ensures d e)
 
 returns-2 : tie.Need-returns-2
-returns-2 c = λ d e. item-step _ _ _ _ _ _ (sym (ap gotItem c.before.before.before.before.i.given.1) ∙ c.before.before.before.before.before.before.item-at.ensures d e) c.before.before.action.ensures c.after.ensures
+returns-2 c = λ d e. item_step _ _ _ _ _ _ (sym (ap got_item c.before.before.before.before.i.given.1) ∙ c.before.before.before.before.before.before.item-at.ensures d e) c.before.before.action.ensures c.after.ensures
 
 pub step-inside-spec : {M : Type 1} → statement M
 step-inside-spec =

@@ -2,7 +2,7 @@
 use mathlib.Core.Path.{sym, ap, ◌∙◌}
 use Prim.Native.Nat.{ℕ, ◌+◌}
 use Rattle.record.specs.Format.{Got}
-use Rattle.record.specs.Inner.{gotId}
+use Rattle.record.specs.Inner.{got_id}
 use Rattle.record.specs.Next.{opened}
 use Rattle.record.specs.Record.{opening}
 use Rattle.record.specs.declared.opening.IdAnswer.{IdAnswer}
@@ -37,18 +37,18 @@ add-end-2 c = search rules
 forward-requires : tie.Need-forward-requires
 forward-requires c κs =
     let a = c.before.before.before.before.before.args in
-    let w = within (opening a.self.validate) _ _ _ _ c.before.before.before.before.before.requires (sym c.before.before.before.opening-at.ensures ∙ ap (λ (x : IdAnswer). gotId x (a.self.position + 1 + 8)) c.before.id.given.1) in
+    let w = within (opening a.self.validate) _ _ _ _ c.before.before.before.before.before.requires (sym c.before.before.before.opening-at.ensures ∙ ap (λ (x : IdAnswer). got_id x (a.self.position + 1 + 8)) c.before.id.given.1) in
     (w.behind, w.inside)
 
 returns : tie.Need-returns
 returns c =
     let a = c.before.before.before.before.before.before.args in
-    c.refuse.ensures ∙ ap (λ (g : Got ℕ). opened a.log.now a.self g) (sym (ap (λ (x : IdAnswer). gotId x (a.self.position + 1 + 8)) c.before.before.a.given.1) ∙ c.before.before.before.before.opening-at.ensures)
+    c.refuse.ensures ∙ ap (λ (g : Got ℕ). opened a.log.now a.self g) (sym (ap (λ (x : IdAnswer). got_id x (a.self.position + 1 + 8)) c.before.before.a.given.1) ∙ c.before.before.before.before.opening-at.ensures)
 
 returns-2 : tie.Need-returns-2
 returns-2 c =
     let a = c.before.before.before.before.before.before.args in
-    rw c.forward.ensures (ap (λ (g : Got ℕ). opened a.log.now a.self g) (sym (ap (λ (x : IdAnswer). gotId x (a.self.position + 1 + 8)) c.before.before.id.given.1) ∙ c.before.before.before.before.opening-at.ensures))
+    rw c.forward.ensures (ap (λ (g : Got ℕ). opened a.log.now a.self g) (sym (ap (λ (x : IdAnswer). got_id x (a.self.position + 1 + 8)) c.before.before.id.given.1) ∙ c.before.before.before.before.opening-at.ensures))
 
 pub step-opening-spec : {M : Type 1} → statement M
 step-opening-spec =

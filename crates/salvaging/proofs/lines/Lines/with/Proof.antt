@@ -2,7 +2,7 @@
 use mathlib.Core.Path.{◌≡◌}
 use native.Mathlib.Omega.{arith}
 use lib.ListN.{length}
-use Rattle.salvaging.proofs.Held.{four-words, with-room, with_none}
+use Rattle.salvaging.proofs.Held.{four-words, with_room, with_none}
 use borrow.Author.Rules.{rules}
 use Rattle.salvaging.proofs.lines.Lines.with.Statement.{statement}
 use Rattle.salvaging.proofs.lines.Lines.with.Tie as tie
@@ -50,7 +50,7 @@ returns : tie.Need-returns
 returns c =
     let a = c.before.args in
     let l : length a.self.words ≡ 256 = search rules in
-    with-room a.self _ _ (search rules) (four-words _ _ _ _ _ _ (omega (arith, l)))
+    with_room a.self _ _ (search rules) (four-words _ _ _ _ _ _ (omega (arith, l)))
 
 returns-2 : tie.Need-returns-2
 returns-2 c = with_none c.before.args.self _ (search rules)

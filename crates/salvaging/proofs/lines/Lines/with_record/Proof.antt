@@ -3,9 +3,9 @@ use mathlib.Core.Path.{◌≡◌, refl, ap, ◌∙◌}
 use mathlib.Core.List.{[], ◌∷◌}
 use Prim.Native.Nat.{◌-◌}
 use native.Mathlib.Omega.{arith}
-use Rattle.salvaging.specs.Inner.{with_words, covering, withRecord}
+use Rattle.salvaging.specs.Inner.{with_words, covering, with_record}
 use Rattle.salvaging.specs.declared.lines.Lines.{Lines}
-use Rattle.salvaging.proofs.Held.{record-bytes}
+use Rattle.salvaging.proofs.Held.{record_bytes}
 use borrow.Author.Rules.{rules}
 use Rattle.salvaging.proofs.lines.Lines.with_record.Statement.{statement}
 use Rattle.salvaging.proofs.lines.Lines.with_record.Tie as tie
@@ -21,7 +21,7 @@ with-requires c κs = search rules
 
 -- the lines behind both calls, with the record's bytes
 added : (c : tie.After-with) → covering c.with.result c.before.before.args.end (c.before.before.args.end - c.before.before.args.position)
-    ≡ withRecord c.before.before.args.self c.before.before.args.position c.before.before.args.end c.before.before.args.id
+    ≡ with_record c.before.before.args.self c.before.before.args.position c.before.before.args.end c.before.before.args.id
 added c =
     let a = c.before.before.args in
     ap (λ (x : Lines). covering x a.end (a.end - a.position))
@@ -30,13 +30,13 @@ added c =
 add-after : tie.Need-overflow-add-after
 add-after c =
     let a = c.before.before.before.args in
-    omega (arith, ap (λ (x : Lines). x.bytes) (added c.before), record-bytes a.self a.position a.end a.id, c.before.before.before.requires)
+    omega (arith, ap (λ (x : Lines). x.bytes) (added c.before), record_bytes a.self a.position a.end a.id, c.before.before.before.requires)
 
 returns : tie.Need-returns
 returns c =
     let a = c.before.before.before.args in
     let e = added c.before in
-    (e, refl, omega (arith, ap (λ (x : Lines). x.bytes) e, record-bytes a.self a.position a.end a.id, c.before.before.before.requires))
+    (e, refl, omega (arith, ap (λ (x : Lines). x.bytes) e, record_bytes a.self a.position a.end a.id, c.before.before.before.requires))
 
 pub with-record-spec : {M : Type 1} → statement M
 with-record-spec = tie.close (tie.spec sub-length up-to-requires with-requires add-after returns)
