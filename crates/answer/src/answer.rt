@@ -2,7 +2,7 @@
 ghost use Rattle.std.specs.Prelude.{◌≡◌};
 ghost use Rattle.answer.specs.Answer.{number_of, refusal};
 
-#[derive(Drop)]
+#[derive(Clone, Copy)]
 pub enum Answer {
     Done,
     EndOfLog,
@@ -46,7 +46,7 @@ impl Answer {
 }
 
 // A refusal of reading: its answer, and where the action at fault begins.
-#[derive(Drop)]
+#[derive(Clone, Copy)]
 pub struct Refusal {
     pub answer: Answer,
     pub position: usize,

@@ -1,4 +1,6 @@
 // What every other crate answers with: the numbered answers, a refusal of reading, the last of the ids, and the tags that actions begin with.
+#![tactic(auto)]
+
 mod answer;
 mod id;
 mod tag;

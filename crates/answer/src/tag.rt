@@ -1,5 +1,5 @@
 // The tag that an action begins with.
-#[derive(Drop)]
+#[derive(Clone, Copy)]
 pub struct Tag(pub u8);
 
 impl Tag {

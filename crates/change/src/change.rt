@@ -9,7 +9,7 @@ use answer::Answer;
 use directory::{Directory, TableKind};
 use memory::{Counts, Holder};
 
-#[derive(Drop)]
+#[derive(Clone, Copy)]
 pub struct LogChange {
     pub record_id: u64,
     pub counts: Counts,
@@ -18,7 +18,7 @@ pub struct LogChange {
 }
 
 // An answer, with the list as it then is.
-#[derive(Drop)]
+#[derive(Clone, Copy)]
 pub struct Changed {
     pub answer: Answer,
     pub list: LogChange,

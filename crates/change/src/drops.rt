@@ -7,14 +7,14 @@ ghost use Rattle.change.specs.Drop.{drops_with, dropped_in};
 use answer::Answer;
 use directory::{Directory, Found, TableKind};
 
-#[derive(Drop)]
+#[derive(Clone, Copy)]
 pub struct Drops {
     pub tables: [u16; 16],
     pub count: usize,
 }
 
 // An answer, with the drops as they then are.
-#[derive(Drop)]
+#[derive(Clone, Copy)]
 pub struct Dropped {
     pub answer: Answer,
     pub drops: Drops,

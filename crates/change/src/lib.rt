@@ -1,4 +1,6 @@
 // The change list: what one record is to say. By value its id, how many keys it has and its drops; its keys and bytes in two lent memories.
+#![tactic(auto)]
+
 mod change;
 mod drops;
 mod fits;

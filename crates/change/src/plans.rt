@@ -11,7 +11,7 @@ use directory::{Found, TableDescription, TableKind};
 use overlay::Seat;
 
 // What an insert is to do: refuse, or put over a key of that mark (0 if there is none).
-#[derive(Drop)]
+#[derive(Clone, Copy)]
 pub enum Plan {
     Refuse(Answer),
     Go(u64),

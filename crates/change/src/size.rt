@@ -10,7 +10,7 @@ use answer::Answer;
 use directory::{Directory, TableKind};
 use memory::Holder;
 
-#[derive(Drop)]
+#[derive(Clone, Copy)]
 pub struct Sized {
     pub answer: Answer,
     pub length: usize,

@@ -12,7 +12,7 @@ use directory::{TableKind, ValueTableId};
 use memory::Holder;
 
 // Where the values of one table stand: at `from` to `to` of the order, ascending by index.
-#[derive(Drop)]
+#[derive(Clone, Copy)]
 pub struct LocalValues {
     pub answer: Answer,
     pub from: usize,

@@ -20,7 +20,7 @@ pub const ROOM: usize = 1043;
 const LIMIT: usize = 9223372036854775808;
 
 // `part` holds the bytes of the action that isn't whole yet, `ran` what a run reports as soon as that is settled: its answer is 0 till then.
-#[derive(Drop)]
+#[derive(Clone, Copy)]
 pub struct LogChecker {
     pub directory: Directory,
     pub standing: Standing,
@@ -32,14 +32,14 @@ pub struct LogChecker {
 }
 
 // `fault_at` is where a refusal's action begins, and the bytes taken so far beside 0, 13 and 14.
-#[derive(Drop)]
+#[derive(Clone, Copy)]
 pub struct Checked {
     pub answer: Answer,
     pub fault_at: usize,
     pub checker: LogChecker,
 }
 
-#[derive(Drop)]
+#[derive(Clone, Copy)]
 pub struct Closed {
     pub ran: Ran,
     pub checker: LogChecker,

@@ -8,7 +8,7 @@ use record::LogReader;
 use replay::Ran;
 
 // The id that is due, where the record begins that isn't whole yet, how many were before it, and the reader: behind the last whole action.
-#[derive(Drop)]
+#[derive(Clone, Copy)]
 pub struct Standing {
     pub expected: u64,
     pub start: usize,
@@ -17,14 +17,14 @@ pub struct Standing {
 }
 
 // After one step: on from there, more bytes are wanted, or what a run reports is settled.
-#[derive(Drop)]
+#[derive(Clone, Copy)]
 pub enum Went {
     On(Standing),
     Waiting(Standing),
     Settled(Ran),
 }
 
-#[derive(Drop)]
+#[derive(Clone, Copy)]
 pub enum Check {
     Waiting(Standing),
     Settled(Ran),

@@ -8,14 +8,14 @@ use replay::Ran;
 // Nothing says that the input ends, so the reads are counted down from a number that no input uses up.
 const TURNS: u64 = 18446744073709551615;
 
-#[derive(Drop)]
+#[derive(Clone, Copy)]
 pub enum End {
     At(Ran),
     Unreadable,
 }
 
 // After a read: whether the report is open and more may come, or else whether the read failed.
-#[derive(Drop)]
+#[derive(Clone, Copy)]
 struct Turn {
     checker: LogChecker,
     going: bool,

@@ -1,4 +1,6 @@
 // Checks a log as it comes over standard input: prints what a run over it would report, and applies nothing.
+#![tactic(auto)]
+
 mod input;
 
 use directory_text::{Number, number_of};

@@ -1,6 +1,8 @@
 // CRC-32 of ITU-T V.42, in place of crc32fast::Hasher: a register by value, and no state besides.
 // A function builds a table that it names on the stack where it starts. So there is a small one only, which `update` lends to what looks in
 // it; of many bytes all but the last forty or so go without a table (long.rt).
+#![tactic(auto)]
+
 ghost use Rattle.std.specs.Prelude.{◌≡◌, ◌+◌, ◌-◌, ◌*◌, ◌%◌, ◌≤◌, length, drop};
 ghost use Rattle.checksum.specs.Checksum.{bits_in_of, updated, finished, checksum_of};
 ghost use Rattle.checksum.specs.Inner.{ahead, carried_number};

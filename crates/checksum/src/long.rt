@@ -8,7 +8,7 @@ ghost use Rattle.checksum.specs.Inner.{ahead, carried_behind, carried_number, sp
 use words::u64_at;
 
 // What is to be added to the next five words, the nearest one first.
-#[derive(Drop)]
+#[derive(Clone, Copy)]
 pub struct Carried(pub u64, pub u64, pub u64, pub u64, pub u64);
 
 // The next word is passed: what it comes to is carried to those behind it. That a word has 64 bits is said for whoever carries one through a

@@ -13,7 +13,7 @@ use memory::{Counts, Holder};
 use record::{ItemAnswer, LogAction, LogReader};
 
 // The key that an action names, in a table of a kind.
-#[derive(Drop)]
+#[derive(Clone, Copy)]
 pub enum NamedKey {
     Key(TableKind, u16, u64),
     Nothing,

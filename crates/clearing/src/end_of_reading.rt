@@ -16,7 +16,7 @@ use memory::{Holder, LogOverlays};
 use replay::WholeAnswer;
 
 // `position` is behind the record, or the one handed in. `fault_at` is where the action at fault begins; beside answer 0 it is `position`.
-#[derive(Drop)]
+#[derive(Clone, Copy)]
 pub struct EndRead {
     pub answer: Answer,
     pub fault_at: usize,

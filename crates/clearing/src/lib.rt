@@ -1,4 +1,6 @@
 // Clearing: an accepted record read again, and its entries taken out of the shared overlays.
+#![tactic(auto)]
+
 mod clear;
 mod end_of_reading;
 

@@ -1,4 +1,6 @@
 // Answers the run protocol on standard input and output, so that runs of the port can be compared with runs of the Rust.
+#![tactic(auto)]
+
 mod dispatch;
 
 ghost use Rattle.compare.specs.Bounds.{Running};
@@ -7,7 +9,7 @@ use compare_console::{Input, Output, TURNS};
 use compare_session::Session;
 use dispatch::dispatch;
 
-#[derive(Drop)]
+#[derive(Clone, Copy)]
 pub struct Run {
     pub input: Input,
     pub session: Session,

@@ -6,7 +6,7 @@ use compare_lent::Tables;
 use compare_lines::{Blob, Place, Reply, check_blob, last_blob, put, wrong_length};
 
 // What these commands keep, and what one comes to.
-#[derive(Drop)]
+#[derive(Clone, Copy)]
 pub struct Held {
     pub checker: LogChecker,
     pub place: Place,

@@ -1,4 +1,6 @@
 // Commands from standard input, answers to standard output, and what standard error is told.
+#![tactic(auto)]
+
 mod fault;
 mod stdin;
 mod stdout;

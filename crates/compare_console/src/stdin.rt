@@ -9,7 +9,7 @@ use libc::STDIN_FILENO;
 pub const TURNS: u64 = 4611686018427387904;
 
 // The number of the line that was read last. The chunk holds so many bytes, and is read up to a place.
-#[derive(Drop)]
+#[derive(Clone, Copy)]
 pub struct Input {
     pub line: u64,
     pub at: usize,
@@ -17,14 +17,14 @@ pub struct Input {
 }
 
 // How many bytes the command has that a line holds.
-#[derive(Drop)]
+#[derive(Clone, Copy)]
 pub enum Found {
     Command(usize),
     End,
     Broken(Fault),
 }
 
-#[derive(Drop)]
+#[derive(Clone, Copy)]
 pub struct Next {
     pub input: Input,
     pub found: Found,

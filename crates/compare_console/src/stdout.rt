@@ -6,7 +6,7 @@ use compare_lines::{Fault, Reply, encode, least, put};
 use libc::STDOUT_FILENO;
 
 // How many bytes wait, and whether another line is to come.
-#[derive(Drop)]
+#[derive(Clone, Copy)]
 pub struct Output {
     pub filled: usize,
     pub going: bool,

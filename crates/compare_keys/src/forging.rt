@@ -8,7 +8,7 @@ use directory::TableKind;
 use memory::{Counts, Holder};
 
 // A row as the command has it, and the byte that fills its slot.
-#[derive(Drop)]
+#[derive(Clone, Copy)]
 pub struct Forged {
     pub table: u64,
     pub index: u64,

@@ -6,7 +6,7 @@ use compare_lines::least;
 use directory::TableKind;
 use memory::{Holder, Span};
 
-#[derive(Drop)]
+#[derive(Clone, Copy)]
 pub struct Slot {
     pub start: usize,
     pub end: usize,

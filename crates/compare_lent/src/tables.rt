@@ -4,7 +4,7 @@ ghost use Rattle.std.specs.Prelude.{◌≤◌};
 use directory::{Directory, TableDescription, TableKind};
 
 // A count may pass the rows: 17 tables are as many as it takes to be too many.
-#[derive(Drop)]
+#[derive(Clone, Copy)]
 pub struct Tables {
     pub rows: [TableDescription; 17],
     pub count: usize,

@@ -6,7 +6,7 @@ use super::fault::Fault;
 use super::room::least;
 
 // Whether the blob that ends a command is whole, or what is wrong with it.
-#[derive(Drop)]
+#[derive(Clone, Copy)]
 pub enum Blob {
     Whole,
     Broken(Fault),

@@ -1,5 +1,5 @@
 // Why the program stops.
-#[derive(Drop)]
+#[derive(Clone, Copy)]
 pub enum Fault {
     NoDigit,
     OddDigits,

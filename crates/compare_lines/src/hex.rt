@@ -3,7 +3,7 @@ ghost use Rattle.std.specs.Prelude.{◌+◌, ◌*◌, ◌≤◌, ◌<◌, ◌≡
 ghost use Rattle.compare_lines.specs.Bounds.{Decoding};
 
 // How far a chunk is decoded, how many digits the line has so far, and the first digit of a pair that waits for its second.
-#[derive(Drop)]
+#[derive(Clone, Copy)]
 pub struct Decoded {
     pub at: usize,
     pub digits: usize,

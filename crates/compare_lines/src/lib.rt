@@ -1,4 +1,6 @@
 // The fields of a command, the bytes of an answer, and both as hex digits. What a command does isn't known here.
+#![tactic(auto)]
+
 mod answering;
 mod command;
 mod fault;

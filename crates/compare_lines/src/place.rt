@@ -1,5 +1,5 @@
 // Where the last call that reads was refused, if it was.
-#[derive(Drop)]
+#[derive(Clone, Copy)]
 pub struct Place {
     pub told: bool,
     pub position: usize,

@@ -6,7 +6,7 @@ use super::command::length_fault;
 use super::fault::Fault;
 
 // How many bytes the answer has, a long one in a memory of its own; or an opcode that isn't known; or why the program stops.
-#[derive(Drop)]
+#[derive(Clone, Copy)]
 pub enum Reply {
     Line(u16),
     Long(u32),

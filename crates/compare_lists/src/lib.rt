@@ -1,4 +1,6 @@
 // The commands over a change list.
+#![tactic(auto)]
+
 mod changing;
 mod forging;
 mod listed;

@@ -2,7 +2,7 @@
 use change::LogChange;
 use compare_lines::Reply;
 
-#[derive(Drop)]
+#[derive(Clone, Copy)]
 pub struct Listed {
     pub list: LogChange,
     pub reply: Reply,

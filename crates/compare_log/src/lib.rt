@@ -1,4 +1,6 @@
 // The commands over records as a whole, and those of the log's state.
+#![tactic(auto)]
+
 mod ends;
 mod lived;
 mod opcode;

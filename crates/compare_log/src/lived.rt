@@ -5,7 +5,7 @@ use compare_lines::{Place, Reply};
 use files::Queues;
 use memory::LogOverlays;
 
-#[derive(Drop)]
+#[derive(Clone, Copy)]
 pub struct Life {
     pub list: LogChange,
     pub queues: Queues,
@@ -14,7 +14,7 @@ pub struct Life {
     pub place: Place,
 }
 
-#[derive(Drop)]
+#[derive(Clone, Copy)]
 pub struct Lived {
     pub life: Life,
     pub reply: Reply,
@@ -27,7 +27,7 @@ impl Life {
             list: list,
             queues: queues,
             overlays: LogOverlays::new(),
-            next_record_id: log::first_record_id(),
+            next_record_id: log_calls::first_record_id(),
             place: Place::none(),
         }
     }

@@ -8,7 +8,7 @@ pub fn begin(life: Life, command: &[u8], answer: &mut [u8; 65536]) -> Lived {
     if command.len() != 1 {
         return life.replied(wrong_length(command.len(), 1));
     }
-    let done = log::begin_record(life.next_record_id);
+    let done = log_calls::begin_record(life.next_record_id);
     let number = done.answer;
     put(answer, 0, number.number() as u64, 1);
     if number.number() != 0 {

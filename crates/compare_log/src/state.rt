@@ -42,7 +42,7 @@ pub fn clear_replay(
     }
     let before = life.overlays;
     let queues = life.queues;
-    let done = log::clear_replay_logs(before, words, bytes, queues);
+    let done = log_calls::clear_replay_logs(before, words, bytes, queues);
     let number = done.answer;
     let overlays = done.overlays;
     let cleared = done.queues;

@@ -1,4 +1,6 @@
 // The commands over the shared overlays, and over keys looked up in them or in a list before.
+#![tactic(auto)]
+
 mod lookups;
 mod opcode;
 mod parts;

@@ -9,7 +9,7 @@ use compare_lines::Reply;
 use memory::LogOverlays;
 
 // What these commands keep is the overlays, besides their memories of words and of bytes.
-#[derive(Drop)]
+#[derive(Clone, Copy)]
 pub struct Overlaid {
     pub overlays: LogOverlays,
     pub reply: Reply,

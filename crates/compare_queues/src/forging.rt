@@ -5,7 +5,7 @@ use super::queued::{Queued, replied};
 use compare_lines::{Fault, Reply, put, wrong_length};
 use files::{Appending, NumberQueue, Queues, Reading};
 
-#[derive(Drop)]
+#[derive(Clone, Copy)]
 pub struct Forged {
     pub queues: Queues,
     pub end: usize,

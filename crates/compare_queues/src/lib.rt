@@ -1,4 +1,6 @@
 // The commands over the files and the queues they stand in, but for those that touch the overlays too.
+#![tactic(auto)]
+
 mod forging;
 mod nums;
 mod opcode;

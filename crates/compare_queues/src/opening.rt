@@ -7,7 +7,7 @@ use compare_lines::{Fault, Reply, least, put, put_nums, wide, wrong_length};
 use files::{Opened, Queues};
 
 // Where a file's name and its bytes stand in the command. One that the command cuts short isn't whole.
-#[derive(Drop)]
+#[derive(Clone, Copy)]
 pub struct FileSpan {
     pub whole: bool,
     pub name: usize,
@@ -17,7 +17,7 @@ pub struct FileSpan {
 }
 
 // How many bytes all names have, and where the command goes on behind the files.
-#[derive(Drop)]
+#[derive(Clone, Copy)]
 pub struct Gathered {
     pub whole: bool,
     pub named: usize,

@@ -2,7 +2,7 @@
 use compare_lines::Reply;
 use files::Queues;
 
-#[derive(Drop)]
+#[derive(Clone, Copy)]
 pub struct Queued {
     pub queues: Queues,
     pub reply: Reply,

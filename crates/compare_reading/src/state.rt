@@ -5,7 +5,7 @@ use compare_lent::Tables;
 use compare_lines::{Place, Reply};
 use record::LogReader;
 
-#[derive(Drop)]
+#[derive(Clone, Copy)]
 pub struct Reading {
     pub tables: Tables,
     pub reader: LogReader,
@@ -14,7 +14,7 @@ pub struct Reading {
     pub place: Place,
 }
 
-#[derive(Drop)]
+#[derive(Clone, Copy)]
 pub struct Read {
     pub reading: Reading,
     pub reply: Reply,

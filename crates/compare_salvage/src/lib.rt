@@ -1,4 +1,6 @@
 // SALVAGE: a damaged log salvaged into an output.
+#![tactic(auto)]
+
 mod answering;
 mod command;
 

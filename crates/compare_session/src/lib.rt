@@ -1,4 +1,6 @@
 // The run protocol without its lines: what is kept from command to command, and one command served.
+#![tactic(auto)]
+
 mod opcode;
 mod session;
 

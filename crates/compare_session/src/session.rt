@@ -9,14 +9,14 @@ use compare_reading::Reading;
 use directory::Directory;
 use files::Queues;
 
-#[derive(Drop)]
+#[derive(Clone, Copy)]
 pub struct Session {
     pub reading: Reading,
     pub life: Life,
     pub checker: LogChecker,
 }
 
-#[derive(Drop)]
+#[derive(Clone, Copy)]
 pub struct Served {
     pub session: Session,
     pub reply: Reply,

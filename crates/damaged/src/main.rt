@@ -1,5 +1,7 @@
 // Each byte of a log of three records damaged in turn, in two ways: what a run answers then, where the record not replayed begins, how many
 // were replayed, and where the action at fault begins. A line each, behind the byte's place and what was put to it by exclusive or.
+#![tactic(auto)]
+
 ghost use Rattle.std.specs.Prelude.{◌<◌};
 
 use directory::Directory;

@@ -3,7 +3,7 @@ ghost use Rattle.std.specs.Prelude.{◌≡◌};
 ghost use Rattle.directory_text.specs.Line.{is_any};
 
 // A number is given by its place in its line, from 1 on.
-#[derive(Drop)]
+#[derive(Clone, Copy)]
 pub enum Fault {
     None,
     UnknownKind,

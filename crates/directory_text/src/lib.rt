@@ -1,4 +1,6 @@
 // A directory in its plain text form: a line a table.
+#![tactic(auto)]
+
 mod fault;
 mod line;
 mod number;

@@ -8,7 +8,7 @@ use super::number::{Number, number_of};
 use super::scan::{Pass, pass_over, same};
 use directory::{TableDescription, TableKind};
 
-#[derive(Drop)]
+#[derive(Clone, Copy)]
 pub enum Line {
     Empty,
     Table(TableDescription),
@@ -16,7 +16,7 @@ pub enum Line {
 }
 
 // A number that was read, where the text goes on behind it, and what was wrong with it or a number before it.
-#[derive(Drop)]
+#[derive(Clone, Copy)]
 pub struct Taken {
     pub value: u64,
     pub next: usize,

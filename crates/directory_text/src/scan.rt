@@ -3,7 +3,7 @@ ghost use Rattle.std.specs.Prelude.{◌≡◌, ◌+◌, ◌≤◌, length, drop}
 ghost use Rattle.directory_text.specs.Scan.{is_blank, scans_past, front, same_bytes};
 
 // What is passed over: blanks, what is no blank, or all before a character.
-#[derive(Drop)]
+#[derive(Clone, Copy)]
 pub enum Pass {
     Blanks,
     Word,

@@ -8,7 +8,7 @@ use super::scan::{Pass, pass_over};
 use directory::{Directory, Found, TableDescription};
 
 // The directory so far, the number of its last line, and what is wrong there.
-#[derive(Drop)]
+#[derive(Clone, Copy)]
 pub struct Parsed {
     pub directory: Directory,
     pub line: u64,

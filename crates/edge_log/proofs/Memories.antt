@@ -11,7 +11,7 @@ use Rattle.change.specs.declared.change.LogChange.{LogChange}
 use Rattle.files.specs.declared.queues.Queues.{Queues}
 use Rattle.ending.specs.EndRecord.{Handed, handed_of, EndState, end_state_of}
 use Rattle.ending.specs.declared.record_end.Ended.{Ended}
-use Rattle.log.specs.declared.clear_replay.LogsCleared.{LogsCleared}
+use Rattle.log_calls.specs.declared.clear_replay.LogsCleared.{LogsCleared}
 use Rattle.host_words.specs.Change.{counts_in}
 use Rattle.edge_log.specs.Ending.{Heads, ClearLeft, EndedLeft, EndLeft}
 

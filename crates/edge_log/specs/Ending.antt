@@ -11,9 +11,9 @@ use Rattle.memory.specs.declared.overlays.LogOverlays.{LogOverlays}
 use Rattle.memory.specs.declared.span.Holder.TheVariants as holder
 use Rattle.ending.specs.EndRecord.{EndState}
 use Rattle.ending.specs.declared.record_end.Ended.{Ended}
-use Rattle.log.specs.Begin.{not_begun, begin_record}
-use Rattle.log.specs.declared.begin.Begun.{Begun}
-use Rattle.log.specs.declared.clear_replay.LogsCleared.{LogsCleared}
+use Rattle.log_calls.specs.Begin.{not_begun, begin_record}
+use Rattle.log_calls.specs.declared.begin.Begun.{Begun}
+use Rattle.log_calls.specs.declared.clear_replay.LogsCleared.{LogsCleared}
 use Rattle.host_words.specs.Head.{HeadLeft}
 use Rattle.host_words.specs.Change.{counts_in}
 use Rattle.host_words.specs.Overlays.{overlays_size, overlays_words, overlays_left}

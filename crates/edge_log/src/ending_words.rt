@@ -8,7 +8,7 @@ ghost use Rattle.memory.specs.declared.span.Holder.TheVariants.{Shared};
 ghost use Rattle.files.specs.Queues.{queues_kept};
 ghost use Rattle.clearing.specs.EndRead.{record_again, clearable, end_read_by, end_read_of};
 ghost use Rattle.ending.specs.EndRecord.{handed_of, handed_kept, end_record};
-ghost use Rattle.log.specs.ClearReplay.{logs_cleared_kept, logs_cleared};
+ghost use Rattle.log_calls.specs.ClearReplay.{logs_cleared_kept, logs_cleared};
 ghost use Rattle.host_words.specs.Tables.{directory_from};
 ghost use Rattle.host_words.specs.Head.{head_room, head_after};
 ghost use Rattle.host_words.specs.Change.{list_size, list_from, list_words_of, counts_in};
@@ -22,7 +22,7 @@ use ending::Ended;
 use files::FileSource;
 use host_queues::{keep_queues, queues_of};
 use host_words::{directory_of, head_room, keep_list, keep_overlays, list_of, overlays_of};
-use log::{Begun, LogsCleared};
+use log_calls::{Begun, LogsCleared};
 use memory::LogOverlays;
 
 #[unsafe(no_mangle)]
@@ -62,7 +62,7 @@ fn begin(next: u64, words: usize) -> Begun
             list: LogChange::new(answer::LAST_RECORD_ID),
         };
     }
-    log::begin_record(next)
+    log_calls::begin_record(next)
 }
 
 // What a call hands back, stored where the host lent room for it: one for both doors.
@@ -252,7 +252,7 @@ pub extern "C" fn hongsathep_clear_replay_logs(
 ) -> u64
     ensures { ClearLeft (logs_cleared (overlays_from overlays.old) words.now bytes.now (queues_from queues.old)) (heads_of overlays.old queues.old) result (heads_of overlays.new queues.new) }
 {
-    let done = log::clear_replay_logs(overlays_of(overlays), words, bytes, queues_of(queues));
+    let done = log_calls::clear_replay_logs(overlays_of(overlays), words, bytes, queues_of(queues));
     keep_cleared(overlays, queues, done)
 }
 
@@ -261,6 +261,6 @@ pub extern "C" fn hongsathep_clear_replay_logs_kept(overlays: &mut [u64], queues
     requires { queues_kept (queues_from queues.old) ≡ true }
     ensures { ClearLeft (logs_cleared_kept (queues_from queues.old)) (heads_of overlays.old queues.old) result (heads_of overlays.new queues.new) }
 {
-    let done = log::clear_replay_logs_kept(queues_of(queues));
+    let done = log_calls::clear_replay_logs_kept(queues_of(queues));
     keep_cleared(overlays, queues, done)
 }

@@ -19,7 +19,7 @@ use host_words::{kind_of, list_of, number, overlays_of};
 use memory::{Counts, Holder};
 
 // An answer; the memory that the bytes lie in, their place in it and how many there are.
-#[derive(Drop)]
+#[derive(Clone, Copy)]
 pub struct Spotted {
     pub answer: Answer,
     pub memory: u64,

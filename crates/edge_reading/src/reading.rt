@@ -14,7 +14,7 @@ use host_words::{directory_of, head_room, keep_reader, number, reader_formed, re
 use record::{LogAction, LogReader, Step};
 
 // An action that was read, in numbers; `fault` is where a refused one begins, and behind one that was read the position.
-#[derive(Drop)]
+#[derive(Clone, Copy)]
 pub struct ActionNumbers {
     pub tag: u64,
     pub table: u64,

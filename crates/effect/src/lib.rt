@@ -1,4 +1,6 @@
 // What an action does to the image.
+#![tactic(auto)]
+
 mod apply;
 mod place;
 mod store;

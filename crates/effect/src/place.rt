@@ -8,7 +8,7 @@ ghost use Rattle.effect.specs.Inner.{spot_under};
 use directory::{Found, TableKind};
 
 // A position of the image and how many bytes lie there.
-#[derive(Drop)]
+#[derive(Clone, Copy)]
 pub enum Spot {
     From(usize, usize),
     Nowhere,

@@ -1,4 +1,6 @@
 // The end of a record: written to the output, its entries put over the shared ones.
+#![tactic(auto)]
+
 mod record_end;
 mod refusal;
 

@@ -10,7 +10,7 @@ use directory::Directory;
 use files::{FileSource, Queues};
 use memory::LogOverlays;
 
-#[derive(Drop)]
+#[derive(Clone, Copy)]
 pub struct Ended {
     pub answer: Answer,
     pub length: usize,

@@ -8,7 +8,7 @@ use answer::Answer;
 use numbers::NumberQueue;
 
 // Which files the host is to empty, and then which to remove, and whether cleanup still holds any.
-#[derive(Drop)]
+#[derive(Clone, Copy)]
 pub struct Cleaned {
     pub answer: Answer,
     pub more: bool,
@@ -17,7 +17,7 @@ pub struct Cleaned {
     pub queues: Queues,
 }
 
-#[derive(Drop)]
+#[derive(Clone, Copy)]
 pub struct Killed {
     pub answer: Answer,
     pub remove: NumberQueue,

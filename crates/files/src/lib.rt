@@ -1,4 +1,6 @@
 // File numbers and the queues they stand in.
+#![tactic(auto)]
+
 mod cleaning;
 mod open;
 mod queues;

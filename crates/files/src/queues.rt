@@ -7,7 +7,7 @@ ghost use Rattle.files.specs.Moves.{no_appending, appending_file, no_reading, re
 use numbers::NumberQueue;
 
 // The file that records are appended to, if there is one.
-#[derive(Drop)]
+#[derive(Clone, Copy)]
 pub struct Appending {
     pub some: bool,
     pub id: u64,
@@ -15,14 +15,14 @@ pub struct Appending {
 }
 
 // The file being read, if there is one.
-#[derive(Drop)]
+#[derive(Clone, Copy)]
 pub struct Reading {
     pub some: bool,
     pub id: u64,
 }
 
 // Beside each number of the replay queue, in the same place of `replay_ids`, stands the id of its file's first record.
-#[derive(Drop)]
+#[derive(Clone, Copy)]
 pub struct Queues {
     pub appending: Appending,
     pub read_queue: NumberQueue,

@@ -10,7 +10,7 @@ use answer::Answer;
 use record::{LogReader, Step};
 
 // The file being read and the reader behind a record's opening.
-#[derive(Drop)]
+#[derive(Clone, Copy)]
 pub struct ReadNext {
     pub answer: Answer,
     pub number: u64,

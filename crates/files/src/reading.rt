@@ -9,14 +9,14 @@ use super::queues::{Queues, Reading};
 use answer::Answer;
 use numbers::NumberQueue;
 
-#[derive(Drop)]
+#[derive(Clone, Copy)]
 pub struct FirstId {
     pub found: bool,
     pub id: u64,
 }
 
 // Whether there was a file to replay, and its number.
-#[derive(Drop)]
+#[derive(Clone, Copy)]
 pub struct ReplayNext {
     pub answer: Answer,
     pub found: bool,
@@ -24,7 +24,7 @@ pub struct ReplayNext {
     pub queues: Queues,
 }
 
-#[derive(Drop)]
+#[derive(Clone, Copy)]
 pub struct ReplayCleared {
     pub answer: Answer,
     pub queues: Queues,

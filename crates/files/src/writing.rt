@@ -8,7 +8,7 @@ use super::queues::{Appending, Queues, wide};
 use answer::Answer;
 
 // Whether the appending file was moved, and its number.
-#[derive(Drop)]
+#[derive(Clone, Copy)]
 pub struct Flushed {
     pub answer: Answer,
     pub moved: bool,
@@ -17,14 +17,14 @@ pub struct Flushed {
 }
 
 // Where the file for a record comes from: a file of the pool is empty and is opened, a new one is made.
-#[derive(Drop)]
+#[derive(Clone, Copy)]
 pub enum FileSource {
     Appending,
     Pool,
     New,
 }
 
-#[derive(Drop)]
+#[derive(Clone, Copy)]
 pub struct Taken {
     pub answer: Answer,
     pub source: FileSource,

@@ -1,4 +1,6 @@
 // The files found at open: which of them are logs, which are kept, and in which order they are replayed.
+#![tactic(auto)]
+
 mod logs;
 mod name;
 mod names;

@@ -2,7 +2,7 @@
 ghost use Rattle.std.specs.Prelude.{◌≡◌, ◌<◌, length, drop};
 ghost use Rattle.found.specs.Names.{begins_log, digit_of, decimal_from, log_name};
 
-#[derive(Drop)]
+#[derive(Clone, Copy)]
 pub enum LogName {
     Log(u64),
     Other,

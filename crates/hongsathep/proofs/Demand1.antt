@@ -61,10 +61,10 @@ use Rattle.found.specs.Names.{said_by}
 use Rattle.found.specs.Logs.{LogFile, removed, in_order_of, found_kept, file_number, answered, to_replay, log_files}
 use Rattle.found.specs.declared.logs.LogFiles.{LogFiles}
 use Rattle.query.specs.Query.{looked_if, shared_look, listed_look, bytes_of, copied_over}
-use Rattle.log.specs.Begin.{not_begun, begin_record}
-use Rattle.log.specs.declared.begin.Begun.{Begun}
-use Rattle.log.specs.ClearReplay.{logs_cleared_kept, logs_cleared}
-use Rattle.log.specs.declared.clear_replay.LogsCleared.{LogsCleared}
+use Rattle.log_calls.specs.Begin.{not_begun, begin_record}
+use Rattle.log_calls.specs.declared.begin.Begun.{Begun}
+use Rattle.log_calls.specs.ClearReplay.{logs_cleared_kept, logs_cleared}
+use Rattle.log_calls.specs.declared.clear_replay.LogsCleared.{LogsCleared}
 
 -- behind 13: what holds of a call at a state that keeps its rules, holds of the call
 module _ {A : Type 0} (answer : A → Answer) (Left : A → Type 0) where

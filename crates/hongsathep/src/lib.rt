@@ -1,4 +1,6 @@
 // Every call of a host under one name. The calls that take a directory stand here by value, and in `slices` over a lent slice of descriptions.
+#![tactic(auto)]
+
 pub mod listed;
 pub mod shared;
 pub mod slices;
@@ -15,7 +17,7 @@ pub use files::{
     Appending, Cleaned, FileSource, FirstId, Flushed, Killed, LogName, NumberQueue, Opened, Queues,
     ReadNext, Reading, ReplayNext, Taken, log_name,
 };
-pub use log::{
+pub use log_calls::{
     Begun, LogsCleared, begin_record, clear_replay_logs, clear_replay_logs_kept, first_record_id,
 };
 pub use memory::{Counts, Holder, LogOverlays, Span, span_of};

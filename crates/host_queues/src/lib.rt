@@ -1,4 +1,6 @@
 // The file queues from words and back: any words load, those that are no queues as queues that break a rule.
+#![tactic(auto)]
+
 ghost use Rattle.std.specs.Prelude.{◌≡◌, true, ◌+◌, ◌≤◌, length};
 ghost use Rattle.output.specs.Put.{Wrote};
 ghost use Rattle.host_words.specs.Head.{HeadLeft};

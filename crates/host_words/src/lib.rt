@@ -1,5 +1,7 @@
 // A host's states as words: a directory, a reader, a change list's head, the overlays' head. Any words load: those of another
 // length, or with one out of its field's range, as a state that breaks a rule, so that every call that is handed it answers 13.
+#![tactic(auto)]
+
 mod directory_words;
 mod list_words;
 mod overlay_words;

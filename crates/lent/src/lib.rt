@@ -1,4 +1,6 @@
 // The calls that take a directory, over one that is lent as a slice of descriptions.
+#![tactic(auto)]
+
 mod entries;
 mod lists;
 mod records;

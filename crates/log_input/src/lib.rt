@@ -1,4 +1,6 @@
 // Files read: into a buffer, and a log of any length through a window of fixed length.
+#![tactic(auto)]
+
 mod window;
 
 pub use window::{Filled, Outcome, ROOM, Stop, fill, move_front, replay_file};

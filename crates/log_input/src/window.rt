@@ -17,7 +17,7 @@ const TURNS: u64 = 18446744073709551615;
 
 // Where a run over a file stopped and where the action at fault begins, both from the file's front, how many records it
 // replayed, the id expected next, and the one that stands there if a record begins.
-#[derive(Drop)]
+#[derive(Clone, Copy)]
 pub struct Stop {
     pub answer: Answer,
     pub position: u64,
@@ -27,7 +27,7 @@ pub struct Stop {
     pub found: u64,
 }
 
-#[derive(Drop)]
+#[derive(Clone, Copy)]
 pub enum Outcome {
     At(Stop),
     TooLong(u64),
@@ -35,7 +35,7 @@ pub enum Outcome {
 }
 
 // How many bytes of a buffer are held, and whether a read failed.
-#[derive(Drop)]
+#[derive(Clone, Copy)]
 pub struct Filled {
     pub held: usize,
     pub failed: bool,
@@ -125,7 +125,7 @@ fn further(stop: Stop, ran: Ran, bytes: &[u8]) -> Stop {
 }
 
 // Whether the file goes on, with how many bytes in front of the window; or else what it came to.
-#[derive(Drop)]
+#[derive(Clone, Copy)]
 pub struct Turn {
     pub going: bool,
     pub rest: usize,

@@ -4,7 +4,7 @@ ghost use Rattle.memory.specs.Parts.{no_counts, count_of, with_count};
 
 use directory::TableKind;
 
-#[derive(Drop)]
+#[derive(Clone, Copy)]
 pub struct Counts {
     pub index: usize,
     pub value: usize,

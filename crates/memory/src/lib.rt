@@ -1,4 +1,6 @@
 // The three kinds together in two lent memories, of words and of bytes: the shared overlays, or the keys and bytes of a list.
+#![tactic(auto)]
+
 mod counts;
 mod overlays;
 mod span;

@@ -4,7 +4,7 @@ ghost use Rattle.memory.specs.Overlays.{no_overlays, last_id_of};
 
 use super::counts::Counts;
 
-#[derive(Drop)]
+#[derive(Clone, Copy)]
 pub struct LogOverlays {
     pub counts: Counts,
     pub last_record_ids: [u64; 8],

@@ -1,4 +1,6 @@
 // Bytes written into a lent slice, one after the other: each call gives the place behind what it wrote. log.rs lines 384 to 389.
+#![tactic(auto)]
+
 ghost use Rattle.std.specs.Prelude.{◌+◌, ◌≤◌, length};
 ghost use Rattle.output.specs.Put.{Wrote, le};
 

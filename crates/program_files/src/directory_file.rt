@@ -12,7 +12,7 @@ use log_input::fill;
 pub const TEXT_ROOM: usize = 65537;
 
 // A directory that is good keeps the rules.
-#[derive(Drop)]
+#[derive(Clone, Copy)]
 pub struct Read {
     pub directory: Directory,
     pub good: bool,

@@ -1,5 +1,7 @@
 // What the programs do with files beside the log: a directory read, a file replaced whole, and what standard error is told. Each call is handed
 // the program's name, for its messages.
+#![tactic(auto)]
+
 mod directory_file;
 mod fault;
 mod meaning;

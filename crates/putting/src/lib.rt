@@ -1,4 +1,6 @@
 // A list's entries put over the shared ones, as the end of a record does it.
+#![tactic(auto)]
+
 mod crowd;
 mod last_id;
 mod place;

@@ -8,7 +8,7 @@ use directory::TableKind;
 use memory::{Counts, Holder};
 
 // What the list says of a place.
-#[derive(Drop)]
+#[derive(Clone, Copy)]
 pub struct ListedRow {
     pub table: u16,
     pub index: u64,

@@ -7,7 +7,7 @@ ghost use Rattle.query.specs.Query.{copied_over};
 use answer::Answer;
 
 // The answer, and whether there was a value to copy.
-#[derive(Drop)]
+#[derive(Clone, Copy)]
 pub struct Copied {
     pub answer: Answer,
     pub found: bool,

@@ -9,7 +9,7 @@ use directory::TableKind;
 use overlay::Seat;
 
 // Where a key's bytes lie in its kind's part, and how many there are.
-#[derive(Drop)]
+#[derive(Clone, Copy)]
 pub struct Place {
     pub found: bool,
     pub at: usize,

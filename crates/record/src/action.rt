@@ -6,25 +6,25 @@ ghost use Rattle.record.specs.Record.{insert_of, tag_of};
 use answer::Tag;
 use directory::{IndexTableId, RefCountTableId, TableKind, ValueTableId};
 
-#[derive(Drop)]
+#[derive(Clone, Copy)]
 pub struct InsertIndexAction {
     pub table: IndexTableId,
     pub index: u64,
 }
 
-#[derive(Drop)]
+#[derive(Clone, Copy)]
 pub struct InsertValueAction {
     pub table: ValueTableId,
     pub index: u64,
 }
 
-#[derive(Drop)]
+#[derive(Clone, Copy)]
 pub struct InsertRefCountAction {
     pub table: RefCountTableId,
     pub index: u64,
 }
 
-#[derive(Drop)]
+#[derive(Clone, Copy)]
 pub enum LogAction {
     BeginRecord,
     InsertIndex(InsertIndexAction),

@@ -15,20 +15,20 @@ use answer::Answer;
 use directory::{Found, IndexTableId, RefCountTableId, TableDescription, TableKind};
 
 // A table's number and an index, both tested, with the table's description.
-#[derive(Drop)]
+#[derive(Clone, Copy)]
 pub struct Key {
     pub table: u16,
     pub index: u64,
     pub description: TableDescription,
 }
 
-#[derive(Drop)]
+#[derive(Clone, Copy)]
 pub enum KeyAnswer {
     Known(Key),
     NoKey(Answer),
 }
 
-#[derive(Drop)]
+#[derive(Clone, Copy)]
 pub enum TableAnswer {
     Table(u16),
     NoTable(Answer),
@@ -36,7 +36,7 @@ pub enum TableAnswer {
 
 // An action in plain numbers, table and index 0 where it has none, and its payload's place; it ends where its payload ends. An action itself
 // would be copied at each return, its unused bytes too.
-#[derive(Drop)]
+#[derive(Clone, Copy)]
 pub struct ReadItem {
     pub index: u64,
     pub length: usize,
@@ -62,7 +62,7 @@ impl ReadItem {
     }
 }
 
-#[derive(Drop)]
+#[derive(Clone, Copy)]
 pub enum ItemAnswer {
     Read(ReadItem),
     NoItem(Answer),

@@ -1,4 +1,6 @@
 // A record's bytes, and the reader that steps through them.
+#![tactic(auto)]
+
 mod action;
 mod item;
 mod mask;

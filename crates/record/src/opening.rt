@@ -6,7 +6,7 @@ ghost use Rattle.record.specs.Record.{begun_id, early, early_end, opening};
 
 use answer::Answer;
 
-#[derive(Drop)]
+#[derive(Clone, Copy)]
 pub enum IdAnswer {
     Opened(u64),
     NotOpened(Answer),

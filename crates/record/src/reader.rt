@@ -16,7 +16,7 @@ use directory::{Directory, Found};
 
 // `inside` says whether a record was begun and not ended; then `record_id` is its id and, if validating, `crc32` the checksum's register
 // over its bytes so far.
-#[derive(Drop)]
+#[derive(Clone, Copy)]
 pub struct LogReader {
     pub position: usize,
     pub record_id: u64,
@@ -26,7 +26,7 @@ pub struct LogReader {
 }
 
 // An action that was read, its payload's place in the log, and the reader behind it.
-#[derive(Drop)]
+#[derive(Clone, Copy)]
 pub struct Stepped {
     pub action: LogAction,
     pub start: usize,
@@ -34,7 +34,7 @@ pub struct Stepped {
     pub reader: LogReader,
 }
 
-#[derive(Drop)]
+#[derive(Clone, Copy)]
 pub enum Step {
     Took(Stepped),
     Refused(Refusal),

@@ -7,7 +7,7 @@ ghost use Rattle.record.specs.Inner.{named_in, sought_in};
 use directory::{Directory, Found, TableKind};
 
 // A kind and a number, or none.
-#[derive(Drop)]
+#[derive(Clone, Copy)]
 pub enum Named {
     Table(TableKind, u16),
     Nothing,

@@ -6,7 +6,7 @@ use log_input::fill;
 use program_files::{NAME_ROOM, drop_new, new_name, put_in_place, start_new, tell, tell_lengths};
 
 // Whether there was an image.
-#[derive(Drop)]
+#[derive(Clone, Copy)]
 pub enum Image {
     Old,
     New,

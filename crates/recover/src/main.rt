@@ -1,4 +1,6 @@
 // Replays the records of a log onto the image of a directory's tables.
+#![tactic(auto)]
+
 mod files;
 mod message;
 

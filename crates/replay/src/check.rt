@@ -8,7 +8,7 @@ use answer::{Answer, Refusal};
 use record::{ItemAnswer, LogReader};
 
 // The place behind a record, or the fault before it.
-#[derive(Drop)]
+#[derive(Clone, Copy)]
 pub enum EndAnswer {
     Ended(usize),
     NotEnded(Refusal),

@@ -1,4 +1,6 @@
 // Replay: a record is checked to its end before any byte of the image is written.
+#![tactic(auto)]
+
 mod apply;
 mod check;
 mod many_records;

@@ -11,7 +11,7 @@ use answer::Answer;
 use directory::Directory;
 
 // `position` is where the record not replayed begins, `fault_at` where the action at fault begins.
-#[derive(Drop)]
+#[derive(Clone, Copy)]
 pub struct Ran {
     pub answer: Answer,
     pub position: usize,

@@ -11,7 +11,7 @@ use directory::Directory;
 use record::{LogReader, Step};
 
 // `position` is behind the record, or the one handed in. `fault_at` is where the action at fault begins; beside answer 0 it is `position`.
-#[derive(Drop)]
+#[derive(Clone, Copy)]
 pub struct Replayed {
     pub answer: Answer,
     pub position: usize,

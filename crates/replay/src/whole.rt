@@ -9,13 +9,13 @@ use answer::Refusal;
 use record::{LogReader, Step};
 
 // The reader behind the opening, and the place behind the record.
-#[derive(Drop)]
+#[derive(Clone, Copy)]
 pub struct WholeRecord {
     pub opened: LogReader,
     pub end: usize,
 }
 
-#[derive(Drop)]
+#[derive(Clone, Copy)]
 pub enum WholeAnswer {
     Whole(WholeRecord),
     NotWhole(Refusal),

@@ -1,4 +1,6 @@
 // Copies the whole records of a damaged log to a new file, and prints the list of them and of what was lost.
+#![tactic(auto)]
+
 mod pass;
 mod printing;
 mod reporting;

@@ -13,7 +13,7 @@ use salvaging::{Lines, Search, search_kept};
 // Nothing says that a file ends, so the turns are counted down from a number that no file uses up: its positions stay below 2^61.
 const TURNS: u64 = 1099511627776;
 
-#[derive(Drop)]
+#[derive(Clone, Copy)]
 pub enum End {
     Whole,
     ManyLines,
@@ -24,7 +24,7 @@ pub enum End {
 
 // The list so far; where in the file the window's front stands, and how many bytes it holds already; whether the file goes on, or else how it
 // came to an end.
-#[derive(Drop)]
+#[derive(Clone, Copy)]
 pub struct Pass {
     pub lines: Lines,
     pub base: u64,
@@ -34,7 +34,7 @@ pub struct Pass {
 }
 
 // How far a window was gone through, and whether its records were written.
-#[derive(Drop)]
+#[derive(Clone, Copy)]
 pub struct Taken {
     pub lines: Lines,
     pub at: usize,

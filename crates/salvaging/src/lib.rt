@@ -1,4 +1,6 @@
 // A damaged log salvaged: the whole records that stand in it, copied one behind the other, and a list of them and of what lies between.
+#![tactic(auto)]
+
 mod copying;
 mod lines;
 mod listing;

@@ -3,7 +3,7 @@ ghost use Rattle.std.specs.Prelude.{◌≡◌, [], ◌∷◌, ◌≤◌, replica
 ghost use Rattle.salvaging.specs.Inner.{no_lines, with_words, up_to, with_record, Ruled};
 
 // How many lines there are, 65 where one found no room; where the last one ends; and how many bytes the records kept have.
-#[derive(Drop)]
+#[derive(Clone, Copy)]
 pub struct Lines {
     pub words: [u64; 256],
     pub count: usize,

@@ -12,7 +12,7 @@ use answer::Answer;
 use directory::Directory;
 
 // How many lines stand in the list's memory, and how many bytes at the output's front.
-#[derive(Drop)]
+#[derive(Clone, Copy)]
 pub struct Salvaged {
     pub answer: Answer,
     pub lines: usize,

@@ -9,7 +9,7 @@ use directory::Directory;
 use replay::WholeAnswer;
 
 // Where a record begins, its id, and the place behind it.
-#[derive(Drop)]
+#[derive(Clone, Copy)]
 pub struct Found {
     pub position: usize,
     pub id: u64,
@@ -17,7 +17,7 @@ pub struct Found {
 }
 
 // A record is open where the bytes end before it does.
-#[derive(Drop)]
+#[derive(Clone, Copy)]
 pub enum Search {
     Record(Found),
     Open(usize),

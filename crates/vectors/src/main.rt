@@ -1,4 +1,6 @@
 // Values of CRC-32 from outside, held against the crate `checksum`: a line each, "ok" and the name, or the number that came out instead.
+#![tactic(auto)]
+
 use checksum::START;
 use libc::STDOUT_FILENO;
 

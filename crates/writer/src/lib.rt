@@ -1,4 +1,6 @@
 // The writer: a change list as a record at the front of a lent output.
+#![tactic(auto)]
+
 mod drops;
 mod entry;
 mod flush;

@@ -14,7 +14,7 @@ use Rattle.edge_log.proofs.ending_words.begin.Tie as tie
 use Rattle.edge_log.proofs.ending_words.begin.Reads as reads
 use Rattle.edge_log.proofs.ending_words.begin.Lts as lts
 use Rattle.change.proofs.change.LogChange.new.Reads as new-reads
-use Rattle.log.proofs.begin_record.Reads as begin-record-reads
+use Rattle.log_calls.proofs.begin_record.Reads as begin-record-reads
 
 -- src/ending_words.rt:68:19
 new-requires : tie.Need-new-requires

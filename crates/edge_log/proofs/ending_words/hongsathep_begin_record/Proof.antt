@@ -5,7 +5,7 @@ use Rattle.directory.specs.declared.directory.Directory.{Directory}
 use Rattle.memory.specs.declared.overlays.LogOverlays.{LogOverlays}
 use Rattle.host_words.specs.Head.{head_after}
 use Rattle.host_words.specs.Overlays.{overlays_size, overlays_words, overlays_left}
-use Rattle.log.specs.declared.begin.Begun.{Begun}
+use Rattle.log_calls.specs.declared.begin.Begun.{Begun}
 use Rattle.host_words.specs.Change.{list_size, list_words_of}
 use borrow.Author.Rules.{rules}
 use Rattle.edge_log.proofs.ending_words.hongsathep_begin_record.Statement.{statement}

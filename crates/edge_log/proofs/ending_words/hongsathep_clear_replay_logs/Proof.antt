@@ -2,7 +2,7 @@
 use mathlib.Core.Path.{ap₂, ◌∙◌}
 use Rattle.memory.specs.declared.overlays.LogOverlays.{LogOverlays}
 use Rattle.files.specs.declared.queues.Queues.{Queues}
-use Rattle.log.specs.ClearReplay.{logs_cleared}
+use Rattle.log_calls.specs.ClearReplay.{logs_cleared}
 use Rattle.edge_log.proofs.Memories.{clear-left}
 use Rattle.edge_log.proofs.ending_words.hongsathep_clear_replay_logs.Statement.{statement}
 use Rattle.edge_log.proofs.ending_words.hongsathep_clear_replay_logs.Tie as tie

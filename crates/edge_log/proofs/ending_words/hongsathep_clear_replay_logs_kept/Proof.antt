@@ -1,7 +1,7 @@
 -- `hongsathep_clear_replay_logs_kept` meets its contract. Assumes nothing.
 use mathlib.Core.Path.{ap, ◌∙◌}
 use Rattle.files.specs.Queues.{queues_kept}
-use Rattle.log.specs.ClearReplay.{logs_cleared_kept}
+use Rattle.log_calls.specs.ClearReplay.{logs_cleared_kept}
 use Rattle.edge_log.proofs.Memories.{clear-left}
 use Rattle.edge_log.proofs.ending_words.hongsathep_clear_replay_logs_kept.Statement.{statement}
 use Rattle.edge_log.proofs.ending_words.hongsathep_clear_replay_logs_kept.Tie as tie

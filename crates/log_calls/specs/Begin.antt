@@ -5,7 +5,7 @@ use Rattle.answer.specs.Answer.{last_record_id}
 use Rattle.answer.specs.declared.answer.Answer.{Answer}
 use Rattle.answer.specs.declared.answer.Answer.TheVariants.{Done, UsedUp, BadState}
 use Rattle.change.specs.Change.{new_list}
-use Rattle.log.specs.declared.begin.Begun.{Begun}
+use Rattle.log_calls.specs.declared.begin.Begun.{Begun}
 
 -- "The first id is 1": what the next id is at first
 abbrev pub first_record_id : ℕ

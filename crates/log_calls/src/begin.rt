@@ -1,12 +1,12 @@
 // The beginning of a record: log.rs lines 839 to 842.
 ghost use Rattle.std.specs.Prelude.{◌≡◌};
-ghost use Rattle.log.specs.Begin.{first_record_id, not_begun, begin_record};
+ghost use Rattle.log_calls.specs.Begin.{first_record_id, not_begun, begin_record};
 
 use answer::Answer;
 use change::LogChange;
 
 // The next id afterwards, and the list to fill.
-#[derive(Drop)]
+#[derive(Clone, Copy)]
 pub struct Begun {
     pub answer: Answer,
     pub next_record_id: u64,

@@ -1,9 +1,9 @@
 -- `clear_replay_logs` meets its contract: overlays and queues tested, and the second door. Assumes nothing.
 use mathlib.Core.Path.{sym, ◌∙◌}
-use Rattle.log.proofs.Kept.{no-overlays, no-queues, cleared}
+use Rattle.log_calls.proofs.Kept.{no-overlays, no-queues, cleared}
 use borrow.Author.Rules.{rules}
-use Rattle.log.proofs.clear_replay.clear_replay_logs.Statement.{statement}
-use Rattle.log.proofs.clear_replay.clear_replay_logs.Tie as tie
+use Rattle.log_calls.proofs.clear_replay.clear_replay_logs.Statement.{statement}
+use Rattle.log_calls.proofs.clear_replay.clear_replay_logs.Tie as tie
 
 all-kept-requires : tie.Need-all-kept-requires
 all-kept-requires c κs = search rules

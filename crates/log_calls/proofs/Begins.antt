@@ -14,7 +14,7 @@ use Rattle.change.specs.declared.change.LogChange.{LogChange}
 use Rattle.files.specs.declared.queues.Queues.{Queues}
 use Rattle.ending.specs.EndRecord.{Handed, handed_of, end_answer, is_done}
 use Rattle.ending.proofs.Decided.{accepted}
-use Rattle.log.specs.Begin.{not_begun, begin_record}
+use Rattle.log_calls.specs.Begin.{not_begun, begin_record}
 
 module _ (next : ℕ) where
   pub begun-0 : next ≡ 0 → not_begun BadState next ≡ begin_record next

@@ -1,10 +1,10 @@
 -- `not_begun` meets its contract. Assumes nothing.
 use mathlib.Core.Path.{ap}
 use Rattle.change.specs.declared.change.LogChange.{LogChange}
-use Rattle.log.specs.declared.begin.Begun.{Begun}
+use Rattle.log_calls.specs.declared.begin.Begun.{Begun}
 use borrow.Author.Rules.{rules}
-use Rattle.log.proofs.begin.not_begun.Statement.{statement}
-use Rattle.log.proofs.begin.not_begun.Tie as tie
+use Rattle.log_calls.proofs.begin.not_begun.Statement.{statement}
+use Rattle.log_calls.proofs.begin.not_begun.Tie as tie
 
 new-requires : tie.Need-new-requires
 new-requires c κs = search rules

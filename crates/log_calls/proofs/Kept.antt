@@ -15,8 +15,8 @@ use Rattle.files.specs.Queues.{queues_kept}
 use Rattle.files.specs.Calls.{clear_replay_logs_kept}
 use Rattle.files.specs.declared.queues.Queues.{Queues}
 use Rattle.files.specs.declared.reading.ReplayCleared.{ReplayCleared}
-use Rattle.log.specs.ClearReplay.{logs_cleared_kept, logs_cleared}
-use Rattle.log.specs.declared.clear_replay.LogsCleared.{LogsCleared}
+use Rattle.log_calls.specs.ClearReplay.{logs_cleared_kept, logs_cleared}
+use Rattle.log_calls.specs.declared.clear_replay.LogsCleared.{LogsCleared}
 
 pub emptied-by : (q : Queues) (o : LogOverlays) → o ≡ no_overlays → (c : ReplayCleared) → c ≡ clear_replay_logs_kept q → record { answer = Done; overlays = o; queues = c.queues } ≡ logs_cleared_kept q
 emptied-by q o e c f = rw (e, f)

@@ -1,4 +1,6 @@
 // The calls of the log that touch several parts.
+#![tactic(auto)]
+
 mod begin;
 mod clear_replay;
 

@@ -1,13 +1,13 @@
 // What was to be replayed, cleared: log.rs lines 816 to 837.
 ghost use Rattle.std.specs.Prelude.{◌≡◌, true};
 ghost use Rattle.files.specs.Queues.{queues_kept};
-ghost use Rattle.log.specs.ClearReplay.{logs_cleared_kept, logs_cleared};
+ghost use Rattle.log_calls.specs.ClearReplay.{logs_cleared_kept, logs_cleared};
 
 use answer::Answer;
 use files::Queues;
 use memory::{Holder, LogOverlays};
 
-#[derive(Drop)]
+#[derive(Clone, Copy)]
 pub struct LogsCleared {
     pub answer: Answer,
     pub overlays: LogOverlays,

@@ -1,9 +1,9 @@
 -- `begin_record` meets its contract: 13, 12, or the next id and a new list. Assumes nothing.
 use mathlib.Core.Path.{◌∙◌}
-use Rattle.log.proofs.Begins.{begun-0, begun-last, begun-next}
+use Rattle.log_calls.proofs.Begins.{begun-0, begun-last, begun-next}
 use borrow.Author.Rules.{rules}
-use Rattle.log.proofs.begin.begin_record.Statement.{statement}
-use Rattle.log.proofs.begin.begin_record.Tie as tie
+use Rattle.log_calls.proofs.begin.begin_record.Statement.{statement}
+use Rattle.log_calls.proofs.begin.begin_record.Tie as tie
 
 not-begun-requires : tie.Need-not-begun-requires
 not-begun-requires c κs = search rules

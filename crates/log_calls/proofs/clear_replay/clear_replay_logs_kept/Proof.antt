@@ -1,8 +1,8 @@
 -- `clear_replay_logs_kept` meets its contract. Assumes nothing.
-use Rattle.log.proofs.Kept.{emptied-by}
+use Rattle.log_calls.proofs.Kept.{emptied-by}
 use borrow.Author.Rules.{rules}
-use Rattle.log.proofs.clear_replay.clear_replay_logs_kept.Statement.{statement}
-use Rattle.log.proofs.clear_replay.clear_replay_logs_kept.Tie as tie
+use Rattle.log_calls.proofs.clear_replay.clear_replay_logs_kept.Statement.{statement}
+use Rattle.log_calls.proofs.clear_replay.clear_replay_logs_kept.Tie as tie
 
 clear-replay-logs-kept-requires : tie.Need-clear-replay-logs-kept-requires
 clear-replay-logs-kept-requires c κs = search rules

@@ -10,7 +10,7 @@ use Rattle.memory.specs.declared.span.Holder.TheVariants as holder
 use Rattle.files.specs.Queues.{queues_kept}
 use Rattle.files.specs.Calls.{clear_replay_logs_kept}
 use Rattle.files.specs.declared.queues.Queues.{Queues}
-use Rattle.log.specs.declared.clear_replay.LogsCleared.{LogsCleared}
+use Rattle.log_calls.specs.declared.clear_replay.LogsCleared.{LogsCleared}
 
 -- empty overlays are counts of 0, whatever their memory holds: it is left as it was
 abbrev pub logs_cleared_kept : Queues → LogsCleared
