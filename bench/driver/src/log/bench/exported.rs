@@ -1,15 +1,15 @@
-//! The exported calls, one at a time from Rust: each reads its states from words and stores them back.
+//! The exported calls of the proved library, one at a time from Rust: each reads its states from words and stores them back.
 use super::super::*;
 use super::figures::{best, best_of, seconds, Figures};
 use super::host::value_table;
 use super::looking::{keys, rust_each};
 use super::made::{key, RECORD};
-use super::port::{lent, open, Door, Listed, Shared, DOORS, S};
+use super::port::{foreign, lent, open, Door, Listed, Shared, DOORS, S};
 use super::tables::{Tables, VALUE};
 use super::{ending, host, Setting};
 use std::hint::black_box;
 
-extern "C" {
+foreign! {
     fn hongsathep_list_new(list: S, id: u64) -> u64;
     fn hongsathep_insert_index(
         tables: S,

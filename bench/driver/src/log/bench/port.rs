@@ -1,9 +1,9 @@
-//! The functions of ../../../../calls.rt.txt, as the compiler of `rt try` leaves them: a slice goes as the address of its address and length.
-//! Each wrapper compares what is answered.
+//! The functions of ../../../../calls.rt.txt, under the C interface: a slice goes as its address and its length. Each wrapper compares what is
+//! answered.
 use super::made::{places, RECORD};
 
-#[repr(C)]
-pub struct Slice(*const u8, usize);
+/// A slice that is handed over.
+pub struct Slice(pub(super) *const u8, pub(super) usize);
 
 pub fn lent<T>(x: &[T]) -> Slice {
     Slice(x.as_ptr() as *const u8, x.len())
@@ -15,7 +15,30 @@ pub fn open<T>(x: &mut [T]) -> Slice {
 
 pub type S<'a> = &'a Slice;
 
-extern "C" {
+/// Functions of C, each under its name with a `S` for every slice.
+macro_rules! foreign {
+    ($(fn $name:ident($($parameters:tt)*) $(-> $result:ty)?;)*) => {
+        $(foreign!(@ $name [$($result)?] [] [] [] $($parameters)*,);)*
+    };
+    (@ $name:ident $result:tt [$($own:tt)*] [$($c:tt)*] [$($handed:tt)*] $a:ident: S, $($rest:tt)*) => {
+        foreign!(@ $name $result [$($own)* $a: S,] [$($c)* _: *const u8, _: usize,] [$($handed)* $a.0, $a.1,] $($rest)*);
+    };
+    (@ $name:ident $result:tt [$($own:tt)*] [$($c:tt)*] [$($handed:tt)*] $a:ident: $t:ty, $($rest:tt)*) => {
+        foreign!(@ $name $result [$($own)* $a: $t,] [$($c)* _: $t,] [$($handed)* $a,] $($rest)*);
+    };
+    (@ $name:ident [$($result:ty)?] [$($own:tt)*] [$($c:tt)*] [$($handed:tt)*] $(,)?) => {
+        #[allow(clippy::too_many_arguments)]
+        unsafe fn $name($($own)*) $(-> $result)? {
+            extern "C" {
+                fn $name($($c)*) $(-> $result)?;
+            }
+            $name($($handed)*)
+        }
+    };
+}
+pub(super) use foreign;
+
+foreign! {
     fn bench_checksum(bytes: S) -> u32;
     fn bench_next(tables: S, log: S, validate: u64, kept: u64, r: S);
     fn bench_run(tables: S, log: S, expected: u64, image: S, r: S);
