@@ -10,7 +10,7 @@ use lib.Dec.{leb}
 use lib.ListN.{length, get_or, take}
 use lib.Seq.{take-suc-set}
 use borrow.Author.Tests.{lt-ltb, leb-false}
-use Rattle.words.specs.Choice.{if◌then◌else◌}
+use Rattle.std.specs.Prelude.{if◌then◌else◌}
 use Rattle.words.proofs.Choices.{if_true}
 use Rattle.answer.specs.declared.answer.Answer.TheVariants.{BadState}
 use Rattle.directory.specs.Directory.{tables_of, find_table, stands, directory_kept}

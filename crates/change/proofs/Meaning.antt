@@ -11,7 +11,7 @@ use lib.Pow.{pow_pos}
 use lib.Dec.{ltb, eqb}
 use lib.ListN.{length}
 use borrow.Author.Tests.{lt-ltb, eq-eqb}
-use Rattle.words.specs.Choice.{if◌then◌else◌}
+use Rattle.std.specs.Prelude.{if◌then◌else◌}
 use Rattle.words.proofs.Choices.{if_true, if_false}
 use Rattle.answer.specs.declared.answer.Answer.TheVariants.{BadState}
 use Rattle.directory.specs.Table.{same_kind_of, length_fits, unit_of}

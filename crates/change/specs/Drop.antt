@@ -1,6 +1,6 @@
 -- What a drop does (document 01: "16 drops of each of the two kinds", "drops in call order, repeats kept"). log.rs lines 517 to 523.
 use Rattle.std.specs.Prelude.{ℕ, ◌+◌, leb, set}
-use Rattle.words.specs.Choice.{if◌then◌else◌}
+use Rattle.std.specs.Prelude.{if◌then◌else◌}
 use Rattle.answer.specs.declared.answer.Answer.TheVariants.{Done, NoTable, NoRoom, BadState}
 use Rattle.directory.specs.Directory.{tables_of, stands}
 use Rattle.directory.specs.declared.table.TableKind.{TableKind}

@@ -1,7 +1,7 @@
 -- The values of one table in a list (log.rs lines 376 to 378: `local_values_changes`). The Rust lends out the table's map of values; by table
 -- number, then index, they are a run of the order here, and the answer says where it begins and ends.
 use Rattle.std.specs.Prelude.{ℕ, ◌+◌}
-use Rattle.words.specs.Choice.{if◌then◌else◌}
+use Rattle.std.specs.Prelude.{if◌then◌else◌}
 use Rattle.answer.specs.declared.answer.Answer.TheVariants.{Done, BadState}
 use Rattle.keys.specs.Keys.{rank}
 use Rattle.overlay.specs.Overlay.{spot_in_of}

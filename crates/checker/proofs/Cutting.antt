@@ -9,7 +9,7 @@ use lib.Dec.{leb}
 use lib.ListN.{length, drop, length-append, length-drop}
 use lib.Seq.{drop-append-le, drop-drop, take-append_seam}
 use borrow.Author.Tests.{lt-leb, eq-eqb}
-use Rattle.words.specs.Choice.{if◌then◌else◌}
+use Rattle.std.specs.Prelude.{if◌then◌else◌}
 use Rattle.words.proofs.Choices.{if_true, if_false}
 use Rattle.words.proofs.Little.{Bytes}
 use Rattle.checksum.proofs.Words.{take_bytes, drop_bytes_lem}

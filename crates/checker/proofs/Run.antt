@@ -6,7 +6,7 @@ use Prim.Native.Nat.{ℕ, zero, suc, ◌+◌, ◌-◌, ◌≤◌, ◌<◌}
 use native.Mathlib.Omega.{arith}
 use lib.Dec.{eqb, ltb}
 use lib.ListN.{length}
-use Rattle.words.specs.Choice.{if◌then◌else◌}
+use Rattle.std.specs.Prelude.{if◌then◌else◌}
 use Rattle.words.proofs.Choices.{if_true, if_false}
 use Rattle.answer.specs.Answer.{refusal, last_record_id}
 use Rattle.answer.specs.declared.answer.Answer.{Answer}

@@ -1,7 +1,7 @@
 -- A check of a log's bytes: the run's walk without an image (document 02, "One. Check a log off the card": "applies nothing, and at the close
 -- reports the answer, position and record count that a run over the joined bytes would report"). Added.
 use Rattle.std.specs.Prelude.{ℕ, zero, suc, ◌+◌, Bool, true, ◌&&◌, ◌||◌, List, eqb, leb, ltb, length}
-use Rattle.words.specs.Choice.{if◌then◌else◌}
+use Rattle.std.specs.Prelude.{if◌then◌else◌}
 use Rattle.answer.specs.Answer.{number_of, last_record_id}
 use Rattle.answer.specs.declared.answer.Answer.{Answer}
 use Rattle.answer.specs.declared.answer.Answer.TheVariants.{WrongId, UsedUp}

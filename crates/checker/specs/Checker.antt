@@ -1,7 +1,7 @@
 -- The checker (document 02, "One. Check a log off the card": "Our field recorder hands over a log in pieces, sometimes of no bytes. We want a
 -- checker that takes the pieces in turn, applies nothing, and at the close reports .."). Added.
 use Rattle.std.specs.Prelude.{Bool, true, false, ◌&&◌, ◌||◌, ◌≡◌, List, [], ◌∷◌, ◌++◌, ℕ, ◌+◌, ◌-◌, ◌*◌, eqb, leb, ltb, length, take, drop, replicate}
-use Rattle.words.specs.Choice.{if◌then◌else◌}
+use Rattle.std.specs.Prelude.{if◌then◌else◌}
 use Rattle.answer.specs.Answer.{number_of}
 use Rattle.answer.specs.declared.answer.Answer.{Answer}
 use Rattle.answer.specs.declared.answer.Answer.TheVariants.{Done, EndOfLog, Cut, BadState, BadArgument}

@@ -1,6 +1,6 @@
 -- What the inner functions of the checker ask for and answer. Nothing here has to be believed: `Checker` says what the public calls answer.
 use Rattle.std.specs.Prelude.{true, false, List, ◌++◌, ◌≡◌, ℕ, ◌+◌, ◌-◌, ◌≤◌, ◌<◌, ltb, length, take, get_or}
-use Rattle.words.specs.Choice.{if◌then◌else◌}
+use Rattle.std.specs.Prelude.{if◌then◌else◌}
 use Rattle.record.specs.declared.reader.LogReader.{LogReader}
 use Rattle.checker.specs.Checker.{unread, is_open, checker_kept}
 use Rattle.checker.specs.declared.checker.LogChecker.{LogChecker}

@@ -1,6 +1,6 @@
 -- `end_read` (document 01, "Clearing reads ..": order of checks and what is left; log.rs lines 901 to 932).
 use Rattle.std.specs.Prelude.{not, ◌&&◌, List, ℕ, ◌+◌, ltb, eqb}
-use Rattle.words.specs.Choice.{if◌then◌else◌}
+use Rattle.std.specs.Prelude.{if◌then◌else◌}
 use Rattle.words.specs.Words.{little_at}
 use Rattle.answer.specs.Answer.{refusal, last_record_id}
 use Rattle.answer.specs.declared.answer.Answer.{Answer}

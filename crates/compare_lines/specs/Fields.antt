@@ -1,6 +1,6 @@
 -- What the fields of a command mean, and what one of a wrong length is told. Assumes nothing.
 use Rattle.std.specs.Prelude.{ℕ, eqb, ltb}
-use Rattle.words.specs.Choice.{if◌then◌else◌}
+use Rattle.std.specs.Prelude.{if◌then◌else◌}
 use Rattle.directory.specs.declared.table.TableKind.{TableKind}
 use Rattle.directory.specs.declared.table.TableKind.TheVariants.{Index, Value, RefCount}
 use Rattle.compare_lines.specs.declared.fault.Fault.{Fault}

@@ -1,6 +1,6 @@
 -- Tables and a directory as plain numbers. Nothing here has to be believed: `Table` and `Directory` say what the public calls answer.
 use Rattle.std.specs.Prelude.{◌≡◌, Bool, true, false, ◌&&◌, ◌||◌, not, List, [], ◌∷◌, ℕ, zero, suc, ◌+◌, ◌*◌, ◌%◌, ◌≤◌, ◌<◌, eqb, ltb, get_or, take}
-use Rattle.words.specs.Choice.{if◌then◌else◌}
+use Rattle.std.specs.Prelude.{if◌then◌else◌}
 use Rattle.directory.specs.Table.{description}
 use Rattle.directory.specs.Directory.{directory_kept, sizes_of, start_of}
 use Rattle.directory.specs.declared.table.TableKind.{TableKind}

@@ -9,7 +9,7 @@ use borrow.Author.Tests.{eq-eqb, ne_eqb}
 use lib.Dec.{eqb}
 use lib.ListN.{length, take, drop, get_or, drop_of_length-le, length-drop}
 use lib.Seq.{drop-drop, drop-cons, length-take-le}
-use Rattle.words.specs.Choice.{if◌then◌else◌}
+use Rattle.std.specs.Prelude.{if◌then◌else◌}
 use Rattle.directory_text.specs.Scan.{is_blank, scans_past, front, behind, word_of, behind_word, is_none, same_bytes, on_first, text_lines}
 use Rattle.directory_text.specs.declared.scan.Pass.TheVariants.{Blanks, Word, Before}
 
@@ -118,16 +118,16 @@ no_line text at h =
     rw e
 
 -- whether two words are one
-and_false : (t s : Bool) → false ≡ s → false ≡ t && s
-and_false true s e = e
-and_false false s e = refl
+and-false : (t s : Bool) → false ≡ s → false ≡ t && s
+and-false true s e = e
+and-false false s e = refl
 
 pub unlike : (a b : List ℕ) → (length a ≡ length b → ⊥) → false ≡ same_bytes a b
 unfolding same_bytes
 unlike [] [] n = absurd (n refl)
 unlike [] (b ∷ bs) n = refl
 unlike (a ∷ l) [] n = refl
-unlike (a ∷ l) (b ∷ bs) n = and_false (eqb a b) (same_bytes l bs) (unlike l bs (λ e. n (ap suc e)))
+unlike (a ∷ l) (b ∷ bs) n = and-false (eqb a b) (same_bytes l bs) (unlike l bs (λ e. n (ap suc e)))
 
 module _ (a b : List ℕ) (i : ℕ) (h : i < length a) (k : i < length b) where
   pub same-goes : get_or a i 0 ≡ get_or b i 0 → same_bytes (drop i a) (drop i b) ≡ same_bytes (drop (i + 1) a) (drop (i + 1) b)

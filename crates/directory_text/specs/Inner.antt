@@ -1,6 +1,6 @@
 -- What the inner functions say of each other. Nothing here has to be believed. Assumes nothing.
 use Rattle.std.specs.Prelude.{◌≡◌, List, ℕ, ◌≤◌, length, drop}
-use Rattle.words.specs.Choice.{if◌then◌else◌}
+use Rattle.std.specs.Prelude.{if◌then◌else◌}
 use Rattle.directory.specs.declared.table.TableKind.{TableKind}
 use Rattle.directory_text.specs.Scan.{scans_past, behind, is_none}
 use Rattle.directory_text.specs.Line.{is_any, fitted, number_then, length_in}

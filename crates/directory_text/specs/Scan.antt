@@ -1,6 +1,6 @@
 -- The parts of a text: blanks, words, lines. Assumes nothing.
 use Rattle.std.specs.Prelude.{Bool, true, false, ◌&&◌, ◌||◌, not, List, [], ◌∷◌, ℕ, eqb}
-use Rattle.words.specs.Choice.{if◌then◌else◌}
+use Rattle.std.specs.Prelude.{if◌then◌else◌}
 use Rattle.directory_text.specs.declared.scan.Pass.{Pass}
 use Rattle.directory_text.specs.declared.scan.Pass.TheVariants.{Blanks, Word, Before}
 

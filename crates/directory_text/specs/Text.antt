@@ -1,6 +1,6 @@
 -- A directory in its plain text form, a line a table, parsed up to the first fault. Assumes nothing.
 use Rattle.std.specs.Prelude.{Bool, true, false, not, List, [], ◌∷◌, ℕ, ◌+◌, leb, set}
-use Rattle.words.specs.Choice.{if◌then◌else◌}
+use Rattle.std.specs.Prelude.{if◌then◌else◌}
 use Rattle.directory.specs.Table.{table_kept}
 use Rattle.directory.specs.Directory.{no_tables, find_table}
 use Rattle.directory.specs.declared.table.TableDescription.{TableDescription}

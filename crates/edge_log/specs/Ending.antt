@@ -1,6 +1,6 @@
 -- The calls that touch several states, over words.
 use Rattle.std.specs.Prelude.{◌≡◌, List, ℕ, eqb}
-use Rattle.words.specs.Choice.{if◌then◌else◌}
+use Rattle.std.specs.Prelude.{if◌then◌else◌}
 use Rattle.answer.specs.declared.answer.Answer.{Answer}
 use Rattle.answer.specs.declared.answer.Answer.TheVariants.{BadState}
 use Rattle.files.specs.declared.queues.Queues.{Queues}

@@ -8,7 +8,7 @@ use borrow.Author.Tests.{eq-eqb}
 use lib.Dec.{eqb}
 use lib.ListN.{length}
 use lib.Seq.{take-nil}
-use Rattle.words.specs.Choice.{if◌then◌else◌}
+use Rattle.std.specs.Prelude.{if◌then◌else◌}
 use Rattle.answer.specs.Answer.{number_of}
 use Rattle.directory.specs.declared.table.TableKind.TheVariants.{Value}
 use Rattle.numbers.specs.Numbers.{one_if}

@@ -2,7 +2,7 @@
 -- with the stored bytes themselves, from the local memory or the shared one"). That they are those bytes: `place-bytes`, crates/query/proofs/Places.
 use Rattle.std.specs.Prelude.{◌≡◌, Bool, false, ◌&&◌, List, ℕ, ◌+◌, eqb, length}
 use Rattle.std.proofs.Math.Option.{none}
-use Rattle.words.specs.Choice.{if◌then◌else◌}
+use Rattle.std.specs.Prelude.{if◌then◌else◌}
 use Rattle.answer.specs.Answer.{number_of}
 use Rattle.answer.specs.declared.answer.Answer.{Answer}
 use Rattle.answer.specs.declared.answer.Answer.TheVariants.{Done, BadState}

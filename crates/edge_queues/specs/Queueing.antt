@@ -1,6 +1,6 @@
 -- The file queues' calls over words: where a call is handed more than the queues' words, and what each leaves of what it hands back.
 use Rattle.std.specs.Prelude.{◌≡◌, Bool, List, ℕ, eqb}
-use Rattle.words.specs.Choice.{if◌then◌else◌}
+use Rattle.std.specs.Prelude.{if◌then◌else◌}
 use Rattle.answer.specs.declared.answer.Answer.TheVariants.{BadState}
 use Rattle.numbers.specs.Numbers.{one_if}
 use Rattle.record.specs.Next.{reader_at}

@@ -1,7 +1,7 @@
 -- The reader's calls over words: what a step comes to as numbers (document 01, "The opening of a record": "A step answers with the action, the
 -- place of its payload and the cursor after it, or a refusal.").
 use Rattle.std.specs.Prelude.{◌≡◌, Bool, List, ℕ, eqb, length}
-use Rattle.words.specs.Choice.{if◌then◌else◌}
+use Rattle.std.specs.Prelude.{if◌then◌else◌}
 use Rattle.answer.specs.Answer.{number_of}
 use Rattle.answer.specs.declared.answer.Answer.TheVariants.{Done, BadState}
 use Rattle.record.specs.Next.{refused, answer_of, next_of, step_of}

@@ -11,7 +11,7 @@ use Prim.Native.Nat.{ℕ, ◌<◌}
 use native.Mathlib.Nat.{ℕ_set}
 use native.Mathlib.Omega.{arith}
 use lib.ListN.{length, get_or}
-use Rattle.words.specs.Choice.{if◌then◌else◌}
+use Rattle.std.specs.Prelude.{if◌then◌else◌}
 use Rattle.directory.specs.declared.directory.Directory.{Directory}
 use Rattle.effect.specs.Effect.{Written, apply}
 use Rattle.effect.specs.Order.{writes_to, drops_table, Each, Pairs, Other, Spared}

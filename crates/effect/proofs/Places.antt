@@ -9,7 +9,7 @@ use native.Mathlib.Omega.{arith}
 use lib.Dec.{eqb, ltb}
 use lib.ListN.{take}
 use borrow.Author.Tests.{eqb-true, lt-ltb, le-ltb}
-use Rattle.words.specs.Choice.{if◌then◌else◌}
+use Rattle.std.specs.Prelude.{if◌then◌else◌}
 use Rattle.directory.specs.Table.{same_kind_of, is_table, slot_length, size_of}
 use Rattle.directory.specs.Directory.{tables_of, find_from, find_table, sizes_of, start_of, image_length}
 use Rattle.directory.specs.declared.table.TableKind.{TableKind}

@@ -11,7 +11,7 @@ use native.Mathlib.Omega.{arith}
 use lib.Dec.{eqb, ltb}
 use lib.ListN.{length, take, drop, replicate, length-take, length-replicate}
 use borrow.Author.Tests.{eqb-true, ltb-true}
-use Rattle.words.specs.Choice.{if◌then◌else◌}
+use Rattle.std.specs.Prelude.{if◌then◌else◌}
 use Rattle.directory.specs.Table.{unit_of, slot_length, size_of}
 use Rattle.directory.specs.Directory.{tables_of}
 use Rattle.directory.specs.declared.table.TableKind.{TableKind}

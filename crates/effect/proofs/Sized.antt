@@ -10,7 +10,7 @@ use lib.Dec.{eqb, ltb}
 use lib.ListN.{length, take, drop, get_or, length-append, length-take, length-drop}
 use lib.Seq.{length-take-le, take-add, take_at, drop_at, drop-drop}
 use borrow.Author.Tests.{ltb-false}
-use Rattle.words.specs.Choice.{if◌then◌else◌}
+use Rattle.std.specs.Prelude.{if◌then◌else◌}
 use Rattle.words.specs.Words.{little}
 use Rattle.words.proofs.Cut.{drop_take}
 use Rattle.directory.specs.Directory.{find_table}

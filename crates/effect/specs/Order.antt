@@ -1,7 +1,7 @@
 -- Demand 3's premises: "no kind, table and index is written twice, and in neither record a table is written after its own drop".
 use Rattle.std.specs.Prelude.{◌≡◌, List, [], ◌∷◌, ℕ, eqb}
 use Rattle.std.proofs.Math.Option.{Option, none, some}
-use Rattle.words.specs.Choice.{if◌then◌else◌}
+use Rattle.std.specs.Prelude.{if◌then◌else◌}
 use Rattle.directory.specs.declared.table.TableKind.{TableKind}
 use Rattle.directory.specs.declared.table.TableKind.TheVariants.{Index, Value, RefCount}
 use Rattle.record.specs.declared.action.LogAction.{LogAction}

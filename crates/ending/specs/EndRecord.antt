@@ -1,7 +1,7 @@
 -- `end_record` (document 01, "Change lists and overlays" and "Ending a record: 11, 9 for overlays, 9 for files, 12, 10." behind 13; log.rs lines
 -- 844 to 899, where 11 is an assertion and 9, 12, 13 can't be: the room, the last number and the rules are added).
 use Rattle.std.specs.Prelude.{Bool, not, ◌&&◌, List, ℕ, ◌+◌, ltb, eqb, length}
-use Rattle.words.specs.Choice.{if◌then◌else◌}
+use Rattle.std.specs.Prelude.{if◌then◌else◌}
 use Rattle.directory.specs.declared.directory.Directory.{Directory}
 use Rattle.answer.specs.Answer.{number_of}
 use Rattle.answer.specs.declared.answer.Answer.{Answer}

@@ -1,5 +1,5 @@
 -- What the inner functions answer: nothing here is to be believed.
-use Rattle.words.specs.Choice.{if◌then◌else◌}
+use Rattle.std.specs.Prelude.{if◌then◌else◌}
 use Rattle.directory.specs.declared.directory.Directory.{Directory}
 use Rattle.answer.specs.declared.answer.Answer.{Answer}
 use Rattle.memory.specs.declared.overlays.LogOverlays.{LogOverlays}

@@ -2,7 +2,7 @@
 use Prim.Native.Nat.{ℕ}
 use mathlib.Core.Bool.{Bool, true, false}
 use mathlib.Core.Path.{◌≡◌, refl}
-use Rattle.words.specs.Choice.{if◌then◌else◌}
+use Rattle.std.specs.Prelude.{if◌then◌else◌}
 use Rattle.numbers.specs.Numbers.{times}
 use Rattle.files.specs.Queues.{files_of, QueuesTyped}
 use Rattle.files.specs.Moves.{front_read}

@@ -2,7 +2,7 @@
 -- that keep the rules (`..Kept`); queues that break one get 13 (document 01: "Order in every call: 13, then .."). A refusal hands the queues
 -- back as they were and tells the host nothing.
 use Rattle.std.specs.Prelude.{ℕ, ◌+◌, Bool, true, false, not, ◌&&◌, ◌||◌, List, [], ◌∷◌, ltb, eqb, leb}
-use Rattle.words.specs.Choice.{if◌then◌else◌}
+use Rattle.std.specs.Prelude.{if◌then◌else◌}
 use Rattle.numbers.specs.Queue.{list_of, no_numbers, pushed_if, front_of_of, first_of, without_first, emptied, all_sorted_in}
 use Rattle.numbers.specs.declared.queue.NumberQueue.{NumberQueue}
 use Rattle.answer.specs.declared.answer.Answer.{Answer}

@@ -1,7 +1,7 @@
 -- The file queues as lists, and the rules of their state (document 01, "File numbers" and "Numbered answers"; `Log`, log.rs 700-726).
 -- What lies behind a queue's count means nothing; nor does what stands beside a `some` that is false.
 use Rattle.std.specs.Prelude.{ℕ, ◌+◌, Bool, ◌&&◌, List, ◌++◌, ◌≡◌, ltb, leb, length}
-use Rattle.words.specs.Choice.{if◌then◌else◌}
+use Rattle.std.specs.Prelude.{if◌then◌else◌}
 use Rattle.numbers.specs.Numbers.{all_below, distinct, ascends, some_of, one_if}
 use Rattle.numbers.specs.Queue.{list_of}
 use Rattle.files.specs.declared.queues.Queues.{Queues}

@@ -1,6 +1,6 @@
 -- `read_next` (document 01, "File numbers"; log.rs 1038-1063).
 use Rattle.std.specs.Prelude.{ℕ, Bool, List, eqb}
-use Rattle.words.specs.Choice.{if◌then◌else◌}
+use Rattle.std.specs.Prelude.{if◌then◌else◌}
 use Rattle.answer.specs.Answer.{number_of}
 use Rattle.record.specs.Next.{reader_at, opening_of}
 use Rattle.answer.specs.declared.answer.Answer.{Answer}

@@ -1,6 +1,6 @@
 -- A name's digits, one at a time. Assumes nothing.
 use Prim.Native.Nat.{ℕ, ◌+◌, ◌-◌, ◌*◌, ◌≤◌, ◌<◌}
-use mathlib.Core.Bool.{Bool, true, false, ◌&&◌, ◌||◌, and_false}
+use mathlib.Core.Bool.{Bool, true, false, ◌&&◌, ◌||◌, and-false}
 use mathlib.Core.List.{List, [], ◌∷◌}
 use mathlib.Core.Path.{◌≡◌, refl, sym, ap, ◌∙◌}
 use native.Mathlib.Omega.{arith}
@@ -9,7 +9,7 @@ use lib.ListN.{get_or, drop, length, length-drop, drop_of_length-le}
 use lib.Seq.{drop-cons, get_or-drop}
 use lib.Dec.{ltb, leb, eqb}
 use borrow.Author.Tests.{lt-ltb, le-ltb, ltb-true, leb-true, ne_eqb}
-use Rattle.words.specs.Choice.{if◌then◌else◌}
+use Rattle.std.specs.Prelude.{if◌then◌else◌}
 use Rattle.numbers.specs.Numbers.{all_below}
 use Rattle.numbers.proofs.Laws.{left-of, right_of}
 use Rattle.found.specs.Names.{begins_log, no_leading_zero, is_digit, all_digits, value_from, decimal_from, log_name, digit_of}
@@ -46,7 +46,7 @@ value-le n (b ∷ l) = omega (arith, value-le (10 * n + (b - 48)) l)
 
 pub digits_large : (n : ℕ) (l : List ℕ) → 4294967296 ≤ n → decimal_from n l ≡ Other
 unfolding decimal_from
-digits_large n l h = rw (le-ltb (value_from n l) 4294967296 (omega (arith, value-le n l)), and_false (all_digits l))
+digits_large n l h = rw (le-ltb (value_from n l) 4294967296 (omega (arith, value-le n l)), and-false (all_digits l))
 
 module _ (n : ℕ) (name : List ℕ) (i : ℕ) where
   pub digits-end : length name ≤ i → n < 4294967296 → decimal_from n (drop i name) ≡ Log n

@@ -7,7 +7,7 @@ use native.Mathlib.Omega.{arith}
 use lib.ListN.{get_or, take, drop, length, length-drop}
 use lib.Dec.{ltb, leb, eqb}
 use borrow.Author.Tests.{ltb-true, ltb-false, leb-true, eqb-true, eqb-false}
-use Rattle.words.specs.Choice.{if◌then◌else◌}
+use Rattle.std.specs.Prelude.{if◌then◌else◌}
 use Rattle.numbers.proofs.Laws.{left-of, right_of}
 use Rattle.found.specs.Names.{begins_log, no_leading_zero, is_digit, all_digits, value_from, decimal_from, log_name}
 use Rattle.found.specs.declared.name.LogName.TheVariants.{Log, Other}

@@ -10,7 +10,7 @@ use lib.ListN.{get_or, set, take, drop, length, length-map, length-append, drop_
 use lib.Seq.{paste, length-paste, take-paste, drop-paste, take_all, take-length, drop-drop, get_or-drop, set_split, append_snoc}
 use lib.Dec.{ltb, eqb}
 use borrow.Author.Tests.{eq-eqb, ne_eqb, eqb-true, eqb-false}
-use Rattle.words.specs.Choice.{if◌then◌else◌}
+use Rattle.std.specs.Prelude.{if◌then◌else◌}
 use Rattle.words.specs.Words.{little_at}
 use Rattle.numbers.specs.Numbers.{has, distinct}
 use Rattle.found.specs.Names.{log_name, cut, said_by}

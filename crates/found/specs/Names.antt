@@ -1,7 +1,7 @@
 -- The names that open takes (document 01: "Open takes names "log" plus a decimal number below 2^32 without plus sign or leading zero ("log0"
 -- stands). .. Other names are ignored."; log.rs 736-737).
 use Rattle.std.specs.Prelude.{ℕ, ◌+◌, ◌-◌, ◌*◌, Bool, true, ◌&&◌, ◌||◌, not, List, [], ◌∷◌, map, get_or, take, drop, length, ltb, eqb, leb}
-use Rattle.words.specs.Choice.{if◌then◌else◌}
+use Rattle.std.specs.Prelude.{if◌then◌else◌}
 use Rattle.found.specs.declared.name.LogName.{LogName}
 use Rattle.found.specs.declared.name.LogName.TheVariants.{Log, Other}
 

@@ -2,7 +2,7 @@
 -- read queue (count, 64 numbers), the file being read (whether there is one, number), cleanup, pool and replay queue (count, 64 numbers each), the
 -- 64 first ids, the next number, dirty.
 use Rattle.std.specs.Prelude.{Bool, ◌&&◌, List, [], ◌∷◌, ◌++◌, ℕ, ◌+◌, ltb, eqb, length, get_or, take, drop, replicate}
-use Rattle.words.specs.Choice.{if◌then◌else◌}
+use Rattle.std.specs.Prelude.{if◌then◌else◌}
 use Rattle.numbers.specs.Numbers.{one_if}
 use Rattle.numbers.specs.declared.queue.NumberQueue.{NumberQueue}
 use Rattle.files.specs.Moves.{queues_of, no_files, with_read_queue}

@@ -10,7 +10,7 @@ use borrow.Author.Tests.{ltb-true, eqb-true}
 use lib.Dec.{eqb, ltb}
 use lib.ListN.{length, take, drop, get_or, set, length-take, length-drop, drop_of_length-le}
 use lib.Seq.{paste, take_all, take-suc, take-suc-set, get_or-drop, get_or-take, drop-cons}
-use Rattle.words.specs.Choice.{if◌then◌else◌}
+use Rattle.std.specs.Prelude.{if◌then◌else◌}
 use Rattle.words.proofs.Choices.{if_true, if_false}
 use Rattle.numbers.specs.Numbers.{all_below}
 use Rattle.numbers.proofs.Laws.{left-of, right_of}
@@ -18,9 +18,9 @@ use Rattle.output.specs.Put.{put, Wrote}
 use Rattle.output.proofs.Laws.{rest, stored}
 use Rattle.host_words.specs.Head.{head_stored, head_after}
 
-pub and_false : (b : Bool) → (b && false) ≡ false
-and_false true = refl
-and_false false = refl
+pub and-false : (b : Bool) → (b && false) ≡ false
+and-false true = refl
+and-false false = refl
 
 -- an array pasted over whole
 pub paste_all : (d s : List ℕ) (n : ℕ) → length d ≡ n → paste d 0 s n ≡ take n s

@@ -11,7 +11,7 @@ use Rattle.numbers.proofs.Laws.{left-of, right_of}
 use Rattle.directory.specs.Directory.{no_tables}
 use Rattle.directory.specs.declared.directory.Directory.{Directory}
 use Rattle.host_words.specs.Tables.{row_formed, row_from, broken_directory, table_added, with_row, rows_from, directory_from}
-use Rattle.host_words.proofs.Laws.{and_false}
+use Rattle.host_words.proofs.Laws.{and-false}
 
 pub record Ranges (w : List ℕ) (at : ℕ) : Type 0 where
   pub number : get_or w (at + 1) 0 < 65536
@@ -40,7 +40,7 @@ module _ (d : Directory) (w : List ℕ) (at : ℕ) where
 
   pub with_ill : row_formed w at ≡ false → with_row d w at ≡ broken_directory
   unfolding with_row
-  with_ill h = rw (h, and_false)
+  with_ill h = rw (h, and-false)
 
   pub with_next_lem : d.count < 16 → row_formed w at ≡ true → with_row d w at ≡ table_added d (row_from w at)
   unfolding with_row

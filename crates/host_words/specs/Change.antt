@@ -1,7 +1,7 @@
 -- A change list's head as 38 words: the record's id; how many index, value and reference count keys; the index drops (count, 16 table numbers),
 -- the reference count drops likewise (log.rs 355-362: `LogChange`). Beside it lie the list's two memories.
 use Rattle.std.specs.Prelude.{Bool, ◌&&◌, List, [], ◌∷◌, ◌++◌, ℕ, ◌+◌, eqb, length, get_or, take, drop, replicate}
-use Rattle.words.specs.Choice.{if◌then◌else◌}
+use Rattle.std.specs.Prelude.{if◌then◌else◌}
 use Rattle.numbers.specs.Numbers.{all_below}
 use Rattle.memory.specs.Parts.{Parts, no_counts}
 use Rattle.memory.specs.declared.counts.Counts.{Counts}

@@ -1,7 +1,7 @@
 -- The shared overlays' head as 11 words: how many index, value and reference count keys, and the columns' last ids (log.rs 93-98: `LogOverlays`).
 -- Beside it lie the overlays' two memories.
 use Rattle.std.specs.Prelude.{List, ◌++◌, ℕ, eqb, length, take, drop, replicate}
-use Rattle.words.specs.Choice.{if◌then◌else◌}
+use Rattle.std.specs.Prelude.{if◌then◌else◌}
 use Rattle.memory.specs.Overlays.{Overlays}
 use Rattle.memory.specs.declared.counts.Counts.{Counts}
 use Rattle.memory.specs.declared.overlays.LogOverlays.{LogOverlays}

@@ -1,7 +1,7 @@
 -- A directory as words, six a table: kind (0 index, 1 value, 2 reference count), number, column, count, length, marks. Of marks there are none
 -- yet: their word is 0 (document 01, "The directory and the tables").
 use Rattle.std.specs.Prelude.{Bool, ◌&&◌, List, ℕ, zero, suc, ◌+◌, ◌*◌, ◌/◌, ◌%◌, ltb, eqb, length, get_or, set}
-use Rattle.words.specs.Choice.{if◌then◌else◌}
+use Rattle.std.specs.Prelude.{if◌then◌else◌}
 use Rattle.directory.specs.Table.{description}
 use Rattle.directory.specs.Directory.{no_tables}
 use Rattle.directory.specs.declared.table.TableKind.{TableKind}

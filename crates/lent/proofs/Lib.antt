@@ -1,7 +1,4 @@
--- Laws of the gathered directory, and what the walks share. crates/lent/walks writes the proofs of the entries.
-pub mod Entry
+-- Laws of the gathered directory.
 pub mod Gathered
-pub mod Held
-pub mod Lending
 pub mod Many
 pub mod More

@@ -1,6 +1,6 @@
 -- A directory with one description more; nothing to be believed.
 use Rattle.std.specs.Prelude.{ltb, set, ◌+◌}
-use Rattle.words.specs.Choice.{if◌then◌else◌}
+use Rattle.std.specs.Prelude.{if◌then◌else◌}
 use Rattle.directory.specs.declared.table.TableDescription.{TableDescription}
 use Rattle.directory.specs.declared.directory.Directory.{Directory}
 

@@ -1,7 +1,7 @@
 -- The directory as a lent slice (document 01, "The directory and the tables": "The directory is held by value first; afterwards the same
 -- entries also take the directory as a lent slice of descriptions"). log.rs has no directory: this part is added.
 use Rattle.std.specs.Prelude.{List, ◌++◌, leb, length, take, drop}
-use Rattle.words.specs.Choice.{if◌then◌else◌}
+use Rattle.std.specs.Prelude.{if◌then◌else◌}
 use Rattle.directory.specs.Directory.{no_tables}
 use Rattle.directory.specs.declared.table.TableDescription.{TableDescription}
 use Rattle.directory.specs.declared.directory.Directory.{Directory}

@@ -1,6 +1,6 @@
 -- `begin_record` (document 01: "The first id is 1, the last handed out 2^64-2."; log.rs lines 839 to 842).
 use Rattle.std.specs.Prelude.{ℕ, ◌+◌, eqb}
-use Rattle.words.specs.Choice.{if◌then◌else◌}
+use Rattle.std.specs.Prelude.{if◌then◌else◌}
 use Rattle.answer.specs.Answer.{last_record_id}
 use Rattle.answer.specs.declared.answer.Answer.{Answer}
 use Rattle.answer.specs.declared.answer.Answer.TheVariants.{Done, UsedUp, BadState}

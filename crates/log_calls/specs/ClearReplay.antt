@@ -1,7 +1,7 @@
 -- `clear_replay_logs` (document 01: "`clear_replay_logs` sends reading, then the replay queue, to cleanup, empties overlays, sets last ids to
 -- 0, clears dirty."; log.rs lines 816 to 837).
 use Rattle.std.specs.Prelude.{◌&&◌, List, ℕ}
-use Rattle.words.specs.Choice.{if◌then◌else◌}
+use Rattle.std.specs.Prelude.{if◌then◌else◌}
 use Rattle.answer.specs.declared.answer.Answer.TheVariants.{Done, BadState}
 use Rattle.memory.specs.Parts.{parts_kept}
 use Rattle.memory.specs.Overlays.{overlays_of, no_overlays}

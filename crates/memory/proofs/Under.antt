@@ -7,7 +7,7 @@ use Prim.Native.Nat.{ℕ, ◌≤◌}
 use lib.Dec.{eqb}
 use lib.ListN.{length}
 use borrow.Author.Tests.{eqb-true}
-use Rattle.words.specs.Choice.{if◌then◌else◌}
+use Rattle.std.specs.Prelude.{if◌then◌else◌}
 use Rattle.directory.specs.Table.{same_kind_of}
 use Rattle.directory.specs.declared.table.TableKind.{TableKind}
 use Rattle.directory.specs.declared.table.TableKind.TheVariants.{Index, Value, RefCount}

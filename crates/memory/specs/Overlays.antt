@@ -1,6 +1,6 @@
 -- The shared overlays whole (document 01, "Change lists and overlays"; log.rs: `LogOverlays`, lines 92 to 103).
 use Rattle.std.specs.Prelude.{List, ℕ, ltb, get_or, replicate}
-use Rattle.words.specs.Choice.{if◌then◌else◌}
+use Rattle.std.specs.Prelude.{if◌then◌else◌}
 use Rattle.memory.specs.Parts.{Parts, parts_of, no_counts}
 use Rattle.memory.specs.declared.span.Holder.TheVariants as holder
 use Rattle.memory.specs.declared.overlays.LogOverlays.{LogOverlays}

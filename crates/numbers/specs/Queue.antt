@@ -2,7 +2,7 @@
 -- What each of them comes to on lists: proofs/QueueLists.
 use Rattle.std.specs.Prelude.{ℕ, ◌+◌, ◌-◌, Bool, List, [], ◌∷◌, get_or, set, take, drop, replicate}
 use Rattle.std.proofs.Math.Seq.{paste}
-use Rattle.words.specs.Choice.{if◌then◌else◌}
+use Rattle.std.specs.Prelude.{if◌then◌else◌}
 use Rattle.numbers.specs.Numbers.{spot, least, put_in, over}
 use Rattle.numbers.specs.declared.queue.NumberQueue.{NumberQueue}
 

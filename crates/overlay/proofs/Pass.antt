@@ -1,6 +1,6 @@
 -- The rules of keys, in one pass over them. Assumes nothing.
 use mathlib.Core.Path.{◌≡◌, refl, sym, ap, ◌∙◌}
-use mathlib.Core.Bool.{Bool, true, false, ◌&&◌, and_false}
+use mathlib.Core.Bool.{Bool, true, false, ◌&&◌, and-false}
 use mathlib.Core.List.{List, [], ◌∷◌, map}
 use Prim.Native.Nat.{ℕ, ◌+◌, ◌*◌, ◌<◌, ◌≤◌}
 use native.Mathlib.Omega.{arith}
@@ -31,13 +31,13 @@ mark-same RefCount mark h = any_mask mark h
 -- three rules of a place and of those behind it, as one pass meets them
 step : (u a r us vs rs f : Bool) → (us && vs) && rs ≡ f → ((u && us) && (a && vs)) && (r && rs) ≡ u && (r && (a && f))
 step false a r us vs rs f e = refl
-step true false r us vs rs f e = rw (and_false us, and_false r)
-step true true false us vs rs f e = and_false (us && vs)
+step true false r us vs rs f e = rw (and-false us, and-false r)
+step true true false us vs rs f e = and-false (us && vs)
 step true true true us vs rs f e = e
 
 start : (u r us vs rs f : Bool) → (us && vs) && rs ≡ f → ((u && us) && vs) && (r && rs) ≡ u && (r && f)
 start false r us vs rs f e = refl
-start true false us vs rs f e = and_false (us && vs)
+start true false us vs rs f e = and-false (us && vs)
 start true true us vs rs f e = e
 
 module _ (kind : TableKind) (rows : List ℕ) (words : (i : ℕ) → get_or rows i 0 ≤ 18446744073709551615) where

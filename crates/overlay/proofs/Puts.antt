@@ -9,7 +9,7 @@ use native.Mathlib.Omega.{arith}
 use lib.Dec.{eqb}
 use lib.ListN.{get_or, take, drop, length, length-append, length-drop, length-set}
 use lib.Seq.{paste, length-paste, length-take-le, take-length}
-use Rattle.words.specs.Choice.{if◌then◌else◌}
+use Rattle.std.specs.Prelude.{if◌then◌else◌}
 use Rattle.directory.specs.declared.table.TableKind.{TableKind}
 use Rattle.numbers.specs.Numbers.{spot, put_in}
 use Rattle.keys.specs.Keys.{rank, key_at, row_put_of, keys_of, every, holds}

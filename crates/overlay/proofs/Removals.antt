@@ -10,7 +10,7 @@ use lib.Dec.{eqb}
 use lib.ListN.{get_or, take, drop, length, length-append, length-drop, length-set, length-map}
 use lib.Seq.{length-paste, length-take-le, take-take}
 use borrow.Author.Tests.{eqb-true, eqb-false, eq-eqb, ne_eqb}
-use Rattle.words.specs.Choice.{if◌then◌else◌}
+use Rattle.std.specs.Prelude.{if◌then◌else◌}
 use Rattle.directory.specs.declared.table.TableKind.{TableKind}
 use Rattle.numbers.specs.Numbers.{ascends, spot}
 use Rattle.keys.specs.Keys.{key_at, id_at, mark_at, keys_of, every, holds, cut_out, renamed, rename_all}

@@ -4,7 +4,7 @@ use Rattle.std.specs.Prelude.{ℕ, ◌*◌, Bool, true, ◌&&◌, List, [], ◌�
 use Rattle.directory.specs.declared.table.TableKind.{TableKind}
 use Rattle.directory.specs.declared.table.TableKind.TheVariants.{Index, Value, RefCount}
 use Rattle.keys.specs.Keys.{key_at, mark_at}
-use Rattle.words.specs.Choice.{if◌then◌else◌}
+use Rattle.std.specs.Prelude.{if◌then◌else◌}
 use Rattle.overlay.specs.Rules.{Overlay}
 use Rattle.overlay.specs.Overlay.{spot_in_of, stands_in, place_in, goes_from}
 use Rattle.overlay.specs.declared.seat.Seat.{Seat}

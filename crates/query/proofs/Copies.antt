@@ -8,7 +8,7 @@ use native.Mathlib.Omega.{arith}
 use lib.Dec.{ltb, eqb}
 use lib.ListN.{take, length, drop_of_length-le}
 use lib.Seq.{take-nil, paste, take_all, take-length, take-take, length-take-le}
-use Rattle.words.specs.Choice.{if◌then◌else◌}
+use Rattle.std.specs.Prelude.{if◌then◌else◌}
 use Rattle.answer.specs.Answer.{number_of}
 use Rattle.answer.specs.declared.answer.Answer.TheVariants.{Done, BadState}
 use Rattle.overlay.specs.Entries.{Entry}

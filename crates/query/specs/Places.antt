@@ -1,7 +1,7 @@
 -- Where the stored bytes lie, and lookups of many keys at once in the shared overlay of a kind. log.rs has no such call: its maps have no rules to
 -- test. That the bytes there are what the lookup of one key hands out: proofs/Places, `each-place`.
 use Rattle.std.specs.Prelude.{Bool, true, false, ◌&&◌, List, [], ◌∷◌, ℕ, ◌*◌, ◌/◌, eqb, length}
-use Rattle.words.specs.Choice.{if◌then◌else◌}
+use Rattle.std.specs.Prelude.{if◌then◌else◌}
 use Rattle.answer.specs.declared.answer.Answer.{Answer}
 use Rattle.answer.specs.declared.answer.Answer.TheVariants.{Done, BadState, BadArgument}
 use Rattle.directory.specs.declared.table.TableKind.{TableKind}

@@ -1,6 +1,6 @@
 // A value copied out of the memory that it lies in.
 ghost use Rattle.std.specs.Prelude.{◌≡◌, ltb, eqb, length};
-ghost use Rattle.words.specs.Choice.{if◌then◌else◌};
+ghost use Rattle.std.specs.Prelude.{if◌then◌else◌};
 ghost use Rattle.answer.specs.declared.answer.Answer.TheVariants.{Done, BadState};
 ghost use Rattle.query.specs.Query.{copied_over};
 

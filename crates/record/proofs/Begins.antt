@@ -7,7 +7,7 @@ use native.Mathlib.Omega.{arith}
 use lib.Dec.{eqb, ltb}
 use lib.ListN.{length, get_or, take, drop}
 use borrow.Author.Tests.{eqb-true, ltb-true, ltb-false}
-use Rattle.words.specs.Choice.{if◌then◌else◌}
+use Rattle.std.specs.Prelude.{if◌then◌else◌}
 use Rattle.words.specs.Words.{little, little_at}
 use Rattle.checksum.specs.Checksum.{checksum_of}
 use Rattle.answer.specs.declared.answer.Answer.TheVariants.{UnknownTag, OutOfPlace, WrongSum}

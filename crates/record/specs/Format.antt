@@ -1,6 +1,6 @@
 -- What bytes are asked for, one after the other, and what is made of them. A format looks at nothing behind what it has asked for.
 use Rattle.std.specs.Prelude.{Bool, true, false, List, ℕ, ◌+◌, ◌-◌, ltb, length, take, drop, get_or}
-use Rattle.words.specs.Choice.{if◌then◌else◌}
+use Rattle.std.specs.Prelude.{if◌then◌else◌}
 use Rattle.answer.specs.declared.answer.Answer.{Answer}
 
 -- a format: a need of bytes, a refusal, or what the bytes read so far come to

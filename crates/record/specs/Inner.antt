@@ -1,6 +1,6 @@
 -- What the reader's inner functions answer, seen as what a format reads. Nothing here has to be believed: `Next` says what `next` answers.
 use Rattle.std.specs.Prelude.{◌≡◌, List, ℕ, ◌+◌, eqb, get_or}
-use Rattle.words.specs.Choice.{if◌then◌else◌}
+use Rattle.std.specs.Prelude.{if◌then◌else◌}
 use Rattle.words.specs.Words.{little_at}
 use Rattle.directory.specs.Directory.{find_table}
 use Rattle.directory.specs.declared.table.TableKind.{TableKind}

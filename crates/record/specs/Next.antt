@@ -1,7 +1,7 @@
 -- `LogReader::next`: one step of the reader (document 01, "The opening of a record": "A step answers with the action, the place of its
 -- payload and the cursor after it, or a refusal."; log.rs 251-330).
 use Rattle.std.specs.Prelude.{Bool, true, false, List, ℕ, ◌-◌, ltb, length, take, drop}
-use Rattle.words.specs.Choice.{if◌then◌else◌}
+use Rattle.std.specs.Prelude.{if◌then◌else◌}
 use Rattle.checksum.specs.Checksum.{all_ones, updated}
 use Rattle.directory.specs.Directory.{directory_kept}
 use Rattle.directory.specs.declared.directory.Directory.{Directory}

@@ -2,7 +2,7 @@
 -- The order of the lines is the order of the checks, and each line that may refuse has its number. Beside it: `LogReader::next`, log.rs 251-330.
 use Rattle.std.specs.Prelude.{Bool, not, ◌||◌, [], ◌∷◌, ℕ, ◌+◌, ◌*◌, eqb, ltb, take, drop}
 use Rattle.std.specs.Int.Count.{ones}
-use Rattle.words.specs.Choice.{if◌then◌else◌}
+use Rattle.std.specs.Prelude.{if◌then◌else◌}
 use Rattle.words.specs.Words.{little}
 use Rattle.checksum.specs.Checksum.{updated, finished, checksum_of}
 use Rattle.directory.specs.Directory.{find_table}

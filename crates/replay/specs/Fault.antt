@@ -1,7 +1,7 @@
 -- Where a refused record is at fault, and what stands there (document 02, "Five. Where is it broken?"). For the theorems of proofs/Fault; `Replay`
 -- says what is answered.
 use Rattle.std.specs.Prelude.{true, ◌≡◌, List, ℕ, ◌+◌, ◌<◌, eqb, length, get_or}
-use Rattle.words.specs.Choice.{if◌then◌else◌}
+use Rattle.std.specs.Prelude.{if◌then◌else◌}
 use Rattle.words.specs.Words.{little_at}
 use Rattle.answer.specs.Answer.{refusal}
 use Rattle.answer.specs.declared.answer.Answer.TheVariants.{EndOfLog, Cut, WrongId, BadArgument}

@@ -1,7 +1,7 @@
 -- A record replayed (document 01, "Replay": "A record is checked to its end before any table byte is written. Then actions apply as they
 -- stand in the bytes"). Added: in parity-db the caller of log.rs does this.
 use Rattle.std.specs.Prelude.{Bool, true, ◌&&◌, List, [], ◌∷◌, ℕ, zero, suc, eqb, length, take, drop}
-use Rattle.words.specs.Choice.{if◌then◌else◌}
+use Rattle.std.specs.Prelude.{if◌then◌else◌}
 use Rattle.directory.specs.Directory.{directory_kept, image_length}
 use Rattle.directory.specs.declared.directory.Directory.{Directory}
 use Rattle.record.specs.Next.{is_end, reader_at, step_of}

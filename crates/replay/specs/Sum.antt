@@ -1,6 +1,6 @@
 -- The checksum taken once over a whole record, for the theorem that this is the same as validating at each step; `Replay` says what is answered.
 use Rattle.std.specs.Prelude.{Bool, List, ℕ, ◌-◌, eqb, take, drop}
-use Rattle.words.specs.Choice.{if◌then◌else◌}
+use Rattle.std.specs.Prelude.{if◌then◌else◌}
 use Rattle.words.specs.Words.{little_at}
 use Rattle.answer.specs.Answer.{refusal}
 use Rattle.answer.specs.declared.answer.Answer.TheVariants.{WrongSum}

@@ -8,7 +8,7 @@ use native.Mathlib.Omega.{arith}
 use lib.Dec.{ltb}
 use lib.ListN.{length, take, drop, replicate, length-append, length-drop, length-replicate}
 use lib.Seq.{length-take-le}
-use Rattle.words.specs.Choice.{if◌then◌else◌}
+use Rattle.std.specs.Prelude.{if◌then◌else◌}
 use Rattle.words.proofs.Choices.{if_true, if_false}
 use Rattle.directory.specs.declared.directory.Directory.{Directory}
 use Rattle.salvaging.specs.Salvage.{found_from, found_on, Line, kept, lost, left_out, lines_between, lines_of, words_of_lines, kept_bytes}

@@ -1,7 +1,7 @@
 -- A damaged log salvaged (document 02, "Eight"). log.rs has no such thing: its reader stops at the first fault.
 use Rattle.std.specs.Prelude.{true, ◌&&◌, List, [], ◌∷◌, ◌++◌, ℕ, zero, suc, ◌+◌, ◌-◌, eqb, ltb, length, take, drop}
 use Rattle.std.proofs.Math.Option.{Option, none, some}
-use Rattle.words.specs.Choice.{if◌then◌else◌}
+use Rattle.std.specs.Prelude.{if◌then◌else◌}
 use Rattle.answer.specs.declared.answer.Answer.{Answer}
 use Rattle.answer.specs.declared.answer.Answer.TheVariants.{Done, NoRoom, ShortOutput, BadState}
 use Rattle.directory.specs.Directory.{directory_kept}

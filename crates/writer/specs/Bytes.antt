@@ -1,6 +1,6 @@
 -- The bytes that a change list is written as (document 01, "Record bytes" and "The writer's order"; log.rs `flush_to_file`, lines 380 to 454).
 use Rattle.std.specs.Prelude.{List, [], ◌++◌, ℕ, zero, suc, ◌+◌, ◌*◌, ◌/◌, ◌%◌, eqb, take, drop, get_or}
-use Rattle.words.specs.Choice.{if◌then◌else◌}
+use Rattle.std.specs.Prelude.{if◌then◌else◌}
 use Rattle.checksum.specs.Checksum.{checksum_of}
 use Rattle.directory.specs.declared.table.TableKind.{TableKind}
 use Rattle.directory.specs.declared.table.TableKind.TheVariants.{Index, Value, RefCount}

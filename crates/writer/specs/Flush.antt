@@ -1,7 +1,7 @@
 -- `flush_to_file` (document 01: "Ending a record writes it at the output's front, the rest staying"; log.rs lines 380 to 454): answer, length and
 -- output.
 use Rattle.std.specs.Prelude.{List, ℕ, ltb, length}
-use Rattle.words.specs.Choice.{if◌then◌else◌}
+use Rattle.std.specs.Prelude.{if◌then◌else◌}
 use Rattle.answer.specs.declared.answer.Answer.{Answer}
 use Rattle.answer.specs.declared.answer.Answer.TheVariants.{ShortOutput, BadState}
 use Rattle.directory.specs.declared.directory.Directory.{Directory}

@@ -11,7 +11,7 @@ use lib.Dec.{eqb, leb}
 use lib.ListN.{length, take, drop, get_or, length-append, length-drop, get_or-append}
 use lib.Seq.{take_at, drop_at, get_or-take, get_or-drop, get_or-append-add, length-take-le}
 use borrow.Author.Tests.{ltb-true, leb-true, lt-ltb, le-leb, eqb-true, eqb-false, ne_eqb}
-use Rattle.words.specs.Choice.{if◌then◌else◌}
+use Rattle.std.specs.Prelude.{if◌then◌else◌}
 use Rattle.words.specs.Words.{little}
 use Rattle.words.proofs.Choices.{if_true}
 use Rattle.directory.specs.Table.{unit_of, slot_length}
@@ -165,6 +165,7 @@ pub slot-says : (d : Directory) (kind : TableKind) (w t i m : ℕ) (f : Fitting 
     → says d (written (insert_of kind t i) (payload_of kind m bytes)) p ≡ by_mask w (begin d kind t i m f) m (set_slots 64 w m bytes) p
 unfolding says_of masked_bytes
 slot-says d Index w t i m f bytes bits eight p = of-index d Index t i m f _ ∙ rw (mask_is 8 m bytes bits, entries_are 8 m bytes bits)
+slot-says d Value w t i m f bytes bits width p = elim width [ ]
 slot-says d RefCount w t i m f bytes bits sixteen p = of-index d RefCount t i m f _ ∙ rw (mask_is 16 m bytes bits, entries_are 16 m bytes bits)
 
 pub value-says : (d : Directory) (t i m : ℕ) (f : Fitting d Value t i m) (bytes : List ℕ) (p : ℕ)

@@ -4,7 +4,7 @@ use mathlib.Core.Bool.{◌&&◌}
 use borrow.Author.Tests.{not-true, not-false}
 use Rattle.words.proofs.Choices.{if_true, if_false}
 use Rattle.numbers.proofs.Laws.{both}
-use Rattle.host_words.proofs.Laws.{and_false}
+use Rattle.host_words.proofs.Laws.{and-false}
 use Rattle.edge_lookups.specs.Lookups.{listed_spot}
 use borrow.Author.Rules.{rules}
 use Rattle.edge_lookups.proofs.lookups.listed_spot.Statement.{statement}

@@ -1,0 +1,20 @@
+-- `clear_action` meets its contract: the key that the action names, if it names one. Assumes nothing.
+use mathlib.Core.Path.{◌≡◌}
+use Rattle.keys.specs.Keys.{rank}
+use Rattle.memory.specs.declared.span.Holder.TheVariants.{Shared}
+use Rattle.memory.specs.Parts.{Parts, parts_of, remove_from}
+use Rattle.clearing.proofs.Walk.{no_key, one_key}
+use Rattle.clearing.proofs.clear.clear_action.Goals as goal
+
+pub returns-in-Nothing : goal.returns-in-Nothing
+returns-in-Nothing c =
+    let parts : Parts = parts_of Shared c.args.counts c.args.words.now c.args.bytes.now in
+    no_key c.args.id c.args.action parts c.named_by.ensures c.in-Nothing.is
+
+pub returns-in-Key : goal.returns-in-Key
+returns-in-Key c =
+    let parts : Parts = parts_of Shared c.args.counts c.args.words.now c.args.bytes.now in
+    let a = c.args in
+    let q : Parts = parts_of Shared c.remove_in.result c.remove_in.new.words c.remove_in.new.bytes in
+    let e : q ≡ remove_from c.in-Key.kind parts (rank c.in-Key.table c.in-Key.index) a.id = c.remove_in.ensures in
+    one_key a.id a.action parts c.named_by.ensures c.in-Key.kind c.in-Key.table c.in-Key.index c.in-Key.is {q = q} e

@@ -1,0 +1,31 @@
+-- `put_le` meets its contract. The invariant: the bytes of what is left of the number are left to write. Assumes nothing.
+use mathlib.Core.Path.{◌≡◌, refl}
+use mathlib.Core.List.{List}
+use Prim.Native.Nat.{ℕ, suc, ◌+◌, ◌-◌, ◌<◌, ◌%◌, ◌/◌}
+use native.Mathlib.Omega.{arith}
+use borrow.Author.Rules.{rules}
+use lib.ListN.{length, set, length-set}
+use Rattle.output.specs.Put.{Wrote, le}
+use Rattle.output.proofs.Laws.{rest, stored, all_left, none_left}
+use Rattle.output.proofs.put_le.Goals as goal
+
+-- one byte more
+turn : (l : List ℕ) (o e v : ℕ) (f : List ℕ) (z : ℕ) → o < e → o < length l → Wrote l o (le (e - o) v) f z → Wrote (set l o (v % 256)) (o + 1) (le (e - (o + 1)) (v / 256)) f z
+unfolding le
+turn l o e v f z h k w =
+    let s : e - o ≡ suc (e - (o + 1)) = omega arith in
+    rest (rw s at w) (stored l o (v % 256) k)
+
+pub loop-o-init : goal.loop-o-init
+loop-o-init c =
+    let e : c.args.at + c.args.n - c.args.at ≡ c.args.n = omega arith in
+    (search rules, refl, rw e (all_left _ _ _))
+
+pub loop-o-preserved : goal.loop-o-preserved
+loop-o-preserved c = (search rules, simp length-set (search rules), turn _ _ _ _ _ _ (search rules) (search rules) c.loop-o.invariant.2)
+
+pub returns : goal.returns
+unfolding le
+returns c =
+    let e : c.args.at + c.args.n - c.loop-o.o ≡ 0 = omega arith in
+    none_left (rw e at c.loop-o.invariant.2)

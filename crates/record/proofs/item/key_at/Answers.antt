@@ -1,0 +1,24 @@
+-- `key_at` meets its contract. Assumes nothing.
+use mathlib.Core.Path.{sym, ap, ◌∙◌}
+use borrow.Author.Tests.{lt-ltb, le-ltb}
+use Rattle.directory.specs.Directory.{find_table}
+use Rattle.record.proofs.Parts.{key-short, key_met}
+use Rattle.record.proofs.item.key_at.Goals as goal
+
+pub returns-then-log-body-lt10 : goal.returns-then-log-body-lt10
+returns-then-log-body-lt10 c = λ d kind e. sym (key-short _ _ d kind c.if-log-body-lt10.true)
+
+pub returns-in-Nothing : goal.returns-in-Nothing
+returns-in-Nothing c =
+    λ d kind e.
+    sym (key_met _ _ d kind _ _ _ c.if-log-body-lt10.false c.u16_at-table.ensures c.u64_at-index.ensures (sym c.in-Nothing.is ∙ e ∙ ap (find_table d kind) (sym c.u16_at-table.ensures)))
+
+pub returns-then-index-count : goal.returns-then-index-count
+returns-then-index-count c =
+    λ d kind e.
+    sym (key_met _ _ d kind _ _ _ c.if-log-body-lt10.false c.u16_at-table.ensures c.u64_at-index.ensures (sym c.in-At.is ∙ e ∙ ap (find_table d kind) (sym c.u16_at-table.ensures)) ∙ rw (lt-ltb _ _ c.if-index-count.true))
+
+pub returns-else-index-count : goal.returns-else-index-count
+returns-else-index-count c =
+    λ d kind e.
+    sym (key_met _ _ d kind _ _ _ c.if-log-body-lt10.false c.u16_at-table.ensures c.u64_at-index.ensures (sym c.in-At.is ∙ e ∙ ap (find_table d kind) (sym c.u16_at-table.ensures)) ∙ rw (le-ltb _ _ c.if-index-count.false))

@@ -1,0 +1,18 @@
+-- `table_at` meets its contract. Assumes nothing.
+use mathlib.Core.Path.{sym, ap, ◌∙◌}
+use Rattle.directory.specs.Directory.{find_table}
+use Rattle.record.proofs.Parts.{table-short, table_met}
+use Rattle.record.proofs.item.table_at.Goals as goal
+
+pub returns-then-log-body-lt2 : goal.returns-then-log-body-lt2
+returns-then-log-body-lt2 c = λ d kind e. sym (table-short _ _ d kind c.if-log-body-lt2.true)
+
+pub returns-in-Nothing : goal.returns-in-Nothing
+returns-in-Nothing c =
+    λ d kind e.
+    sym (table_met _ _ d kind _ _ c.if-log-body-lt2.false c.u16_at-number.ensures (sym c.in-Nothing.is ∙ e ∙ ap (find_table d kind) (sym c.u16_at-number.ensures)))
+
+pub returns-in-At : goal.returns-in-At
+returns-in-At c =
+    λ d kind e.
+    sym (table_met _ _ d kind _ _ c.if-log-body-lt2.false c.u16_at-number.ensures (sym c.in-At.is ∙ e ∙ ap (find_table d kind) (sym c.u16_at-number.ensures)))

@@ -1,0 +1,16 @@
+-- What each turn keeps.
+use mathlib.Core.Path.{◌≡◌}
+use mathlib.Core.Bool.{true}
+use Prim.Native.Nat.{suc, ◌-◌, ◌≤◌}
+use lib.ListN.{length}
+use Rattle.directory.specs.Inner.{directory_in}
+use Rattle.replay.specs.Inner.{is_walked, moved_to}
+use Rattle.replay.specs.Replay.{rest_of, image_after}
+use Rattle.replay.proofs.apply.apply_rest.Given as goal
+
+abbrev pub invariant-loop-i : goal.invariant-loop-i
+invariant-loop-i l = (l.at ≤ length l.log) × (length l.image ≡ length l.initial.image) × (is_walked (rest_of (suc (length l.log)) (directory_in l.t) l.log (moved_to l.r l.at)) ≡ true)
+    × (image_after (directory_in l.t) l.image (rest_of (suc (length l.log)) (directory_in l.t) l.log (moved_to l.r l.at)) ≡ image_after (directory_in l.t) l.initial.image (rest_of (suc (length l.log)) (directory_in l.t) l.log l.r))
+
+abbrev pub decreases-loop-i : goal.decreases-loop-i
+decreases-loop-i l = length l.log - l.at
