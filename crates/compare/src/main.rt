@@ -8,6 +8,7 @@ ghost use Rattle.compare.specs.Bounds.{Running};
 use compare_console::{Input, Output, TURNS};
 use compare_session::Session;
 use dispatch::dispatch;
+use std::io::Read;
 
 #[derive(Clone, Copy)]
 pub struct Run {
@@ -27,7 +28,10 @@ fn started() -> Run
 }
 
 // One command.
-fn turn(
+fn turn<R: Read>(
+    reader: &mut R,
+    out: &impl Print,
+    err: &impl Print,
     run: Run,
     chunk: &mut [u8; 65536],
     command: &mut [u8; 80005],
@@ -46,7 +50,7 @@ fn turn(
     ensures { Running result }
 {
     let before = run.input;
-    let next = before.next_command(chunk, command);
+    let next = before.next_command(reader, chunk, command);
     let input = next.input;
     let found = next.found;
     let session = run.session;
@@ -56,15 +60,18 @@ fn turn(
     );
     let reply = served.reply;
     let after = served.session;
-    let out = run.out;
+    let waiting = run.out;
     Run {
         input: input,
         session: after,
-        out: out.take(reply, input.line, answer, long, output),
+        out: waiting.take(out, err, reply, input.line, answer, long, output),
     }
 }
 
-fn answer_all(
+fn answer_all<R: Read>(
+    reader: &mut R,
+    out: &impl Print,
+    err: &impl Print,
     chunk: &mut [u8; 65536],
     command: &mut [u8; 80005],
     log: &mut [u8; 80000],
@@ -82,17 +89,17 @@ fn answer_all(
     let mut turns = TURNS;
     while 0 < turns && run.out.going {
         run = turn(
-            run, chunk, command, log, image, list_words, list_bytes, written, words, bytes, answer,
-            long, output,
+            reader, out, err, run, chunk, command, log, image, list_words, list_bytes, written,
+            words, bytes, answer, long, output,
         );
         turns -= 1;
     }
-    let out = run.out;
-    out.flushed(run.input.line, output);
+    let waiting = run.out;
+    waiting.flushed(out, err, run.input.line, output);
 }
 
 // The longest command is a LOG. The longest answer, to SALVAGE, has 81,615 bytes, and its line fits into the output behind one that waits.
-fn main() {
+fn main(rt: HostRuntime) {
     let mut chunk = [0u8; 65536];
     let mut command = [0u8; 80005];
     let mut log = [0u8; 80000];
@@ -106,6 +113,9 @@ fn main() {
     let mut long = [0u8; 81920];
     let mut output = [0u8; 294912];
     answer_all(
+        &mut rt.stdin(),
+        &rt,
+        &rt.stderr(),
         &mut chunk,
         &mut command,
         &mut log,

@@ -3,7 +3,7 @@ ghost use Rattle.std.specs.Prelude.{◌≤◌};
 ghost use Rattle.compare_console.specs.Bounds.{Held, CommandFits, Ready};
 
 use compare_lines::{Decoded, Fault, decode, value_of};
-use libc::STDIN_FILENO;
+use std::io::Read;
 
 // Nothing says that the input ends, so a loop over it counts its turns down from a number that no run uses up.
 pub const TURNS: u64 = 4611686018427387904;
@@ -59,11 +59,11 @@ fn stopped_at(character: u8, digits: usize) -> Found
 }
 
 // Where nothing was read. The last line may lack its end.
-fn no_more(got: isize, digits: usize) -> Found
+fn no_more(failed: bool, digits: usize) -> Found
     requires { digits ≤ 160010 }
     ensures { CommandFits result }
 {
-    if got < 0 {
+    if failed {
         return Found::Broken(Fault::NoInput);
     }
     if digits == 0 {
@@ -90,7 +90,7 @@ impl Input {
     {
         Next {
             input: Input {
-                line: std::num::wrapping_add_u64(self.line, 1),
+                line: self.line.wrapping_add(1),
                 at: at,
                 held: held,
             },
@@ -99,7 +99,12 @@ impl Input {
     }
 
     // Reads up to the end of a line.
-    pub fn next_command(self, chunk: &mut [u8; 65536], command: &mut [u8; 80005]) -> Next
+    pub fn next_command<R: Read>(
+        self,
+        reader: &mut R,
+        chunk: &mut [u8; 65536],
+        command: &mut [u8; 80005],
+    ) -> Next
         requires { Held self }
         ensures { Ready result }
     {
@@ -116,11 +121,11 @@ impl Input {
             if at < held {
                 return self.found(stopped_at(chunk[at], d.digits), at + 1, held);
             }
-            let got = libc::read(STDIN_FILENO, chunk);
-            if got <= 0 {
-                return self.found(no_more(got, d.digits), 0, 0);
+            match reader.read(chunk) {
+                Ok(0) => return self.found(no_more(false, d.digits), 0, 0),
+                Ok(n) => held = n,
+                Err(_) => return self.found(no_more(true, d.digits), 0, 0),
             }
-            held = io::count(got, chunk);
             d.at = 0;
             turns -= 1;
         }

@@ -5,8 +5,8 @@
 ghost use Rattle.std.specs.Prelude.{◌<◌};
 
 use directory::Directory;
-use libc::STDOUT_FILENO;
 use replay::Ran;
+use std::io;
 
 const LENGTH: usize = 201;
 
@@ -36,47 +36,40 @@ fn write_log(log: &mut [u8; LENGTH]) {
     );
 }
 
-fn tell(number: u64, then: &[u8]) {
-    io::print_decimal(STDOUT_FILENO, number);
-    io::write_all(STDOUT_FILENO, then);
-}
-
-fn tell_ran(place: usize, by: u8, ran: Ran) {
-    let answer = ran.answer;
-    tell(place as u64, b" ");
-    tell(by as u64, b" ");
-    tell(answer.number() as u64, b" ");
-    tell(ran.position as u64, b" ");
-    tell(ran.count, b" ");
-    tell(ran.fault_at as u64, b"\n");
+fn tell_ran(out: &impl Print, place: usize, by: u8, ran: Ran) -> io::Result<()> {
+    let answer = ran.answer.number();
+    let position = ran.position;
+    let count = ran.count;
+    let fault_at = ran.fault_at;
+    println!(out; "{place} {by} {answer} {position} {count} {fault_at}")
 }
 
 // The byte is as it was afterwards.
 fn damage(
+    out: &impl Print,
     directory: Directory,
     log: &mut [u8; LENGTH],
     image: &mut [u8; IMAGE],
     place: usize,
     by: u8,
-)
+) -> io::Result<()>
     requires { place < 201 }
 {
     let whole = log[place];
     log[place] = whole ^ by;
     let ran = replay::run(directory, log, 0, 1, image);
     log[place] = whole;
-    tell_ran(place, by, ran);
+    tell_ran(out, place, by, ran)
 }
 
-fn main() {
+fn main(rt: HostRuntime) -> io::Result<()> {
     let directory = tables();
     let mut log = [0u8; LENGTH];
     let mut image = [0u8; IMAGE];
     write_log(&mut log);
-    let mut place = 0;
-    while place < LENGTH {
-        damage(directory, &mut log, &mut image, place, 1);
-        damage(directory, &mut log, &mut image, place, 255);
-        place += 1;
+    for place in 0..LENGTH {
+        damage(&rt, directory, &mut log, &mut image, place, 1)?;
+        damage(&rt, directory, &mut log, &mut image, place, 255)?;
     }
+    Ok(())
 }

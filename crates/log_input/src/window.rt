@@ -9,6 +9,8 @@ ghost use Rattle.log_input.specs.Bounds.{FilledWithin};
 use answer::Answer;
 use directory::Directory;
 use replay::Ran;
+use std::io;
+use std::io::Read;
 
 pub const ROOM: usize = 2097152;
 
@@ -31,36 +33,35 @@ pub struct Stop {
 pub enum Outcome {
     At(Stop),
     TooLong(u64),
-    Unreadable,
+    Unreadable(io::Error),
 }
 
-// How many bytes of a buffer are held, and whether a read failed.
+// How many bytes of a buffer are held, and why a read failed, if one did.
 #[derive(Clone, Copy)]
 pub struct Filled {
     pub held: usize,
-    pub failed: bool,
+    pub failed: Option<io::Error>,
 }
 
 // Reads behind the bytes held, until the buffer is full or the file ends.
-pub fn fill(file: i32, buffer: &mut [u8], from: usize) -> Filled
+pub fn fill<R: Read>(file: &mut R, buffer: &mut [u8], from: usize) -> Filled
     requires { from ≤ length buffer.old }
     ensures { FilledWithin result (length buffer.old) }
 {
     let mut held = from;
-    let mut failed = false;
     while held < buffer.len() {
-        let got = libc::read(file, &mut buffer[held..]);
-        failed = got < 0;
-        let more = io::count(got, &buffer[held..]);
-        if more == 0 {
-            break;
+        match file.read(&mut buffer[held..]) {
+            Ok(0) => break,
+            Ok(more) => held += more,
+            Err(why) => {
+                return Filled {
+                    held,
+                    failed: Some(why),
+                };
+            }
         }
-        held += more;
     }
-    Filled {
-        held: held,
-        failed: failed,
-    }
+    Filled { held, failed: None }
 }
 
 // Moves the bytes behind a place to the front. Answers how many they are.
@@ -98,11 +99,11 @@ fn id_at(bytes: &[u8], at: usize) -> u64 {
 }
 
 // A full window in which nothing can be replayed: the record passes it if the file goes on.
-fn full(file: i32, stop: Stop) -> Outcome {
+fn full<R: Read>(file: &mut R, stop: Stop) -> Outcome {
     let mut one = [0u8; 1];
     let beyond = fill(file, &mut one, 0);
-    if beyond.failed {
-        return Outcome::Unreadable;
+    if let Some(why) = beyond.failed {
+        return Outcome::Unreadable(why);
     }
     if beyond.held == 0 {
         return Outcome::At(stop);
@@ -116,10 +117,10 @@ fn further(stop: Stop, ran: Ran, bytes: &[u8]) -> Stop {
     let answer = ran.answer;
     Stop {
         answer: answer,
-        position: std::num::wrapping_add_u64(stop.position, ran.position as u64),
-        fault_at: std::num::wrapping_add_u64(stop.position, ran.fault_at as u64),
-        count: std::num::wrapping_add_u64(stop.count, ran.count),
-        expected: std::num::wrapping_add_u64(stop.expected, ran.count),
+        position: stop.position.wrapping_add(ran.position as u64),
+        fault_at: stop.position.wrapping_add(ran.fault_at as u64),
+        count: stop.count.wrapping_add(ran.count),
+        expected: stop.expected.wrapping_add(ran.count),
         found: id_at(bytes, ran.position),
     }
 }
@@ -145,8 +146,8 @@ fn ended(stop: Stop, outcome: Outcome) -> Turn
 }
 
 // The window filled, its records replayed, and what is left of it moved to its front.
-fn one_turn(
-    file: i32,
+fn one_turn<R: Read>(
+    file: &mut R,
     directory: Directory,
     stop: Stop,
     rest: usize,
@@ -157,8 +158,8 @@ fn one_turn(
     ensures { result.rest ≤ 2097152 }
 {
     let filled = fill(file, window, rest);
-    if filled.failed {
-        return ended(stop, Outcome::Unreadable);
+    if let Some(why) = filled.failed {
+        return ended(stop, Outcome::Unreadable(why));
     }
     let held = filled.held;
     let bytes: &[u8] = window;
@@ -178,12 +179,12 @@ fn one_turn(
         going: true,
         rest: move_front(window, ran.position, held),
         stop: after,
-        outcome: Outcome::Unreadable,
+        outcome: Outcome::At(after),
     }
 }
 
-pub fn replay_file(
-    file: i32,
+pub fn replay_file<R: Read>(
+    file: &mut R,
     directory: Directory,
     first: u64,
     window: &mut [u8; ROOM],
@@ -210,5 +211,5 @@ pub fn replay_file(
         rest = turn.rest;
         turns -= 1;
     }
-    Outcome::Unreadable
+    Outcome::Unreadable(io::Error::other("the file has no end"))
 }

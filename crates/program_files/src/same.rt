@@ -1,54 +1,45 @@
-// Whether two descriptors are of one file, by the path that the system keeps for each.
-ghost use Rattle.io.specs.Counts.{IsPrefixLen};
-ghost use Rattle.libc.specs.Io.{Ended};
+// Whether two files that are open are one, by the path that the system keeps for each.
+use std::alloc::Global;
+use std::fs::File;
+use std::io;
+use std::io::ErrorKind;
+use std::os::fd::AsRawFd;
+use std::os::unix::fs::MetadataExt;
+use std::path::PathBuf;
+use std::rt::Files;
 
-fn number_of(file: i32) -> u64 {
-    if file < 0 {
-        return 0;
+fn descriptor_path(alloc: Global, file: &File) -> io::Result<PathBuf> {
+    let number = file.as_raw_fd();
+    let text = format!(in alloc; "/proc/self/fd/{number}")?;
+    Ok(PathBuf::from(text))
+}
+
+// No path where it is no UTF-8, since std has paths as text.
+fn path_of<R: Files + AllocGlobal>(rt: &R, file: &File) -> io::Result<Option<PathBuf>> {
+    match std::fs::read_link(rt, descriptor_path(rt.alloc(), file)?) {
+        Ok(path) => Ok(Some(path)),
+        Err(why) if why.raw_os_error().is_none() && why.kind() == ErrorKind::InvalidFilename => {
+            Ok(None)
+        }
+        Err(why) => Err(why),
     }
-    file as u64
 }
 
-// Zeros stand behind the digits, so that the path ends with them.
-fn put_name(path: &mut [u8; 4096], digits: &[u8; 20]) {
-    output::copy_into(path, 0, b"/proc/self/fd/");
-    output::copy_into(path, 14, digits);
+fn same_node(a: &File, b: &File) -> io::Result<bool> {
+    let first = a.metadata()?;
+    let second = b.metadata()?;
+    Ok(first.dev() == second.dev() && first.ino() == second.ino())
 }
 
-fn ended(path: [u8; 4096]) -> [u8; 4096]
-    ensures { Ended result }
-{
-    let mut ended = path;
-    ended[4095] = 0;
-    ended
-}
-
-fn descriptor_path(file: u64) -> [u8; 4096]
-    ensures { Ended result }
-{
-    let mut path = io::buffer();
-    let mut digits = [0u8; 20];
-    io::decimal(file, &mut digits);
-    put_name(&mut path, &digits);
-    ended(path)
-}
-
-fn path_of(file: i32, path: &mut [u8]) -> usize
-    ensures { IsPrefixLen result path.new }
-{
-    let name = descriptor_path(number_of(file));
-    let got = libc::readlink(&name, path);
-    io::count(got, path)
+fn told_same<R: Files + AllocGlobal>(rt: &R, a: &File, b: &File) -> io::Result<bool> {
+    match (path_of(rt, a)?, path_of(rt, b)?) {
+        (Some(first), Some(second)) => Ok(first.as_str() == second.as_str()),
+        (None, None) => same_node(a, b),
+        _ => Ok(false),
+    }
 }
 
 // Where the system doesn't tell, they may be.
-pub fn same_file(a: i32, b: i32) -> bool {
-    let mut first = io::buffer();
-    let mut second = io::buffer();
-    let n = path_of(a, &mut first);
-    let m = path_of(b, &mut second);
-    if n == 0 || m == 0 {
-        return true;
-    }
-    check::same(&first[..n], &second[..m])
+pub fn same_file<R: Files + AllocGlobal>(rt: &R, a: &File, b: &File) -> bool {
+    told_same(rt, a, b).unwrap_or(true)
 }

@@ -1,9 +1,13 @@
 // The image's file: read, and replaced.
 ghost use Rattle.std.specs.Prelude.{◌≤◌, length};
 
-use libc::{SEEK_END, SEEK_SET};
 use log_input::fill;
-use program_files::{NAME_ROOM, drop_new, new_name, put_in_place, start_new, tell, tell_lengths};
+use program_files::{
+    NAME_ROOM, drop_new, fail, new_name, open_read, put_in_place, start_new, tell, tell_lengths,
+};
+use std::io;
+use std::io::{ErrorKind, Read, Seek, SeekFrom, Write};
+use std::rt::Files;
 
 // Whether there was an image.
 #[derive(Clone, Copy)]
@@ -13,33 +17,29 @@ pub enum Image {
     Bad,
 }
 
-// What `lseek` answered, where it didn't fail.
-fn unsigned(answer: i64) -> u64 {
-    if answer < 0 {
-        return 0;
-    }
-    answer as u64
-}
-
-// A folder opens for reading and has a length of its own: only a read tells it from a file.
-fn is_readable(file: i32) -> bool {
+// A folder opens for reading and has a length of its own: only a read tells it from a file. Where the file stands afterwards doesn't matter.
+fn length_of<F: Read + Seek>(file: &mut F) -> io::Result<u64> {
     let mut one = [0u8; 1];
-    0 <= libc::read(file, &mut one)
+    file.read(&mut one)?;
+    file.seek(SeekFrom::End(0))
 }
 
-fn read_opened(file: i32, path: &[u8], image: &mut [u8]) -> Image {
-    if !is_readable(file) {
-        os::fail(path);
-        return Image::Bad;
-    }
-    let length = libc::lseek(file, 0, SEEK_END);
-    if length < 0 {
-        os::fail(path);
-        return Image::Bad;
-    }
-    let has = unsigned(length);
+fn read_opened<F: Read + Seek>(
+    err: &impl Print,
+    file: &mut F,
+    path: &[u8],
+    image: &mut [u8],
+) -> Image {
+    let has = match length_of(file) {
+        Ok(length) => length,
+        Err(why) => {
+            fail(err, path, &why);
+            return Image::Bad;
+        }
+    };
     if has != image.len() as u64 {
         tell_lengths(
+            err,
             b"recover",
             path,
             has,
@@ -48,14 +48,15 @@ fn read_opened(file: i32, path: &[u8], image: &mut [u8]) -> Image {
         );
         return Image::Bad;
     }
-    libc::lseek(file, 0, SEEK_SET);
+    let _ = file.seek(SeekFrom::Start(0));
     let filled = fill(file, image, 0);
-    if filled.failed {
-        os::fail(path);
+    if let Some(why) = filled.failed {
+        fail(err, path, &why);
         return Image::Bad;
     }
     if filled.held < image.len() {
         tell(
+            err,
             b"recover",
             path,
             b": the file became shorter while it was read",
@@ -66,54 +67,66 @@ fn read_opened(file: i32, path: &[u8], image: &mut [u8]) -> Image {
 }
 
 // Where there is no file, the image stays as it is.
-pub fn read_image(path: &[u8], image: &mut [u8]) -> Image {
-    let file = os::open_read(path);
-    if file < 0 {
-        if os::errno() == libc::ENOENT {
-            tell(
-                b"recover",
-                path,
-                b": there is no such file; an image of zeros is made",
-            );
-            return Image::New;
+pub fn read_image<R: Files>(files: &R, err: &impl Print, path: &[u8], image: &mut [u8]) -> Image {
+    match open_read(files, path) {
+        Ok(mut file) => read_opened(err, &mut file, path, image),
+        Err(why) => {
+            if why.kind() == ErrorKind::NotFound {
+                tell(
+                    err,
+                    b"recover",
+                    path,
+                    b": there is no such file; an image of zeros is made",
+                );
+                return Image::New;
+            }
+            fail(err, path, &why);
+            Image::Bad
         }
-        os::fail(path);
-        return Image::Bad;
     }
-    let found = read_opened(file, path, image);
-    libc::close(file);
-    found
 }
 
-fn replace_by(name: &[u8], path: &[u8], image: &[u8]) -> bool {
-    let file = start_new(b"recover", name);
-    if file < 0 {
+fn replace_by<R: Files>(
+    files: &R,
+    err: &impl Print,
+    name: &[u8],
+    path: &[u8],
+    image: &[u8],
+) -> bool {
+    let Some(mut file) = start_new(files, err, b"recover", name) else {
+        return false;
+    };
+    if let Err(why) = file.write_all(image) {
+        fail(err, name, &why);
+        drop_new(files, file, name);
         return false;
     }
-    if !io::write_all(file, image) {
-        os::fail(name);
-        drop_new(file, name);
-        return false;
-    }
-    put_in_place(file, name, path)
+    put_in_place(files, err, file, name, path)
 }
 
-fn replace_under(space: &[u8; NAME_ROOM], n: usize, path: &[u8], image: &[u8]) -> bool
+fn replace_under<R: Files>(
+    files: &R,
+    err: &impl Print,
+    space: &[u8; NAME_ROOM],
+    n: usize,
+    path: &[u8],
+    image: &[u8],
+) -> bool
     requires { n ≤ 4100 }
 {
     let all: &[u8] = space;
-    replace_by(&all[0..n], path, image)
+    replace_by(files, err, &all[0..n], path, image)
 }
 
 // The image under another name first, so that a failure on the way leaves the old one.
-pub fn replace_image(path: &[u8], image: &[u8]) -> bool
+pub fn replace_image<R: Files>(files: &R, err: &impl Print, path: &[u8], image: &[u8]) -> bool
     requires { length path.now ≤ 4096 }
 {
     let mut space = [0u8; NAME_ROOM];
     let n = new_name(path, &mut space);
-    if replace_under(&space, n, path, image) {
+    if replace_under(files, err, &space, n, path, image) {
         return true;
     }
-    tell(b"recover", path, b": the image stays as it was");
+    tell(err, b"recover", path, b": the image stays as it was");
     false
 }

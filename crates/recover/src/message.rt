@@ -1,57 +1,54 @@
 // What standard error is told of the answer.
 use answer::Answer;
-use libc::STDERR_FILENO;
+use program_files::{put, put_number};
 
 // What an answer means, in words. A run gives those from 1 to 8, 12 and 13.
-fn tell_meaning(answer: Answer) -> bool {
+fn tell_meaning(err: &impl Print, answer: Answer) {
     match answer {
-        Answer::Done => io::write_all(STDERR_FILENO, b"done"),
-        Answer::EndOfLog => io::write_all(STDERR_FILENO, b"end of log: no further record begins"),
-        Answer::Cut => io::write_all(STDERR_FILENO, b"the log ends inside the record"),
-        Answer::UnknownTag => io::write_all(STDERR_FILENO, b"the record has an unknown tag"),
-        Answer::OutOfPlace => io::write_all(
-            STDERR_FILENO,
+        Answer::Done => put(err, b"done"),
+        Answer::EndOfLog => put(err, b"end of log: no further record begins"),
+        Answer::Cut => put(err, b"the log ends inside the record"),
+        Answer::UnknownTag => put(err, b"the record has an unknown tag"),
+        Answer::OutOfPlace => put(
+            err,
             b"the record doesn't start with a begin tag, or has a second one",
         ),
-        Answer::WrongId => io::write_all(STDERR_FILENO, b"the record's id isn't the expected one"),
-        Answer::NoTable => io::write_all(
-            STDERR_FILENO,
+        Answer::WrongId => put(err, b"the record's id isn't the expected one"),
+        Answer::NoTable => put(
+            err,
             b"the record names a table that the directory doesn't have",
         ),
-        Answer::NoIndex => io::write_all(
-            STDERR_FILENO,
+        Answer::NoIndex => put(
+            err,
             b"the record has an index that isn't below its table's count",
         ),
-        Answer::WrongSum => io::write_all(STDERR_FILENO, b"the checksum of the record differs"),
-        Answer::NoRoom => io::write_all(STDERR_FILENO, b"no room"),
-        Answer::ShortOutput => io::write_all(STDERR_FILENO, b"the output is too short"),
-        Answer::NotNext => io::write_all(STDERR_FILENO, b"the id isn't the next one"),
-        Answer::UsedUp => io::write_all(STDERR_FILENO, b"record ids are used up"),
-        Answer::BadState => io::write_all(
-            STDERR_FILENO,
-            b"the directory breaks a rule, or the image isn't its",
-        ),
-        Answer::BadArgument => io::write_all(STDERR_FILENO, b"the position is beyond the log"),
+        Answer::WrongSum => put(err, b"the checksum of the record differs"),
+        Answer::NoRoom => put(err, b"no room"),
+        Answer::ShortOutput => put(err, b"the output is too short"),
+        Answer::NotNext => put(err, b"the id isn't the next one"),
+        Answer::UsedUp => put(err, b"record ids are used up"),
+        Answer::BadState => put(err, b"the directory breaks a rule, or the image isn't its"),
+        Answer::BadArgument => put(err, b"the position is beyond the log"),
     }
 }
 
 // Which id stands there, and which was due.
-pub fn tell_ids(found: u64, expected: u64) {
-    io::write_all(STDERR_FILENO, b"recover: the record's id is ");
-    io::print_decimal(STDERR_FILENO, found);
-    io::write_all(STDERR_FILENO, b"; expected ");
-    io::print_decimal(STDERR_FILENO, expected);
-    io::write_all(STDERR_FILENO, b"\n");
+pub fn tell_ids(err: &impl Print, found: u64, expected: u64) {
+    put(err, b"recover: the record's id is ");
+    put_number(err, found);
+    put(err, b"; expected ");
+    put_number(err, expected);
+    put(err, b"\n");
 }
 
 // The answer's number, its meaning, where the record and the action at fault begin, and what became of the records.
-pub fn tell_answer(answer: Answer, position: u64, fault_at: u64) {
-    io::print_decimal(STDERR_FILENO, answer.number() as u64);
-    io::write_all(STDERR_FILENO, b": ");
-    tell_meaning(answer);
-    io::write_all(STDERR_FILENO, b" (record at ");
-    io::print_decimal(STDERR_FILENO, position);
-    io::write_all(STDERR_FILENO, b", fault at ");
-    io::print_decimal(STDERR_FILENO, fault_at);
-    io::write_all(STDERR_FILENO, b"); the records before it were replayed\n");
+pub fn tell_answer(err: &impl Print, answer: Answer, position: u64, fault_at: u64) {
+    put_number(err, answer.number() as u64);
+    put(err, b": ");
+    tell_meaning(err, answer);
+    put(err, b" (record at ");
+    put_number(err, position);
+    put(err, b", fault at ");
+    put_number(err, fault_at);
+    put(err, b"); the records before it were replayed\n");
 }

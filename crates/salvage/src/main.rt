@@ -11,24 +11,28 @@ ghost use Rattle.directory.specs.Directory.{directory_kept};
 use directory::Directory;
 use log_input::ROOM;
 use pass::salvage_file;
-use program_files::{NAME_ROOM, TEXT_ROOM, new_name, read_directory, same_file, start_new, tell};
+use program_files::{
+    NAME_ROOM, PATH_ROOM, TEXT_ROOM, argument, argument_count, fail, new_name, open_read,
+    read_directory, same_file, start_new, tell,
+};
 use reporting::report;
+use std::fs::File;
+use std::rt::{Env, Files};
 
 // Whether a path leads to the file that is open already.
-fn leads_to(path: &[u8], file: i32) -> bool {
-    let other = os::open_read(path);
-    if other < 0 {
-        return false;
+fn leads_to<R: Files<File = File> + AllocGlobal>(rt: &R, path: &[u8], file: &File) -> bool {
+    match open_read(rt, path) {
+        Ok(other) => same_file(rt, file, &other),
+        Err(_) => false,
     }
-    let same = same_file(file, other);
-    libc::close(other);
-    same
 }
 
 // Under the name of the new file.
-fn salvage_under(
+fn salvage_under<R: Files<File = File> + Print>(
+    rt: &R,
+    err: &impl Print,
     directory: Directory,
-    file: i32,
+    file: &mut File,
     log: &[u8],
     path: &[u8],
     space: &[u8; NAME_ROOM],
@@ -39,20 +43,27 @@ fn salvage_under(
 {
     let all: &[u8] = space;
     let name = &all[0..n];
-    let new = start_new(b"salvage", name);
-    if new < 0 {
-        return;
+    if let Some(mut new) = start_new(rt, err, b"salvage", name) {
+        let pass = salvage_file(file, &mut new, directory, window);
+        report(rt, err, pass, new, log, name, path);
     }
-    let pass = salvage_file(file, new, directory, window);
-    report(pass, new, log, name, path);
 }
 
 // The log is only read: an output that is the log itself would take its place.
-fn salvage_opened(directory: Directory, file: i32, log: &[u8], path: &[u8], window: &mut [u8; ROOM])
+fn salvage_opened<R: Files<File = File> + AllocGlobal + Print>(
+    rt: &R,
+    err: &impl Print,
+    directory: Directory,
+    file: &mut File,
+    log: &[u8],
+    path: &[u8],
+    window: &mut [u8; ROOM],
+)
     requires { (directory_kept directory ≡ true) × (length path.now ≤ 4096) }
 {
-    if leads_to(path, file) {
+    if leads_to(rt, path, file) {
         tell(
+            err,
             b"salvage",
             path,
             b": this is the log, or can't be told from it; nothing was written",
@@ -61,10 +72,12 @@ fn salvage_opened(directory: Directory, file: i32, log: &[u8], path: &[u8], wind
     }
     let mut space = [0u8; NAME_ROOM];
     let n = new_name(path, &mut space);
-    salvage_under(directory, file, log, path, &space, n, window);
+    salvage_under(rt, err, directory, file, log, path, &space, n, window);
 }
 
-fn salvage(
+fn salvage<R: Files<File = File> + AllocGlobal + Print>(
+    rt: &R,
+    err: &impl Print,
     listed: &[u8],
     log: &[u8],
     path: &[u8],
@@ -73,41 +86,43 @@ fn salvage(
 )
     requires { length path.now ≤ 4096 }
 {
-    let read = read_directory(b"salvage", listed, text);
+    let read = read_directory(rt, err, b"salvage", listed, text);
     if !read.good {
         return;
     }
-    let file = os::open_read(log);
-    if file < 0 {
-        os::fail(log);
-        return;
-    }
     let directory = read.directory;
-    salvage_opened(directory, file, log, path, window);
-    libc::close(file);
+    match open_read(rt, log) {
+        Ok(mut file) => salvage_opened(rt, err, directory, &mut file, log, path, window),
+        Err(why) => fail(err, log, &why),
+    }
 }
 
 // The program's own name counts as an argument.
-fn with_arguments(text: &mut [u8; TEXT_ROOM], window: &mut [u8; ROOM]) {
-    if os::arg_count() != 4 {
-        tell(b"salvage", b"usage: salvage DIRECTORY LOG OUT", b"");
+fn with_arguments<R: Files<File = File> + Env + AllocGlobal + Print>(
+    rt: &R,
+    err: &impl Print,
+    text: &mut [u8; TEXT_ROOM],
+    window: &mut [u8; ROOM],
+) {
+    if argument_count(rt) != 4 {
+        tell(err, b"salvage", b"usage: salvage DIRECTORY LOG OUT", b"");
         return;
     }
-    let mut listed = io::buffer();
-    let mut log = io::buffer();
-    let mut path = io::buffer();
-    let n = os::arg(1, &mut listed);
-    let m = os::arg(2, &mut log);
-    let k = os::arg(3, &mut path);
+    let mut listed = [0u8; PATH_ROOM];
+    let mut log = [0u8; PATH_ROOM];
+    let mut path = [0u8; PATH_ROOM];
+    let n = argument(rt, 1, &mut listed);
+    let m = argument(rt, 2, &mut log);
+    let k = argument(rt, 3, &mut path);
     if n == 0 || m == 0 || k == 0 {
-        tell(b"salvage", b"a path is empty, or too long", b"");
+        tell(err, b"salvage", b"a path is empty, or too long", b"");
         return;
     }
-    salvage(&listed[..n], &log[..m], &path[..k], text, window);
+    salvage(rt, err, &listed[..n], &log[..m], &path[..k], text, window);
 }
 
-fn main() {
+fn main(rt: HostRuntime) {
     let mut text = [0u8; TEXT_ROOM];
     let mut window = [0u8; ROOM];
-    with_arguments(&mut text, &mut window);
+    with_arguments(&rt, &rt.stderr(), &mut text, &mut window);
 }

@@ -9,6 +9,8 @@ ghost use Rattle.salvage.specs.Bounds.{Covering, Within, Going};
 use directory::Directory;
 use log_input::{ROOM, fill, move_front};
 use salvaging::{Lines, Search, search_kept};
+use std::io;
+use std::io::{Read, Write};
 
 // Nothing says that a file ends, so the turns are counted down from a number that no file uses up: its positions stay below 2^61.
 const TURNS: u64 = 1099511627776;
@@ -18,8 +20,8 @@ pub enum End {
     Whole,
     ManyLines,
     TooLong,
-    Unreadable,
-    Unwritable,
+    Unreadable(io::Error),
+    Unwritable(io::Error),
 }
 
 // The list so far; where in the file the window's front stands, and how many bytes it holds already; whether the file goes on, or else how it
@@ -33,27 +35,27 @@ pub struct Pass {
     pub end: End,
 }
 
-// How far a window was gone through, and whether its records were written.
+// How far a window was gone through, and why its records were not written, if they weren't.
 #[derive(Clone, Copy)]
 pub struct Taken {
     pub lines: Lines,
     pub at: usize,
-    pub written: bool,
+    pub failed: Option<io::Error>,
 }
 
-fn gone(lines: Lines, at: usize, written: bool) -> Taken
+fn gone(lines: Lines, at: usize, failed: Option<io::Error>) -> Taken
     ensures { (result.lines.bytes ≡ lines.bytes) × (result.lines.end ≡ lines.end) × (result.at ≡ at) }
 {
     Taken {
         lines: lines,
         at: at,
-        written: written,
+        failed: failed,
     }
 }
 
 // Writes the records of a window as they are found, up to one that is open.
-fn keep_records(
-    out: i32,
+fn keep_records<W: Write>(
+    out: &mut W,
     directory: Directory,
     bytes: &[u8],
     base: u64,
@@ -67,17 +69,17 @@ fn keep_records(
     let mut at = 0;
     loop {
         match search_kept(directory, bytes, at, more) {
-            Search::Nothing => return gone(lines, bytes.len(), true),
-            Search::Open(place) => return gone(lines, place, true),
+            Search::Nothing => return gone(lines, bytes.len(), None),
+            Search::Open(place) => return gone(lines, place, None),
             Search::Record(f) => {
                 let from = f.position;
                 at = f.end;
                 lines = lines.with_record(base + from as u64, base + at as u64, f.id);
-                if !io::write_all(out, &bytes[from..at]) {
-                    return gone(lines, at, false);
+                if let Err(why) = out.write_all(&bytes[from..at]) {
+                    return gone(lines, at, Some(why));
                 }
                 if 64 < lines.count {
-                    return gone(lines, at, true);
+                    return gone(lines, at, None);
                 }
             }
         }
@@ -98,7 +100,7 @@ fn stopped(lines: Lines, base: u64, end: End) -> Pass
 }
 
 // A window that nothing follows.
-fn last_window(out: i32, directory: Directory, bytes: &[u8], pass: Pass) -> Pass
+fn last_window<W: Write>(out: &mut W, directory: Directory, bytes: &[u8], pass: Pass) -> Pass
     requires { (directory_kept directory ≡ true) × (Covering pass.lines pass.base) × (pass.base + length bytes.now ≤ 18446744073709551615) }
     ensures { Going result (pass.base + length bytes.now) }
 {
@@ -107,8 +109,8 @@ fn last_window(out: i32, directory: Directory, bytes: &[u8], pass: Pass) -> Pass
     let window = keep_records(out, directory, bytes, base, false, before);
     let kept = window.lines;
     let end = base + bytes.len() as u64;
-    if !window.written {
-        return stopped(kept, end, End::Unwritable);
+    if let Some(why) = window.failed {
+        return stopped(kept, end, End::Unwritable(why));
     }
     let lines = kept.up_to(end);
     if 64 < lines.count {
@@ -118,15 +120,21 @@ fn last_window(out: i32, directory: Directory, bytes: &[u8], pass: Pass) -> Pass
 }
 
 // A full window with an open record at its front, which passes the window if the file goes on.
-fn full_window(file: i32, out: i32, directory: Directory, bytes: &[u8], pass: Pass) -> Pass
+fn full_window<R: Read, W: Write>(
+    file: &mut R,
+    out: &mut W,
+    directory: Directory,
+    bytes: &[u8],
+    pass: Pass,
+) -> Pass
     requires { (directory_kept directory ≡ true) × (Covering pass.lines pass.base) × (pass.base + length bytes.now ≤ 18446744073709551615) }
     ensures { Going result (pass.base + length bytes.now) }
 {
     let lines = pass.lines;
     let mut one = [0u8; 1];
     let beyond = fill(file, &mut one, 0);
-    if beyond.failed {
-        return stopped(lines, pass.base, End::Unreadable);
+    if let Some(why) = beyond.failed {
+        return stopped(lines, pass.base, End::Unreadable(why));
     }
     if beyond.held == 0 {
         return last_window(out, directory, bytes, pass);
@@ -135,7 +143,13 @@ fn full_window(file: i32, out: i32, directory: Directory, bytes: &[u8], pass: Pa
 }
 
 // A full window: its records written, and what is left of it moved to its front.
-fn further(file: i32, out: i32, directory: Directory, pass: Pass, window: &mut [u8; ROOM]) -> Pass
+fn further<R: Read, W: Write>(
+    file: &mut R,
+    out: &mut W,
+    directory: Directory,
+    pass: Pass,
+    window: &mut [u8; ROOM],
+) -> Pass
     requires { (directory_kept directory ≡ true) × (Going pass 2305843009213693952) }
     ensures { Going result (pass.base + 2097152) }
 {
@@ -144,8 +158,8 @@ fn further(file: i32, out: i32, directory: Directory, pass: Pass, window: &mut [
     let seen = keep_records(out, directory, bytes, pass.base, true, before);
     let lines = seen.lines;
     let base = pass.base + seen.at as u64;
-    if !seen.written {
-        return stopped(lines, base, End::Unwritable);
+    if let Some(why) = seen.failed {
+        return stopped(lines, base, End::Unwritable(why));
     }
     if 64 < lines.count {
         return stopped(lines, base, End::ManyLines);
@@ -163,14 +177,20 @@ fn further(file: i32, out: i32, directory: Directory, pass: Pass, window: &mut [
 }
 
 // The window filled, and gone through.
-fn one_turn(file: i32, out: i32, directory: Directory, pass: Pass, window: &mut [u8; ROOM]) -> Pass
+fn one_turn<R: Read, W: Write>(
+    file: &mut R,
+    out: &mut W,
+    directory: Directory,
+    pass: Pass,
+    window: &mut [u8; ROOM],
+) -> Pass
     requires { (directory_kept directory ≡ true) × (Going pass 2305843009213693952) }
     ensures { Going result (pass.base + 2097152) }
 {
     let lines = pass.lines;
     let filled = fill(file, window, pass.rest);
-    if filled.failed {
-        return stopped(lines, pass.base, End::Unreadable);
+    if let Some(why) = filled.failed {
+        return stopped(lines, pass.base, End::Unreadable(why));
     }
     let held = filled.held;
     if held < ROOM {
@@ -181,7 +201,12 @@ fn one_turn(file: i32, out: i32, directory: Directory, pass: Pass, window: &mut 
 }
 
 // Goes through a log from its front and writes its records to the output.
-pub fn salvage_file(file: i32, out: i32, directory: Directory, window: &mut [u8; ROOM]) -> Pass
+pub fn salvage_file<R: Read, W: Write>(
+    file: &mut R,
+    out: &mut W,
+    directory: Directory,
+    window: &mut [u8; ROOM],
+) -> Pass
     requires { directory_kept directory ≡ true }
 {
     let mut pass = Pass {
@@ -189,7 +214,7 @@ pub fn salvage_file(file: i32, out: i32, directory: Directory, window: &mut [u8;
         base: 0,
         rest: 0,
         going: true,
-        end: End::Unreadable,
+        end: End::Unreadable(io::Error::other("the file has no end")),
     };
     let mut turns = TURNS;
     while 0 < turns {

@@ -1,40 +1,33 @@
 // The list, a line each.
 ghost use Rattle.std.specs.Prelude.{◌<◌};
 
-use libc::STDOUT_FILENO;
+use program_files::fail;
 use salvaging::Lines;
+use std::io;
 
-fn print_number(number: u64) {
-    io::write_all(STDOUT_FILENO, b" ");
-    io::print_decimal(STDOUT_FILENO, number);
-}
-
-fn print_line(words: &[u64; 256], i: usize) -> bool
+fn print_line(out: &impl Print, words: &[u64; 256], i: usize) -> io::Result<()>
     requires { i < 64 }
 {
     let row = 4 * i;
+    let from = words[row + 1];
+    let count = words[row + 2];
+    let id = words[row + 3];
     if words[row] == 0 {
-        io::write_all(STDOUT_FILENO, b"lost");
-        print_number(words[row + 1]);
-        print_number(words[row + 2]);
+        println!(out; "lost {from} {count}")
     } else {
-        io::write_all(STDOUT_FILENO, b"kept");
-        print_number(words[row + 1]);
-        print_number(words[row + 2]);
-        print_number(words[row + 3]);
+        println!(out; "kept {from} {count} {id}")
     }
-    io::write_all(STDOUT_FILENO, b"\n")
 }
 
-pub fn print_lines(lines: Lines) {
+pub fn print_lines(out: &impl Print, err: &impl Print, lines: Lines) {
     let words = lines.words;
     let mut i = 0;
     while i < lines.count {
         if 64 <= i {
             break;
         }
-        if !print_line(&words, i) {
-            os::fail(b"standard output");
+        if let Err(why) = print_line(out, &words, i) {
+            fail(err, b"standard output", &why);
             return;
         }
         i += 1;

@@ -1,0 +1,35 @@
+// A file opened by the bytes of its path.
+use std::fs::{File, OpenOptions};
+use std::io;
+use std::rt::Files;
+
+// std names files by text.
+pub fn text_of(path: &[u8]) -> io::Result<&str> {
+    match std::str::from_utf8(path) {
+        Ok(text) => Ok(text),
+        Err(_) => {
+            let message = "the path is no UTF-8";
+            Err(io::Error::new(io::ErrorKind::InvalidInput, message))
+        }
+    }
+}
+
+pub fn open_read<R: Files>(files: &R, path: &[u8]) -> io::Result<R::File> {
+    File::open(files, text_of(path)?)
+}
+
+// Fails where there is a file of that name.
+pub fn create_new<R: Files>(files: &R, path: &[u8]) -> io::Result<R::File> {
+    OpenOptions::new()
+        .write(true)
+        .create_new(true)
+        .open(files, text_of(path)?)
+}
+
+pub fn rename(files: &impl Files, from: &[u8], to: &[u8]) -> io::Result<()> {
+    std::fs::rename(files, text_of(from)?, text_of(to)?)
+}
+
+pub fn remove(files: &impl Files, path: &[u8]) -> io::Result<()> {
+    std::fs::remove_file(files, text_of(path)?)
+}
