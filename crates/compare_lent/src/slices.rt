@@ -1,5 +1,4 @@
-// The calls over a lent slice, for a caller that has the descriptions by value: the borrow checker covers no function with a reference to a
-// description, so none but these has one. crates/lent/walks writes their proofs.
+// The calls over a lent slice, for a caller that has the descriptions by value.
 ghost use Rattle.std.specs.Prelude.{◌≤◌};
 
 use change::{Changed, LogChange, Sized};

@@ -1,0 +1,12 @@
+-- `hongsathep_clean_logs` meets its contract. Assumes nothing.
+use mathlib.Core.Path.{ap, ◌∙◌}
+use Rattle.files.specs.Calls.{clean_logs}
+use Rattle.files.specs.declared.queues.Queues.{Queues}
+use Rattle.edge_queues.proofs.Left.{clean_left}
+use Rattle.edge_queues.proofs.queueing.hongsathep_clean_logs.Goals as goal
+
+pub shape_of-queues : goal.shape_of-queues
+shape_of-queues c = c.queues-1.given
+
+pub returns : goal.returns
+returns c = clean_left (c.clean_logs-done.ensures ∙ ap (λ (q : Queues). clean_logs q c.args.max) c.queues_of.ensures) c.keep_cleaned.ensures
