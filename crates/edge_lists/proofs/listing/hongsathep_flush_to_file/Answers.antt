@@ -13,7 +13,7 @@ pub returns : goal.returns
 returns c =
     let a = c.args in
     let e = c.flush_to_file-done.ensures ∙ loaded (λ (d : Directory) (l : Change). flush_to_file d l a.out.now) a.items.now a.chunks.now c.directory_of.ensures c.list_of.ensures in
- record {
+    record {
       out = ap (λ (x : FlushedLog). x.output) e;
       size = size-left (ap (λ (x : FlushedLog). x.sized) e) c.keep_size.ensures;
     }

@@ -18,7 +18,7 @@ pub returns : goal.returns
 returns c =
     let a = c.args in
     let e = c.flush_to_file_kept-done.ensures ∙ ap (λ (l : LogChange). flush_to_file_kept (change_of l a.items.now a.chunks.now) a.out.now) c.list_of.ensures in
- record {
+    record {
       out = ap (λ (x : FlushedLog). x.output) e;
       size = size-left (ap (λ (x : FlushedLog). x.sized) e) c.keep_size.ensures;
     }

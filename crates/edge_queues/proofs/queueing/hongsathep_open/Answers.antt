@@ -12,7 +12,7 @@ use Rattle.edge_queues.proofs.queueing.hongsathep_open.Goals as goal
 -- src/queueing.rt:57:1
 pub returns : goal.returns
 returns c =
-    let e = c.opened-o.ensures.0 in  record {
+    let e = c.opened-o.ensures.0 in record {
       answer = c.keep_queues.ensures.0 ∙ ap (λ (x : Opened). number_of x.answer) e;
       remove = c.opened-o.ensures.1 ∙ ap (λ (x : Opened). over c.args.remove.now (removed (said_by c.args.names.now c.args.name_lengths.now) c.args.lengths.now) x.remove_count) e;
       removed = ap (λ (x : Opened). x.remove_count) e;

@@ -8,7 +8,7 @@ use Rattle.edge_queues.proofs.queueing.hongsathep_replay_record_id.Goals as goal
 pub returns : goal.returns
 returns c =
     let e = c.replay_record_id-first.ensures ∙ ap replay_record_id c.queues_of.ensures in
- record {
+    record {
       found = ap (λ (x : FirstId). x.found) e;
       id = ap (λ (x : FirstId). x.id) e;
     }

@@ -11,8 +11,7 @@ use Rattle.edge_queues.proofs.queueing.opened.Goals as goal
 -- src/queueing.rt:48:9
 pub returns-then-words-ne331 : goal.returns-then-words-ne331
 unfolding open_in
-returns-then-words-ne331 c =
-    (
+returns-then-words-ne331 c = (
   ap not_opened c.new.ensures ∙ sym (if_false _ _ _ (ne_eqb _ _ c.if-words-ne331.true)),
   paste-zero c.args.remove.now 0 (removed (said_by c.args.names.now c.args.name_lengths.now) c.args.lengths.now),
 )

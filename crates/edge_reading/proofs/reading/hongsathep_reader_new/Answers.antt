@@ -10,7 +10,7 @@ use Rattle.edge_reading.proofs.reading.hongsathep_reader_new.Goals as goal
 -- src/reading.rt:134:1
 pub returns : goal.returns
 returns c =
-    let w = c.args.reader.now in  record {
+    let w = c.args.reader.now in record {
       answer = c.keep_reader.ensures.0 ∙ ap number_of c.head_room-answer.ensures;
       after = c.keep_reader.ensures.1 ∙ ap₂ (λ (a : Answer) (x : LogReader). head_after 5 (number_of a) w (reader_words x)) c.head_room-answer.ensures c.new.ensures;
     }

@@ -12,7 +12,7 @@ pub returns : goal.returns
 returns c =
     let a = c.args in
     let d = c.directory_of.ensures in
- record {
+    record {
       told = replayed-left (c.replay-done.ensures.0 ∙ ap (λ (x : Directory). replayed_as a.position (judged x a.log.now a.position a.expected a.image.now)) d) c.keep_replayed.ensures;
       image = c.replay-done.ensures.1 ∙ ap (λ (x : Directory). image_after x a.image.now (judged x a.log.now a.position a.expected a.image.now)) d;
     }

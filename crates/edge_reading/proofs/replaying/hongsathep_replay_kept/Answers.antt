@@ -16,7 +16,7 @@ pub returns : goal.returns
 returns c =
     let a = c.args in
     let d = c.directory_of.ensures in
- record {
+    record {
       told = replayed-left (c.replayed_by.ensures ∙ ap (replayed_by a.position) (c.replay_kept-ended.ensures.0 ∙ ap (λ (x : Directory). end_in (record_at x a.log.now a.position a.expected)) d)) c.keep_replayed.ensures;
       image = c.replay_kept-ended.ensures.1 ∙ ap (λ (x : Directory). image_after x a.image.now (record_at x a.log.now a.position a.expected)) d;
     }

@@ -12,7 +12,7 @@ pub returns : goal.returns
 returns c =
     let a = c.args in
     let d = ap (λ (x : Directory). run_of x a.log.now a.position a.expected a.image.now) c.directory_of.ensures in
- record {
+    record {
       told = ran-left (c.run-ran.ensures.0 ∙ ap (λ (o : Outcome). o.ran) d) c.keep_ran.ensures;
       image = c.run-ran.ensures.1 ∙ ap (λ (o : Outcome). o.image) d;
     }

@@ -12,10 +12,11 @@ pub loop-i-init : goal.loop-i-init
 loop-i-init c = (omega arith, c.new-d.ensures ∙ gathered_none)
 
 pub loop-i-preserved : goal.loop-i-preserved
-loop-i-preserved c =
-    (omega arith,
-      c.push-d.ensures ∙ ap (λ (d : Directory). with_one_more d (get_or c.args.tables.now c.loop-i.i no_table_lem)) c.loop-i.invariant.1
-      ∙ gathered_next c.args.tables.now c.loop-i.i no_table_lem (omega arith))
+loop-i-preserved c = (
+  omega arith,
+  c.push-d.ensures ∙ ap (λ (d : Directory). with_one_more d (get_or c.args.tables.now c.loop-i.i no_table_lem)) c.loop-i.invariant.1
+      ∙ gathered_next c.args.tables.now c.loop-i.i no_table_lem (omega arith),
+)
 
 pub returns : goal.returns
 returns c =
