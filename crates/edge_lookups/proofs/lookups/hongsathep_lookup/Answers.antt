@@ -1,0 +1,8 @@
+-- `hongsathep_lookup` meets its contract. Assumes nothing.
+use mathlib.Core.Path.{◌∙◌}
+use Rattle.edge_lookups.proofs.Places.{told}
+use Rattle.edge_lookups.proofs.Loaded.{spot-from}
+use Rattle.edge_lookups.proofs.lookups.hongsathep_lookup.Goals as goal
+
+pub returns : goal.returns
+returns c = told (c.shared_spot-spot.ensures ∙ spot-from c.overlays_of.ensures _ _ _ c.kind_of-k.ensures) c.keep_spot.ensures
