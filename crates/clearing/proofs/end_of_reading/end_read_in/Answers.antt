@@ -1,4 +1,5 @@
 -- `end_read_in` meets its contract: nothing is touched on a refusal, and else the record goes out of the overlays. Assumes nothing.
+use borrow.Author.Rules.{rules}
 use mathlib.Core.Path.{◌≡◌, sym, ◌∙◌}
 use mathlib.Core.Bool.{true}
 use Rattle.directory.specs.Inner.{directory_in}
@@ -24,7 +25,7 @@ pub clear_rest-counts-requires : goal.clear_rest-counts-requires
 clear_rest-counts-requires c =
     let w : WholeRecord = c.in-Whole.w in
     let found : Whole w ≡ whole_of (rest_in (directory_in c.args.t.now) c.args.log.now) (step_of (directory_in c.args.t.now) c.args.log.now (reader_at c.args.position true)) = sym c.in-Whole.is ∙ c.check_record_in.ensures in
-    let known : Clears (directory_in c.args.t.now) c.args.log.now c.args.position w found = clears (directory_in c.args.t.now) c.args.log.now c.args.position w found c.if-id.false in
+    let known : Clears (directory_in c.args.t.now) c.args.log.now c.args.position w found = clears (directory_in c.args.t.now) c.args.log.now c.args.position w found (search rules) in
     let k = known in
     let o = w in
     let a = c.args in
@@ -44,7 +45,7 @@ pub returns-else-id : goal.returns-else-id
 returns-else-id c =
     let w : WholeRecord = c.in-Whole.w in
     let found : Whole w ≡ whole_of (rest_in (directory_in c.args.t.now) c.args.log.now) (step_of (directory_in c.args.t.now) c.args.log.now (reader_at c.args.position true)) = sym c.in-Whole.is ∙ c.check_record_in.ensures in
-    let known : Clears (directory_in c.args.t.now) c.args.log.now c.args.position w found = clears (directory_in c.args.t.now) c.args.log.now c.args.position w found c.if-id.false in
+    let known : Clears (directory_in c.args.t.now) c.args.log.now c.args.position w found = clears (directory_in c.args.t.now) c.args.log.now c.args.position w found (search rules) in
     let k = known in
     let a = c.args in
     let l = c.clear_rest-counts in

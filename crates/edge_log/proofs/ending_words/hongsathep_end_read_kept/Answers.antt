@@ -20,7 +20,7 @@ end_read_kept-done-requires c = (ap directory_kept c.directory_of.ensures ∙ c.
 -- src/ending_words.rt:221:1
 pub returns : goal.returns
 returns c =
-    let e = c.end_read_kept-done.ensures ∙ ap₂ (λ (d : Directory) (o : LogOverlays). end_read_by c.args.position (overlays_of o c.args.words.now c.args.bytes.now) c.args.next.now (clearable (record_again d c.args.log.now c.args.position))) c.directory_of.ensures c.overlays_of.ensures in  record {
+    let e = c.end_read_kept-done.ensures ∙ ap₂ (λ (d : Directory) (o : LogOverlays). end_read_by c.args.position (overlays_of o c.args.words.now c.args.bytes.now) c.args.next.now (clearable (record_again d c.args.log.now c.args.position))) c.directory_of.ensures c.overlays_of.ensures in record {
       answer = c.keep_overlays.ensures.0 ∙ ap (λ (x : Ending). number_of x.answer) e;
       overlays = c.keep_overlays.ensures.1 ∙ ap (λ (x : Ending). head_after overlays_size (number_of x.answer) c.args.overlays.now (overlays_words (overlays_left x.overlays))) e;
       memory = left_memory c.end_read_kept-done.new.words c.end_read_kept-done.new.bytes c.end_read_kept-done.result.overlays _ (ap (λ (x : Ending). x.overlays) e);
