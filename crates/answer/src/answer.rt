@@ -2,7 +2,7 @@
 ghost use Rattle.std.specs.Prelude.{◌≡◌};
 ghost use Rattle.answer.specs.Answer.{number_of, refusal};
 
-#[derive(Clone, Copy)]
+#[derive(Clone, Copy, PartialEq, Eq)]
 pub enum Answer {
     Done,
     EndOfLog,
@@ -46,7 +46,7 @@ impl Answer {
 }
 
 // A refusal of reading: its answer, and where the action at fault begins.
-#[derive(Clone, Copy)]
+#[derive(Clone, Copy, PartialEq, Eq)]
 pub struct Refusal {
     pub answer: Answer,
     pub position: usize,
@@ -57,9 +57,6 @@ impl Refusal {
     pub fn new(answer: Answer, position: usize) -> Refusal
         ensures { result ≡ refusal answer position }
     {
-        Refusal {
-            answer: answer,
-            position: position,
-        }
+        Refusal { answer, position }
     }
 }

@@ -17,7 +17,7 @@ use Rattle.directory.specs.Inner.{name_of, row_in, rows_in, directory_in, Flat, 
 use Rattle.directory.specs.declared.table.TableKind.{TableKind}
 use Rattle.directory.specs.declared.table.TableDescription.{TableDescription}
 use Rattle.directory.specs.declared.directory.Directory.{Directory}
-use Rattle.directory.specs.declared.directory.Found.TheVariants.{At, Nothing}
+use Rattle.std.specs.Prelude.{Some, None}
 use Rattle.directory.proofs.Named.{is-named, named-kind, named-number, named_small, renamed}
 use Rattle.directory.proofs.Tables.{no_table_lem, hit, miss, past, found_within}
 
@@ -231,15 +231,15 @@ module _ (t : List ℕ) (f : Flat t) (kind : TableKind) (number : ℕ) (small : 
       ∙ is-named (row_in t i) kind number (omega arith) small
       ∙ ap (λ (x : ℕ). eqb x (name_of kind number)) (renamed (get_or t (5 * i) 0) (f.rows i (omega (arith, f.few))).name)
 
-  pub plain-hit : i < get_or t 80 0 → get_or t (5 * i) 0 ≡ name_of kind number → find_from i (drop i (take (get_or t 80 0) (rows_in t 0 16))) kind number ≡ At i (row_in t i)
+  pub plain-hit : i < get_or t 80 0 → get_or t (5 * i) 0 ≡ name_of kind number → find_from i (drop i (take (get_or t 80 0) (rows_in t 0 16))) kind number ≡ Some (i, row_in t i)
   plain-hit h e =
-      hit (rows_in t 0 16) (get_or t 80 0) fits kind number i no_table_lem h (is_row h ∙ eq-eqb (get_or t (5 * i) 0) (name_of kind number) e) ∙ ap (At i) (row_at h)
+      hit (rows_in t 0 16) (get_or t 80 0) fits kind number i no_table_lem h (is_row h ∙ eq-eqb (get_or t (5 * i) 0) (name_of kind number) e) ∙ ap (λ (x : TableDescription). Some (i, x)) (row_at h)
 
   pub plain-miss : i < get_or t 80 0 → (get_or t (5 * i) 0 ≡ name_of kind number → ⊥)
       → find_from i (drop i (take (get_or t 80 0) (rows_in t 0 16))) kind number ≡ find_from (i + 1) (drop (i + 1) (take (get_or t 80 0) (rows_in t 0 16))) kind number
   plain-miss h e = miss (rows_in t 0 16) (get_or t 80 0) fits kind number i no_table_lem h (is_row h ∙ ne_eqb (get_or t (5 * i) 0) (name_of kind number) e)
 
-  pub plain-past : get_or t 80 0 ≤ i → find_from i (drop i (take (get_or t 80 0) (rows_in t 0 16))) kind number ≡ Nothing
+  pub plain-past : get_or t 80 0 ≤ i → find_from i (drop i (take (get_or t 80 0) (rows_in t 0 16))) kind number ≡ None
   plain-past h = past (rows_in t 0 16) (get_or t 80 0) fits kind number i h
 
 -- the whole search
@@ -248,7 +248,7 @@ unfolding find_table directory_in
 plain-whole t kind number = refl
 
 -- a table that was found is in use
-pub plain-found : (t : List ℕ) (f : Flat t) (kind : TableKind) (number row : ℕ) (x : TableDescription) → find_table (directory_in t) kind number ≡ At row x
+pub plain-found : (t : List ℕ) (f : Flat t) (kind : TableKind) (number row : ℕ) (x : TableDescription) → find_table (directory_in t) kind number ≡ Some (row, x)
     → row < get_or t 80 0
 plain-found t f kind number row x e =
     let l : length (take (get_or t 80 0) (rows_in t 0 16)) ≡ get_or t 80 0 = length-take-le (get_or t 80 0) (rows_in t 0 16) (omega (arith, f.few, rows-length t 0 16)) in

@@ -3,7 +3,7 @@ ghost use Rattle.std.specs.Prelude.{◌≡◌, true, ℕ, ◌+◌, ◌*◌, ◌<
 ghost use Rattle.directory.specs.Directory.{find_table, directory_kept, start_of};
 ghost use Rattle.directory.specs.Inner.{name_of, row_in, directory_in, Flat, Row, Rows};
 
-use super::directory::{Directory, Found};
+use super::directory::Directory;
 use super::table::{TableDescription, TableKind};
 
 // A table into its row; the rows before it stay.
@@ -59,7 +59,7 @@ fn row_in(t: &[u64; 81], i: usize, kind: TableKind, number: u16) -> TableDescrip
 }
 
 // As `Directory::find`.
-pub fn find_in(t: &[u64; 81], kind: TableKind, number: u16) -> Found
+pub fn find_in(t: &[u64; 81], kind: TableKind, number: u16) -> Option<(usize, TableDescription)>
     requires { Flat t.now }
     ensures { result ≡ find_table (directory_in t.now) kind number }
 {
@@ -68,11 +68,11 @@ pub fn find_in(t: &[u64; 81], kind: TableKind, number: u16) -> Found
     let mut i = 0;
     while i < n {
         if t[5 * i] == name {
-            return Found::At(i, row_in(t, i, kind, number));
+            return Some((i, row_in(t, i, kind, number)));
         }
         i += 1;
     }
-    Found::Nothing
+    None
 }
 
 // As `Directory::start`, for a row that is in use.

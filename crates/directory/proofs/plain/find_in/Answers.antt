@@ -1,7 +1,8 @@
 -- `find_in` meets its contract. The invariant: the search from row i on finds what the whole search finds. Assumes nothing.
 use mathlib.Core.Path.{refl, sym, ap, ◌∙◌}
 use native.Mathlib.Omega.{arith}
-use Rattle.directory.specs.declared.directory.Found.TheVariants.{At}
+use Rattle.std.specs.Prelude.{Some}
+use Rattle.directory.specs.declared.table.TableDescription.{TableDescription}
 use Rattle.directory.proofs.Numbers.{plain-hit, plain-miss, plain-past, plain-whole}
 use Rattle.directory.proofs.plain.find_in.Goals as goal
 
@@ -14,7 +15,7 @@ row_in-requires c = (c.requires, omega (arith, c.requires.few), c.if-t-i.true �
 pub returns-then-t-i : goal.returns-then-t-i
 returns-then-t-i c =
     let a = c.args in
-    ap (At c.loop-i.i) c.row_in.ensures
+    ap (λ (x : TableDescription). Some (c.loop-i.i, x)) c.row_in.ensures
     ∙ sym (plain-hit a.t.now c.requires a.kind a.number c.name-name.ensures.1 c.loop-i.i c.loop-i-test.true (c.if-t-i.true ∙ c.name-name.ensures.0))
     ∙ c.loop-i.invariant
     ∙ plain-whole a.t.now a.kind a.number
