@@ -17,9 +17,9 @@ use Rattle.record.specs.Record.{begun_id, early, early_end, opening_by, opening}
 use Rattle.record.specs.Next.{forward_to, beginning, opened, reader_at, step_of}
 use Rattle.record.specs.declared.reader.LogReader.{LogReader}
 use Rattle.record.specs.declared.reader.Stepped.{Stepped}
-use Rattle.record.specs.declared.reader.Step.TheVariants.{Took}
 use Rattle.record.proofs.Parts.{begun-short, begun_met, opening-short, opening_met}
 use Rattle.record.proofs.Steps.{Read, within_record, at-opening, taken}
+use Rattle.std.specs.Prelude.{Ok}
 
 -- a format that comes to nothing but refusals
 abbrev Silent : Format ℕ → Type 0
@@ -93,13 +93,13 @@ module _ (log : List ℕ) where
           record { tag = g.0; there = g.1; closes = g.2 }
 
 -- a reader behind an opening has the record's id, which stands behind the begin tag
-reader-is : (log : List ℕ) (r : LogReader) (s : Stepped) (id end : ℕ) → Took s ≡ opened log r (got id end) → (s.reader.record_id ≡ id) × (s.reader.position ≡ end)
+reader-is : (log : List ℕ) (r : LogReader) (s : Stepped) (id end : ℕ) → Ok s ≡ opened log r (got id end) → (s.reader.record_id ≡ id) × (s.reader.position ≡ end)
 unfolding forward_to
 reader-is log r s id end f =
     let p : s.reader ≡ forward_to log (beginning r id) end = cc in
     (ap (λ (x : LogReader). x.record_id) p, ap (λ (x : LogReader). x.position) p)
 
-pub begun : (d : Directory) (log : List ℕ) (at : ℕ) (validate : Bool) (s : Stepped) → step_of d log (reader_at at validate) ≡ Took s → Begins log at s.reader.record_id s.reader.position
+pub begun : (d : Directory) (log : List ℕ) (at : ℕ) (validate : Bool) (s : Stepped) → step_of d log (reader_at at validate) ≡ Ok s → Begins log at s.reader.record_id s.reader.position
 begun d log at validate s e = by (taken d log (reader_at at validate) s e).read
   where
     by : Read d log (reader_at at validate) s → Begins log at s.reader.record_id s.reader.position

@@ -30,9 +30,8 @@ use Rattle.record.specs.Next.{refused, answer_of, stepped, opened, step_of, next
 use Rattle.record.specs.declared.action.LogAction.{LogAction}
 use Rattle.record.specs.declared.reader.LogReader.{LogReader}
 use Rattle.record.specs.declared.reader.Stepped.{Stepped}
-use Rattle.record.specs.declared.reader.Step.{Step}
-use Rattle.record.specs.declared.reader.Step.TheVariants.{Took, Refused}
 use Rattle.record.proofs.Parts.{inside-short, inside_met, opening-short, opening_met, no-tag}
+use Rattle.std.specs.Prelude.{Result, Ok, Err}
 
 -- every answer with which a format refuses is one of those that P has
 abbrev Refuses : {A : Type 0} → (Answer → Type 0) → Format A → Type 0
@@ -214,21 +213,21 @@ pub record Halted (d : Directory) (log : List ℕ) (r : LogReader) (x : Refusal)
   pub place : x.position ≡ r.position
   pub why : Why d log r x.answer
 
-made : (d : Directory) (log : List ℕ) (r : LogReader) (x : Refusal) (a : Answer) → Why d log r a → refused a r.position ≡ Refused x → Halted d log r x
+made : (d : Directory) (log : List ℕ) (r : LogReader) (x : Refusal) (a : Answer) → Why d log r a → refused a r.position ≡ Err x → Halted d log r x
 made d log r x a w e =
     let s : refusal a r.position ≡ x = cc in
     record { place = sym (ap (λ (y : Refusal). y.position) s); why = subst (Why d log r) (ap (λ (y : Refusal). y.answer) s) w }
 
 module _ (d : Directory) (log : List ℕ) (r : LogReader) (x : Refusal) where
-  pub halted : step_of d log r ≡ Refused x → Halted d log r x
+  pub halted : step_of d log r ≡ Err x → Halted d log r x
   unfolding step_of
   halted e = placed (ltb (length log) r.position) refl
     where
-      insides : r.inside ≡ true → r.position ≤ length log → (g : Got Item) → read_at (inside d r.validate r.crc32) r.position log ≡ g → stepped log r g ≡ Refused x → Halted d log r x
+      insides : r.inside ≡ true → r.position ≤ length log → (g : Got Item) → read_at (inside d r.validate r.crc32) r.position log ≡ g → stepped log r g ≡ Err x → Halted d log r x
       insides b l (stopped a) q f = made d log r x a (in_record b l q) f
       insides b l (got i end) q f = let z : ◌≡◌ {A = ℕ} 0 1 = cc in absurd (omega arith)
 
-      openings : r.inside ≡ false → r.position ≤ length log → (g : Got ℕ) → read_at (opening r.validate) r.position log ≡ g → opened log r g ≡ Refused x → Halted d log r x
+      openings : r.inside ≡ false → r.position ≤ length log → (g : Got ℕ) → read_at (opening r.validate) r.position log ≡ g → opened log r g ≡ Err x → Halted d log r x
       openings b l (stopped a) q f = made d log r x a (at-opening b l q) f
       openings b l (got id end) q f = let z : ◌≡◌ {A = ℕ} 0 1 = cc in absurd (omega arith)
 
@@ -240,7 +239,7 @@ module _ (d : Directory) (log : List ℕ) (r : LogReader) (x : Refusal) where
       placed true q = made d log r x BadArgument (beyond (ltb-true (length log) r.position q) refl) (rw q at e)
       placed false q = either r.inside refl q
 
-  pub step-fault : step_of d log r ≡ Refused x → 0 < number_of x.answer
+  pub step-fault : step_of d log r ≡ Err x → 0 < number_of x.answer
   step-fault e = go (halted e).why
     where
       go : Why d log r x.answer → 0 < number_of x.answer
@@ -248,26 +247,26 @@ module _ (d : Directory) (log : List ℕ) (r : LogReader) (x : Refusal) where
       go (in_record b l q) = above inside_fault Cut log r.position x.answer (λ tag. refl) (omega arith) (told-inside log r.position l x.answer d r.validate r.crc32 q)
       go (at-opening b l q) = above opening_fault EndOfLog log r.position x.answer (λ tag. refl) (omega arith) (told-opening log r.position l x.answer r.validate q)
 
-  next-is : next_of d log r ≡ Refused x → (b : Bool) → directory_kept d ≡ b → (0 < number_of x.answer) × (x.position ≡ r.position)
+  next-is : next_of d log r ≡ Err x → (b : Bool) → directory_kept d ≡ b → (0 < number_of x.answer) × (x.position ≡ r.position)
   unfolding next_of
-  next-is e true q = let f : step_of d log r ≡ Refused x = rw q at e in (step-fault f, (halted f).place)
+  next-is e true q = let f : step_of d log r ≡ Err x = rw q at e in (step-fault f, (halted f).place)
   next-is e false q =
-      let f : refused BadState r.position ≡ Refused x = rw q at e in
+      let f : refused BadState r.position ≡ Err x = rw q at e in
       let s : refusal BadState r.position ≡ x = cc in
       (subst (λ (y : Refusal). 0 < number_of y.answer) s (omega arith), sym (ap (λ (y : Refusal). y.position) s))
 
   -- A REFUSAL OF `next` HAS A NUMBER ABOVE 0
-  pub next-fault : next_of d log r ≡ Refused x → 0 < number_of x.answer
+  pub next-fault : next_of d log r ≡ Err x → 0 < number_of x.answer
   next-fault e = (next-is e (directory_kept d) refl).0
 
   -- "the byte position of the first byte of the action at fault": a step is told where the reader stands, whatever the answer
-  pub next_place : next_of d log r ≡ Refused x → x.position ≡ r.position
+  pub next_place : next_of d log r ≡ Err x → x.position ≡ r.position
   next_place e = (next-is e (directory_kept d) refl).1
 
 -- so a step that answers 0 took an action
-pub next_took : (d : Directory) (log : List ℕ) (r : LogReader) → answer_of (next_of d log r) ≡ 0 → (s : Stepped) × (next_of d log r ≡ Took s)
+pub next_took : (d : Directory) (log : List ℕ) (r : LogReader) → answer_of (next_of d log r) ≡ 0 → (s : Stepped) × (next_of d log r ≡ Ok s)
 next_took d log r e = go (next_of d log r) refl e
   where
-    go : (st : Step) → next_of d log r ≡ st → answer_of st ≡ 0 → (s : Stepped) × (next_of d log r ≡ Took s)
-    go (Took s) q f = (s, q)
-    go (Refused x) q f = absurd (omega (arith, next-fault d log r x q))
+    go : (st : Result Stepped Refusal) → next_of d log r ≡ st → answer_of st ≡ 0 → (s : Stepped) × (next_of d log r ≡ Ok s)
+    go (Ok s) q f = (s, q)
+    go (Err x) q f = absurd (omega (arith, next-fault d log r x q))

@@ -27,12 +27,11 @@ use Rattle.record.specs.declared.action.LogAction.{LogAction}
 use Rattle.record.specs.declared.action.LogAction.TheVariants.{BeginRecord, EndRecord}
 use Rattle.record.specs.declared.item.Key.{Key}
 use Rattle.record.specs.declared.item.ReadItem.{ReadItem}
-use Rattle.record.specs.declared.item.ItemAnswer.TheVariants.{Read}
 use Rattle.record.specs.declared.reader.LogReader.{LogReader}
-use Rattle.record.specs.declared.reader.Step.TheVariants.{Took}
 use Rattle.record.specs.Next.{reader_after, stepped}
 use Rattle.record.specs.Inner.{tag_of_kind, action_by, action_in, got_item}
 use Rattle.record.proofs.Formats.{need-short, need_met, read-give, read-refuse, then_stop, then_got}
+use Rattle.std.specs.Prelude.{Ok}
 
 -- a test, and then a value or a refusal
 abbrev pub tested : {A : Type 0} → Bool → Got A → Answer → Got A
@@ -230,8 +229,8 @@ module _ (tag : ℕ) (h : 8 ≤ tag) where
 back : (s l : ℕ) → s + l - l ≡ s
 back s l = omega arith
 
-pub item_step : (log : List ℕ) (r : LogReader) (i : ReadItem) (g : Got Item) (x : LogAction) (n : LogReader) → got_item (Read i) ≡ g → x ≡ action_in i
-    → n ≡ reader_after log r x (i.start + i.length) → Took (record { action = x; start = i.start; length = i.length; reader = n }) ≡ stepped log r g
+pub item_step : (log : List ℕ) (r : LogReader) (i : ReadItem) (g : Got Item) (x : LogAction) (n : LogReader) → got_item (Ok i) ≡ g → x ≡ action_in i
+    → n ≡ reader_after log r x (i.start + i.length) → Ok (record { action = x; start = i.start; length = i.length; reader = n }) ≡ stepped log r g
 item_step log r i g x n e q m = rw (← e, back i.start i.length, m, q)
 
 -- the action of an insertion's tag

@@ -20,9 +20,9 @@ use Rattle.answer.specs.declared.answer.Answer.TheVariants.{BadArgument}
 use Rattle.record.specs.declared.action.LogAction.{LogAction}
 use Rattle.record.specs.declared.reader.LogReader.{LogReader}
 use Rattle.record.specs.declared.reader.Stepped.{Stepped}
-use Rattle.record.specs.declared.reader.Step.{Step}
-use Rattle.record.specs.declared.reader.Step.TheVariants.{Took}
 use Rattle.record.proofs.Formats.{within, within-need, local, same-part, moved, from}
+use Rattle.std.specs.Prelude.{Result, Ok}
+use Rattle.answer.specs.declared.answer.Refusal.{Refusal}
 
 -- ---- the reader behind a step stands where the bytes taken end
 
@@ -38,24 +38,24 @@ after-position log r action end = go (is_end action) refl
 
 pub data Read (d : Directory) (log : List ℕ) (r : LogReader) (s : Stepped) : Type 0 where
   within_record : r.inside ≡ true → (i : Item) (end : ℕ) → read_at (inside d r.validate r.crc32) r.position log ≡ got i end
-      → Took s ≡ stepped log r (got i end) → Read d log r s
+      → Ok s ≡ stepped log r (got i end) → Read d log r s
   at-opening : r.inside ≡ false → (id end : ℕ) → read_at (opening r.validate) r.position log ≡ got id end
-      → Took s ≡ opened log r (got id end) → Read d log r s
+      → Ok s ≡ opened log r (got id end) → Read d log r s
 
 pub record Taken (d : Directory) (log : List ℕ) (r : LogReader) (s : Stepped) : Type 0 where
   pub fits : r.position ≤ length log
   pub read : Read d log r s
 
-pub taken : (d : Directory) (log : List ℕ) (r : LogReader) (s : Stepped) → step_of d log r ≡ Took s → Taken d log r s
+pub taken : (d : Directory) (log : List ℕ) (r : LogReader) (s : Stepped) → step_of d log r ≡ Ok s → Taken d log r s
 unfolding step_of
 taken d log r s e = placed (ltb (length log) r.position) refl
   where
-    insides : r.inside ≡ true → stepped log r (read_at (inside d r.validate r.crc32) r.position log) ≡ Took s → (g : Got Item)
+    insides : r.inside ≡ true → stepped log r (read_at (inside d r.validate r.crc32) r.position log) ≡ Ok s → (g : Got Item)
         → read_at (inside d r.validate r.crc32) r.position log ≡ g → Read d log r s
     insides b f (stopped a) q = let z : ◌≡◌ {A = ℕ} 0 1 = cc (rw q at f) in absurd (omega arith)
     insides b f (got i end) q = within_record b i end q (sym (rw q at f))
 
-    openings : r.inside ≡ false → opened log r (read_at (opening r.validate) r.position log) ≡ Took s → (g : Got ℕ)
+    openings : r.inside ≡ false → opened log r (read_at (opening r.validate) r.position log) ≡ Ok s → (g : Got ℕ)
         → read_at (opening r.validate) r.position log ≡ g → Read d log r s
     openings b f (stopped a) q = let z : ◌≡◌ {A = ℕ} 0 1 = cc (rw q at f) in absurd (omega arith)
     openings b f (got id end) q = at-opening b id end q (sym (rw q at f))
@@ -73,7 +73,7 @@ taken d log r s e = placed (ltb (length log) r.position) refl
 pub step-opens : (d : Directory) (log : List ℕ) (r : LogReader) → r.inside ≡ false → step_of d log r ≡ opening_of log r
 unfolding step_of opening_of
 step-opens d log r b =
-    ap (λ (x : Step). if ltb (length log) r.position then refused BadArgument r.position else x) (if_false r.inside _ _ b)
+    ap (λ (x : Result Stepped Refusal). if ltb (length log) r.position then refused BadArgument r.position else x) (if_false r.inside _ _ b)
 
 -- ---- it moves forward within the log
 
@@ -86,7 +86,7 @@ module _ (at : ℕ) (log : List ℕ) (fits : at ≤ length log) where
   unfolding opening
   opening_on validate id end q = within-need 1 _ _ at log id end fits q
 
-position-of : (s t : Stepped) → Took s ≡ Took t → s.reader.position ≡ t.reader.position
+position-of : (s t : Stepped) → ◌≡◌ {A = Result Stepped Refusal} (Ok s) (Ok t) → s.reader.position ≡ t.reader.position
 position-of s t q = let p : s ≡ t = cc in ap (λ (x : Stepped). x.reader.position) p
 
 -- where the step's bytes end
@@ -107,7 +107,7 @@ ends_on {d} {log} {r} {s} h (at-opening b id end q f) =
     (opening_on r.position log h r.validate id end q, (within (opening r.validate) r.position log id end h q).inside)
 
 -- each taken step moves forward and stays in the log
-pub step-on : (d : Directory) (log : List ℕ) (r : LogReader) (s : Stepped) → step_of d log r ≡ Took s → On log r s
+pub step-on : (d : Directory) (log : List ℕ) (r : LogReader) (s : Stepped) → step_of d log r ≡ Ok s → On log r s
 step-on d log r s e =
     let t : Taken d log r s = taken d log r s e in
     let p : s.reader.position ≡ ends t.read = ends_at t.read in
@@ -133,7 +133,7 @@ module _ (d : Directory) (log : List ℕ) (r : LogReader) (s : Stepped) (more : 
   placed : (end : ℕ) → r.position + 1 ≤ end → end ≤ length log → ltb (length (cut end)) r.position ≡ false
   placed end h k = le-ltb (length (cut end)) r.position (simp length-append (omega (arith, length-take-le end log k)))
 
-  again : (t : Read d log r s) → step_of d (cut (ends t)) r ≡ Took s
+  again : (t : Read d log r s) → step_of d (cut (ends t)) r ≡ Ok s
   unfolding step_of ends
   again (within_record b i end q f) =
       let w : (r.position + 1 ≤ end) × (end ≤ length log) = ends_on {d = d} {log = log} {r = r} {s = s} fits (within_record b i end q f) in
@@ -149,8 +149,8 @@ module _ (d : Directory) (log : List ℕ) (r : LogReader) (s : Stepped) (more : 
       ∙ rw (same-forward (beginning r id) end log more (omega (arith, w.0)) w.1) (sym f)
 
 -- a step looks at nothing behind the bytes it takes: it survives any cutting behind them, and any bytes behind them
-pub step_local : (d : Directory) (log : List ℕ) (r : LogReader) (s : Stepped) → step_of d log r ≡ Took s
-    → (more : List ℕ) → step_of d (take s.reader.position log ++ more) r ≡ Took s
+pub step_local : (d : Directory) (log : List ℕ) (r : LogReader) (s : Stepped) → step_of d log r ≡ Ok s
+    → (more : List ℕ) → step_of d (take s.reader.position log ++ more) r ≡ Ok s
 step_local d log r s e more =
     let t : Taken d log r s = taken d log r s e in
     ap (λ (n : ℕ). step_of d (take n log ++ more) r) (ends_at t.read) ∙ again d log r s more t.fits t.read

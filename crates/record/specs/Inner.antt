@@ -1,5 +1,6 @@
 -- What the reader's inner functions answer, seen as what a format reads. Nothing here has to be believed: `Next` says what `next` answers.
-use Rattle.std.specs.Prelude.{◌≡◌, List, ℕ, ◌+◌, eqb, get_or}
+use Rattle.std.specs.Prelude.{◌≡◌, List, ℕ, ◌+◌, eqb, get_or, Option, Some, None, Result, Ok, Err}
+use Rattle.answer.specs.declared.answer.Answer.{Answer}
 use Rattle.std.specs.Prelude.{if◌then◌else◌}
 use Rattle.words.specs.Words.{little_at}
 use Rattle.directory.specs.Directory.{find_table}
@@ -13,25 +14,12 @@ use Rattle.record.specs.Record.{Item, insert_of, drop_index, drop_ref_count}
 use Rattle.record.specs.declared.action.LogAction.{LogAction}
 use Rattle.record.specs.declared.action.LogAction.TheVariants.{BeginRecord, EndRecord}
 use Rattle.record.specs.declared.item.Key.{Key}
-use Rattle.record.specs.declared.item.KeyAnswer.{KeyAnswer}
-use Rattle.record.specs.declared.item.KeyAnswer.TheVariants.{Known, NoKey}
 use Rattle.record.specs.declared.item.ReadItem.{ReadItem}
-use Rattle.record.specs.declared.item.ItemAnswer.{ItemAnswer}
-use Rattle.record.specs.declared.item.ItemAnswer.TheVariants.{Read, NoItem}
-use Rattle.record.specs.declared.item.TableAnswer.{TableAnswer}
-use Rattle.record.specs.declared.item.TableAnswer.TheVariants.{Table, NoTable}
-use Rattle.record.specs.declared.search.Named.{Named}
-use Rattle.record.specs.declared.search.Named.TheVariants as named
-use Rattle.record.specs.declared.opening.IdAnswer.{IdAnswer}
-use Rattle.record.specs.declared.opening.IdAnswer.TheVariants.{Opened, NotOpened}
 
-abbrev pub got_key : KeyAnswer → ℕ → Got Key
-got_key (NoKey answer) end = stopped answer
-got_key (Known k) end = got k end
-
-abbrev pub got_table : TableAnswer → ℕ → Got ℕ
-got_table (NoTable answer) end = stopped answer
-got_table (Table number) end = got number end
+-- of a key, a table's number or an id, behind which the bytes read end
+abbrev pub got_by : {A : Type 0} → Result A Answer → ℕ → Got A
+got_by (Err answer) end = stopped answer
+got_by (Ok a) end = got a end
 
 -- the tag of an insertion
 abbrev pub tag_of_kind : TableKind → ℕ
@@ -54,34 +42,30 @@ action_by tag table index =
 abbrev pub action_in : ReadItem → LogAction
 action_in i = action_by i.tag i.table i.index
 
-abbrev pub got_item : ItemAnswer → Got Item
-got_item (NoItem answer) = stopped answer
-got_item (Read i) = got (record { action = action_in i; payload = i.length }) (i.start + i.length)
-
-abbrev pub got_id : IdAnswer → ℕ → Got ℕ
-got_id (NotOpened answer) end = stopped answer
-got_id (Opened id) end = got id end
+abbrev pub got_item : Result ReadItem Answer → Got Item
+got_item (Err answer) = stopped answer
+got_item (Ok i) = got (record { action = action_in i; payload = i.length }) (i.start + i.length)
 
 -- ---- the table that an action names, looked up before the action is read
 
--- by its tag
-unfoldable pub named_by_tag : ℕ → ℕ → Named
+-- by its tag: the kind and the number, or none
+unfoldable pub named_by_tag : ℕ → ℕ → Option (TableKind × ℕ)
 named_by_tag tag number =
-    if eqb tag 2 then named.Table Index number else
-    if eqb tag 3 then named.Table Value number else
-    if eqb tag 5 then named.Table Index number else
-    if eqb tag 6 then named.Table RefCount number else
-    if eqb tag 7 then named.Table RefCount number else
-    named.Nothing
+    if eqb tag 2 then Some (Index, number) else
+    if eqb tag 3 then Some (Value, number) else
+    if eqb tag 5 then Some (Index, number) else
+    if eqb tag 6 then Some (RefCount, number) else
+    if eqb tag 7 then Some (RefCount, number) else
+    None
 
 -- of the action at a place
-abbrev pub named_in : List ℕ → ℕ → Named
+abbrev pub named_in : List ℕ → ℕ → Option (TableKind × ℕ)
 named_in log at = named_by_tag (get_or log at 0) (little_at 2 log (at + 1))
 
 -- what the search for it finds
-abbrev pub looked_up : Directory → Named → Found
-looked_up d named.Nothing = found.Nothing
-looked_up d (named.Table kind number) = find_table d kind number
+abbrev pub looked_up : Directory → Option (TableKind × ℕ) → Found
+looked_up d None = found.Nothing
+looked_up d (Some (kind, number)) = find_table d kind number
 
 -- the same of the action at a place
 abbrev pub sought_in : Directory → List ℕ → ℕ → Found

@@ -1,6 +1,6 @@
 -- `LogReader::next`: one step of the reader (document 01, "The opening of a record": "A step answers with the action, the place of its
 -- payload and the cursor after it, or a refusal."; log.rs 251-330).
-use Rattle.std.specs.Prelude.{Bool, true, false, List, ℕ, ◌-◌, ltb, length, take, drop}
+use Rattle.std.specs.Prelude.{Bool, true, false, List, ℕ, ◌-◌, ltb, length, take, drop, Result, Ok, Err}
 use Rattle.std.specs.Prelude.{if◌then◌else◌}
 use Rattle.checksum.specs.Checksum.{all_ones, updated}
 use Rattle.directory.specs.Directory.{directory_kept}
@@ -13,17 +13,17 @@ use Rattle.answer.specs.declared.answer.Answer.TheVariants.{Done, BadState, BadA
 use Rattle.record.specs.declared.action.LogAction.{LogAction}
 use Rattle.record.specs.declared.action.LogAction.TheVariants.{BeginRecord, InsertIndex, InsertValue, InsertRefCount, EndRecord, DropTable, DropRefCountTable}
 use Rattle.record.specs.declared.reader.LogReader.{LogReader}
-use Rattle.record.specs.declared.reader.Step.{Step}
-use Rattle.record.specs.declared.reader.Step.TheVariants.{Took, Refused}
+use Rattle.record.specs.declared.reader.Stepped.{Stepped}
+use Rattle.answer.specs.declared.answer.Refusal.{Refusal}
 
 -- a step that refuses, and where
-abbrev pub refused : Answer → ℕ → Step
-refused answer position = Refused (refusal answer position)
+abbrev pub refused : Answer → ℕ → Result Stepped Refusal
+refused answer position = Err (refusal answer position)
 
 -- the number that a step answers: 0, or that of the refusal
-abbrev pub answer_of : Step → ℕ
-answer_of (Took s) = number_of Done
-answer_of (Refused x) = number_of x.answer
+abbrev pub answer_of : Result Stepped Refusal → ℕ
+answer_of (Ok s) = number_of Done
+answer_of (Err x) = number_of x.answer
 
 -- whether an action ends its record
 abbrev pub is_end : LogAction → Bool
@@ -63,9 +63,9 @@ reader_after log r action end = if is_end action then closed r end else forward_
 
 -- a step inside a record: the payload is the last bytes it took. A step begins with its action, so "the first byte of the action at fault" is
 -- where the reader stands; "for 2 with no further action begun, the log's end" is that place too (document 02, "Five")
-abbrev pub stepped : List ℕ → LogReader → Got Item → Step
+abbrev pub stepped : List ℕ → LogReader → Got Item → Result Stepped Refusal
 stepped log r (stopped answer) = refused answer r.position
-stepped log r (got item end) = Took (record {
+stepped log r (got item end) = Ok (record {
   action = item.action;
   start = end - item.payload;
   length = item.payload;
@@ -77,25 +77,25 @@ abbrev pub beginning : LogReader → ℕ → LogReader
 beginning r id = record { position = r.position; record_id = id; crc32 = all_ones; validate = r.validate; inside = true }
 
 -- what the step answers at an opening: the refusal, told at "the record's start", or the begin tag, behind which the reader stands
-abbrev pub opened : List ℕ → LogReader → Got ℕ → Step
+abbrev pub opened : List ℕ → LogReader → Got ℕ → Result Stepped Refusal
 opened log r (stopped answer) = refused answer r.position
-opened log r (got id end) = Took (record { action = BeginRecord; start = end; length = 0; reader = forward_to log (beginning r id) end })
+opened log r (got id end) = Ok (record { action = BeginRecord; start = end; length = 0; reader = forward_to log (beginning r id) end })
 
 -- a record's opening, tried at the reader's position: "then for reading 14, then faults in byte order"; "for 13 and 14 the position handed
 -- in". No directory has a say in it
 -- (log.rs 1038-1063, `read_next`)
-unfoldable pub opening_of : List ℕ → LogReader → Step
+unfoldable pub opening_of : List ℕ → LogReader → Result Stepped Refusal
 opening_of log r =
     if ltb (length log) r.position then refused BadArgument r.position else
     opened log r (read_at (opening r.validate) r.position log)
 
 -- a step: inside a record what stands there, between records an opening
-unfoldable pub step_of : Directory → List ℕ → LogReader → Step
+unfoldable pub step_of : Directory → List ℕ → LogReader → Result Stepped Refusal
 step_of d log r =
     if ltb (length log) r.position then refused BadArgument r.position else
     if r.inside then stepped log r (read_at (inside d r.validate r.crc32) r.position log) else
     opened log r (read_at (opening r.validate) r.position log)
 
 -- "Order in every call: 13, then .."
-unfoldable pub next_of : Directory → List ℕ → LogReader → Step
+unfoldable pub next_of : Directory → List ℕ → LogReader → Result Stepped Refusal
 next_of d log r = if directory_kept d then step_of d log r else refused BadState r.position

@@ -1,10 +1,9 @@
 -- What a step is held against by the theorems that say how far it goes and what it looks at; `Next` says what is answered.
-use Rattle.std.specs.Prelude.{List, ℕ, ◌+◌, ◌<◌, ◌≤◌, length}
+use Rattle.std.specs.Prelude.{List, ℕ, ◌+◌, ◌<◌, ◌≤◌, length, Result, Ok, Err}
 use Rattle.record.specs.Next.{refused}
 use Rattle.record.specs.declared.reader.LogReader.{LogReader}
-use Rattle.record.specs.declared.reader.Step.{Step}
-use Rattle.record.specs.declared.reader.Step.TheVariants.{Took, Refused}
 use Rattle.record.specs.declared.reader.Stepped.{Stepped}
+use Rattle.answer.specs.declared.answer.Refusal.{Refusal}
 
 -- a step goes forward and stays in the log
 pub record On (log : List ℕ) (r : LogReader) (s : Stepped) : Type 0 where
@@ -12,9 +11,9 @@ pub record On (log : List ℕ) (r : LogReader) (s : Stepped) : Type 0 where
   pub inside : s.reader.position ≤ length log
 
 -- a step's answer with n bytes more in front
-abbrev pub moved_step : ℕ → Step → Step
-moved_step n (Refused x) = refused x.answer (n + x.position)
-moved_step n (Took s) = Took (record {
+abbrev pub moved_step : ℕ → Result Stepped Refusal → Result Stepped Refusal
+moved_step n (Err x) = refused x.answer (n + x.position)
+moved_step n (Ok s) = Ok (record {
   action = s.action;
   start = n + s.start;
   length = s.length;

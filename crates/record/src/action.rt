@@ -43,15 +43,15 @@ impl LogAction {
         match kind {
             TableKind::Index => LogAction::InsertIndex(InsertIndexAction {
                 table: IndexTableId(table),
-                index: index,
+                index,
             }),
             TableKind::Value => LogAction::InsertValue(InsertValueAction {
                 table: ValueTableId(table),
-                index: index,
+                index,
             }),
             TableKind::RefCount => LogAction::InsertRefCount(InsertRefCountAction {
                 table: RefCountTableId(table),
-                index: index,
+                index,
             }),
         }
     }

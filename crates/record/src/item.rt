@@ -6,7 +6,7 @@ ghost use Rattle.directory.specs.declared.directory.Directory.{Directory};
 ghost use Rattle.directory.specs.declared.table.TableKind.{TableKind};
 ghost use Rattle.directory.specs.declared.table.TableKind.TheVariants.{Index, Value, RefCount};
 ghost use Rattle.record.specs.Format.{read_at};
-ghost use Rattle.record.specs.Inner.{got_key, got_table, tag_of_kind, action_in, got_item, FoundBy, Sought, sought_in};
+ghost use Rattle.record.specs.Inner.{got_by, tag_of_kind, action_in, got_item, FoundBy, Sought, sought_in};
 ghost use Rattle.record.specs.Record.{key, chunk, masked_item, value_length, value, valued_item, table, dropped_item, drop_index, drop_ref_count, sum_holds, ended_item, inside};
 
 use super::action::LogAction;
@@ -20,18 +20,6 @@ pub struct Key {
     pub table: u16,
     pub index: u64,
     pub description: TableDescription,
-}
-
-#[derive(Clone, Copy)]
-pub enum KeyAnswer {
-    Known(Key),
-    NoKey(Answer),
-}
-
-#[derive(Clone, Copy)]
-pub enum TableAnswer {
-    Table(u16),
-    NoTable(Answer),
 }
 
 // An action in plain numbers, table and index 0 where it has none, and its payload's place; it ends where its payload ends. An action itself
@@ -49,8 +37,7 @@ impl ReadItem {
     pub fn action(self) -> LogAction
         ensures { result ≡ action_in self }
     {
-        let tag = self.tag;
-        match tag {
+        match self.tag {
             2 => LogAction::insert(TableKind::Index, self.table, self.index),
             3 => LogAction::insert(TableKind::Value, self.table, self.index),
             4 => LogAction::EndRecord,
@@ -62,34 +49,27 @@ impl ReadItem {
     }
 }
 
-#[derive(Clone, Copy)]
-pub enum ItemAnswer {
-    Read(ReadItem),
-    NoItem(Answer),
-}
-
 // Table and index, behind the tag of an insertion. Here and below `f` is what the search for the table that is named there has found.
-fn key_at(f: Found, log: &[u8], body: usize) -> KeyAnswer
+fn key_at(f: Found, log: &[u8], body: usize) -> Result<Key, Answer>
     requires { body ≤ length log.now }
-    ensures { (d : Directory) (kind : TableKind) → f ≡ find_table d kind (little_at 2 log.now body) → got_key result (body + 10) ≡ read_at (key d kind) body log.now }
+    ensures { (d : Directory) (kind : TableKind) → f ≡ find_table d kind (little_at 2 log.now body) → got_by result (body + 10) ≡ read_at (key d kind) body log.now }
 {
     if log.len() - body < 10 {
-        return KeyAnswer::NoKey(Answer::Cut);
+        return Err(Answer::Cut);
     }
     let table = words::u16_at(log, body);
     let index = words::u64_at(log, body + 2);
     match f {
-        Found::Nothing => KeyAnswer::NoKey(Answer::NoTable),
+        Found::Nothing => Err(Answer::NoTable),
         Found::At(_, t) => {
-            let count = t.count as u64;
-            if index < count {
-                KeyAnswer::Known(Key {
-                    table: table,
-                    index: index,
+            if index < u64::from(t.count) {
+                Ok(Key {
+                    table,
+                    index,
                     description: t,
                 })
             } else {
-                KeyAnswer::NoKey(Answer::NoIndex)
+                Err(Answer::NoIndex)
             }
         }
     }
@@ -107,36 +87,34 @@ fn insert_tag(kind: TableKind) -> u8
 }
 
 // The mask and its entries, behind a key.
-fn chunk_at(log: &[u8], start: usize, kind: TableKind, width: usize, k: Key) -> ItemAnswer
+fn chunk_at(log: &[u8], start: usize, kind: TableKind, width: usize, k: Key) -> Result<ReadItem, Answer>
     requires { (width ≤ 16) × (start ≤ length log.now) }
     ensures { got_item result ≡ read_at (chunk kind width k) start log.now }
 {
     if log.len() - start < 8 {
-        return ItemAnswer::NoItem(Answer::Cut);
+        return Err(Answer::Cut);
     }
     let mask = words::u64_at(log, start);
     let entries = entries_length(mask, width);
     if log.len() - (start + 8) < entries {
-        return ItemAnswer::NoItem(Answer::Cut);
+        return Err(Answer::Cut);
     }
-    ItemAnswer::Read(ReadItem {
+    Ok(ReadItem {
         index: k.index,
         length: 8 + entries,
         tag: insert_tag(kind),
         table: k.table,
-        start: start,
+        start,
     })
 }
 
 // Tags 2 and 6.
-fn masked_at(f: Found, log: &[u8], body: usize, kind: TableKind, width: usize) -> ItemAnswer
+fn masked_at(f: Found, log: &[u8], body: usize, kind: TableKind, width: usize) -> Result<ReadItem, Answer>
     requires { (width ≤ 16) × (body ≤ length log.now) × FoundBy f kind (little_at 2 log.now body) }
     ensures { (d : Directory) → f ≡ find_table d kind (little_at 2 log.now body) → got_item result ≡ read_at (masked_item d kind width) body log.now }
 {
-    match key_at(f, log, body) {
-        KeyAnswer::NoKey(a) => ItemAnswer::NoItem(a),
-        KeyAnswer::Known(k) => chunk_at(log, body + 10, kind, width, k),
-    }
+    let k = key_at(f, log, body)?;
+    chunk_at(log, body + 10, kind, width, k)
 }
 
 // How many bytes a record has for a value of that table.
@@ -147,32 +125,30 @@ fn value_length(t: TableDescription) -> usize
 }
 
 // The value, behind a key.
-fn value_at(log: &[u8], start: usize, k: Key) -> ItemAnswer
+fn value_at(log: &[u8], start: usize, k: Key) -> Result<ReadItem, Answer>
     requires { start ≤ length log.now }
     ensures { got_item result ≡ read_at (value k) start log.now }
 {
     let length = value_length(k.description);
     if log.len() - start < length {
-        return ItemAnswer::NoItem(Answer::Cut);
+        return Err(Answer::Cut);
     }
-    ItemAnswer::Read(ReadItem {
+    Ok(ReadItem {
         index: k.index,
-        length: length,
+        length,
         tag: 3,
         table: k.table,
-        start: start,
+        start,
     })
 }
 
 // Tag 3.
-fn valued_at(f: Found, log: &[u8], body: usize) -> ItemAnswer
+fn valued_at(f: Found, log: &[u8], body: usize) -> Result<ReadItem, Answer>
     requires { (body ≤ length log.now) × FoundBy f Value (little_at 2 log.now body) }
     ensures { (d : Directory) → f ≡ find_table d Value (little_at 2 log.now body) → got_item result ≡ read_at (valued_item d) body log.now }
 {
-    match key_at(f, log, body) {
-        KeyAnswer::NoKey(a) => ItemAnswer::NoItem(a),
-        KeyAnswer::Known(k) => value_at(log, body + 10, k),
-    }
+    let k = key_at(f, log, body)?;
+    value_at(log, body + 10, k)
 }
 
 // Whether the checksum over all up to the end tag is that number, or nobody asks.
@@ -186,16 +162,16 @@ fn sum_holds(validate: bool, register: u32, sum: u32) -> bool
 }
 
 // Tag 4.
-fn ended_at(log: &[u8], body: usize, validate: bool, register: u32) -> ItemAnswer
+fn ended_at(log: &[u8], body: usize, validate: bool, register: u32) -> Result<ReadItem, Answer>
     requires { body ≤ length log.now }
     ensures { got_item result ≡ read_at (ended_item validate register) body log.now }
 {
     if log.len() - body < 4 {
-        return ItemAnswer::NoItem(Answer::Cut);
+        return Err(Answer::Cut);
     }
     let sum = words::u32_at(log, body);
     if sum_holds(validate, register, sum) {
-        ItemAnswer::Read(ReadItem {
+        Ok(ReadItem {
             index: 0,
             length: 0,
             tag: 4,
@@ -203,77 +179,73 @@ fn ended_at(log: &[u8], body: usize, validate: bool, register: u32) -> ItemAnswe
             start: body + 4,
         })
     } else {
-        ItemAnswer::NoItem(Answer::WrongSum)
+        Err(Answer::WrongSum)
     }
 }
 
 // A table's number, behind the tag of a drop.
-fn table_at(f: Found, log: &[u8], body: usize) -> TableAnswer
+fn table_at(f: Found, log: &[u8], body: usize) -> Result<u16, Answer>
     requires { body ≤ length log.now }
-    ensures { (d : Directory) (kind : TableKind) → f ≡ find_table d kind (little_at 2 log.now body) → got_table result (body + 2) ≡ read_at (table d kind) body log.now }
+    ensures { (d : Directory) (kind : TableKind) → f ≡ find_table d kind (little_at 2 log.now body) → got_by result (body + 2) ≡ read_at (table d kind) body log.now }
 {
     if log.len() - body < 2 {
-        return TableAnswer::NoTable(Answer::Cut);
+        return Err(Answer::Cut);
     }
     let number = words::u16_at(log, body);
     match f {
-        Found::Nothing => TableAnswer::NoTable(Answer::NoTable),
-        Found::At(_, _) => TableAnswer::Table(number),
+        Found::Nothing => Err(Answer::NoTable),
+        Found::At(_, _) => Ok(number),
     }
 }
 
 // Tag 5.
-fn dropped_index_at(f: Found, log: &[u8], body: usize) -> ItemAnswer
+fn dropped_index_at(f: Found, log: &[u8], body: usize) -> Result<ReadItem, Answer>
     requires { body ≤ length log.now }
     ensures { (d : Directory) → f ≡ find_table d Index (little_at 2 log.now body) → got_item result ≡ read_at (dropped_item d Index drop_index) body log.now }
 {
-    match table_at(f, log, body) {
-        TableAnswer::NoTable(a) => ItemAnswer::NoItem(a),
-        TableAnswer::Table(number) => ItemAnswer::Read(ReadItem {
-            index: 0,
-            length: 0,
-            tag: 5,
-            table: number,
-            start: body + 2,
-        }),
-    }
+    let table = table_at(f, log, body)?;
+    Ok(ReadItem {
+        index: 0,
+        length: 0,
+        tag: 5,
+        table,
+        start: body + 2,
+    })
 }
 
 // Tag 7.
-fn dropped_ref_count_at(f: Found, log: &[u8], body: usize) -> ItemAnswer
+fn dropped_ref_count_at(f: Found, log: &[u8], body: usize) -> Result<ReadItem, Answer>
     requires { body ≤ length log.now }
     ensures { (d : Directory) → f ≡ find_table d RefCount (little_at 2 log.now body) → got_item result ≡ read_at (dropped_item d RefCount drop_ref_count) body log.now }
 {
-    match table_at(f, log, body) {
-        TableAnswer::NoTable(a) => ItemAnswer::NoItem(a),
-        TableAnswer::Table(number) => ItemAnswer::Read(ReadItem {
-            index: 0,
-            length: 0,
-            tag: 7,
-            table: number,
-            start: body + 2,
-        }),
-    }
+    let table = table_at(f, log, body)?;
+    Ok(ReadItem {
+        index: 0,
+        length: 0,
+        tag: 7,
+        table,
+        start: body + 2,
+    })
 }
 
 // The decision on the tag, inside a record.
-pub fn item_at(f: Found, log: &[u8], at: usize, validate: bool, register: u32) -> ItemAnswer
+pub fn item_at(f: Found, log: &[u8], at: usize, validate: bool, register: u32) -> Result<ReadItem, Answer>
     requires { (at ≤ length log.now) × Sought f log.now at }
     ensures { (d : Directory) → f ≡ sought_in d log.now at → got_item result ≡ read_at (inside d validate register) at log.now }
 {
     if log.len() - at < 1 {
-        return ItemAnswer::NoItem(Answer::Cut);
+        return Err(Answer::Cut);
     }
     let tag = log[at];
     let body = at + 1;
     match tag {
-        1 => ItemAnswer::NoItem(Answer::OutOfPlace),
+        1 => Err(Answer::OutOfPlace),
         2 => masked_at(f, log, body, TableKind::Index, 8),
         3 => valued_at(f, log, body),
         4 => ended_at(log, body, validate, register),
         5 => dropped_index_at(f, log, body),
         6 => masked_at(f, log, body, TableKind::RefCount, 16),
         7 => dropped_ref_count_at(f, log, body),
-        0 | 8..=255 => ItemAnswer::NoItem(Answer::UnknownTag),
+        0 | 8..=255 => Err(Answer::UnknownTag),
     }
 }

@@ -9,6 +9,6 @@ mod reader;
 mod search;
 
 pub use action::{InsertIndexAction, InsertRefCountAction, InsertValueAction, LogAction};
-pub use item::{ItemAnswer, ReadItem, item_at};
-pub use reader::{LogReader, Step, Stepped};
+pub use item::{ReadItem, item_at};
+pub use reader::{LogReader, Stepped};
 pub use search::sought_in;

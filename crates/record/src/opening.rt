@@ -1,65 +1,59 @@
 // The opening of a record.
 ghost use Rattle.std.specs.Prelude.{◌≡◌, ◌+◌, ◌≤◌, length};
 ghost use Rattle.record.specs.Format.{read_at};
-ghost use Rattle.record.specs.Inner.{got_id};
+ghost use Rattle.record.specs.Inner.{got_by};
 ghost use Rattle.record.specs.Record.{begun_id, early, early_end, opening};
 
 use answer::Answer;
 
-#[derive(Clone, Copy)]
-pub enum IdAnswer {
-    Opened(u64),
-    NotOpened(Answer),
-}
-
 // Tag 1.
-fn begun_at(log: &[u8], body: usize) -> IdAnswer
+fn begun_at(log: &[u8], body: usize) -> Result<u64, Answer>
     requires { body ≤ length log.now }
-    ensures { got_id result (body + 8) ≡ read_at begun_id body log.now }
+    ensures { got_by result (body + 8) ≡ read_at begun_id body log.now }
 {
     if log.len() - body < 8 {
-        return IdAnswer::NotOpened(Answer::EndOfLog);
+        return Err(Answer::EndOfLog);
     }
-    IdAnswer::Opened(words::u64_at(log, body))
+    Ok(words::u64_at(log, body))
 }
 
 // An action other than begin, of which so many bytes are wanted behind the tag.
-fn early_at(log: &[u8], body: usize, k: usize) -> IdAnswer
+fn early_at(log: &[u8], body: usize, k: usize) -> Result<u64, Answer>
     requires { body ≤ length log.now }
-    ensures { got_id result (body + 8) ≡ read_at (early k) body log.now }
+    ensures { got_by result (body + 8) ≡ read_at (early k) body log.now }
 {
     if log.len() - body < k {
-        return IdAnswer::NotOpened(Answer::EndOfLog);
+        return Err(Answer::EndOfLog);
     }
-    IdAnswer::NotOpened(Answer::OutOfPlace)
+    Err(Answer::OutOfPlace)
 }
 
 // Tag 4.
-fn early_end_at(log: &[u8], body: usize, validate: bool) -> IdAnswer
+fn early_end_at(log: &[u8], body: usize, validate: bool) -> Result<u64, Answer>
     requires { body ≤ length log.now }
-    ensures { got_id result (body + 8) ≡ read_at (early_end validate) body log.now }
+    ensures { got_by result (body + 8) ≡ read_at (early_end validate) body log.now }
 {
     if log.len() - body < 4 {
-        return IdAnswer::NotOpened(Answer::EndOfLog);
+        return Err(Answer::EndOfLog);
     }
     let sum = words::u32_at(log, body);
     if !validate {
-        return IdAnswer::NotOpened(Answer::OutOfPlace);
+        return Err(Answer::OutOfPlace);
     }
     if sum == checksum::checksum(b"\x04") {
-        IdAnswer::NotOpened(Answer::OutOfPlace)
+        Err(Answer::OutOfPlace)
     } else {
-        IdAnswer::NotOpened(Answer::WrongSum)
+        Err(Answer::WrongSum)
     }
 }
 
 // The decision on the tag, where a record opens.
-pub fn opening_at(log: &[u8], at: usize, validate: bool) -> IdAnswer
+pub fn opening_at(log: &[u8], at: usize, validate: bool) -> Result<u64, Answer>
     requires { at ≤ length log.now }
-    ensures { got_id result (at + 1 + 8) ≡ read_at (opening validate) at log.now }
+    ensures { got_by result (at + 1 + 8) ≡ read_at (opening validate) at log.now }
 {
     if log.len() - at < 1 {
-        return IdAnswer::NotOpened(Answer::EndOfLog);
+        return Err(Answer::EndOfLog);
     }
     let tag = log[at];
     let body = at + 1;
@@ -71,6 +65,6 @@ pub fn opening_at(log: &[u8], at: usize, validate: bool) -> IdAnswer
         5 => early_at(log, body, 2),
         6 => early_at(log, body, 10),
         7 => early_at(log, body, 2),
-        0 | 8..=255 => IdAnswer::NotOpened(Answer::UnknownTag),
+        0 | 8..=255 => Err(Answer::UnknownTag),
     }
 }

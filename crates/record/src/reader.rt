@@ -8,8 +8,8 @@ ghost use Rattle.record.specs.Next.{refused, reader_at, plain, forward_to, reade
 ghost use Rattle.record.specs.Record.{inside, opening};
 
 use super::action::LogAction;
-use super::item::{ItemAnswer, item_at};
-use super::opening::{IdAnswer, opening_at};
+use super::item::item_at;
+use super::opening::opening_at;
 use super::search::sought;
 use answer::{Answer, Refusal};
 use directory::{Directory, Found};
@@ -34,16 +34,10 @@ pub struct Stepped {
     pub reader: LogReader,
 }
 
-#[derive(Clone, Copy)]
-pub enum Step {
-    Took(Stepped),
-    Refused(Refusal),
-}
-
-fn refuse(answer: Answer, position: usize) -> Step
+fn refuse(answer: Answer, position: usize) -> Result<Stepped, Refusal>
     ensures { result ≡ refused answer position }
 {
-    Step::Refused(Refusal::new(answer, position))
+    Err(Refusal::new(answer, position))
 }
 
 impl LogReader {
@@ -52,10 +46,10 @@ impl LogReader {
         ensures { result ≡ reader_at position validate }
     {
         LogReader {
-            position: position,
+            position,
             record_id: 0,
             crc32: checksum::START,
-            validate: validate,
+            validate,
             inside: false,
         }
     }
@@ -110,35 +104,35 @@ impl LogReader {
     }
 
     // Inside a record.
-    fn step_inside(self, f: Found, log: &[u8]) -> Step
+    fn step_inside(self, f: Found, log: &[u8]) -> Result<Stepped, Refusal>
         requires { (self.position ≤ length log.now) × Sought f log.now self.position }
         ensures { (d : Directory) → f ≡ sought_in d log.now self.position
             → result ≡ stepped log.now self (read_at (inside d self.validate self.crc32) self.position log.now) }
     {
         match item_at(f, log, self.position, self.validate, self.crc32) {
-            ItemAnswer::NoItem(a) => refuse(a, self.position),
-            ItemAnswer::Read(i) => {
+            Err(a) => refuse(a, self.position),
+            Ok(i) => {
                 let action = i.action();
                 let reader = self.after(log, action, i.start + i.length);
-                Step::Took(Stepped {
-                    action: action,
+                Ok(Stepped {
+                    action,
                     start: i.start,
                     length: i.length,
-                    reader: reader,
+                    reader,
                 })
             }
         }
     }
 
     // Between records.
-    fn step_opening(self, log: &[u8]) -> Step
+    fn step_opening(self, log: &[u8]) -> Result<Stepped, Refusal>
         requires { self.position ≤ length log.now }
         ensures { result ≡ opened log.now self (read_at (opening self.validate) self.position log.now) }
     {
         let at = self.position;
         match opening_at(log, at, self.validate) {
-            IdAnswer::NotOpened(a) => refuse(a, at),
-            IdAnswer::Opened(id) => {
+            Err(a) => refuse(a, at),
+            Ok(id) => {
                 let begun = LogReader {
                     position: at,
                     record_id: id,
@@ -147,7 +141,7 @@ impl LogReader {
                     inside: true,
                 };
                 let end = at + 1 + 8;
-                Step::Took(Stepped {
+                Ok(Stepped {
                     action: LogAction::BeginRecord,
                     start: end,
                     length: 0,
@@ -158,7 +152,7 @@ impl LogReader {
     }
 
     // A record's opening, which needs no directory.
-    pub fn open(self, log: &[u8]) -> Step
+    pub fn open(self, log: &[u8]) -> Result<Stepped, Refusal>
         ensures { result ≡ opening_of log.now self }
     {
         if log.len() < self.position {
@@ -168,7 +162,7 @@ impl LogReader {
     }
 
     // The next action under a directory that was tested already.
-    pub fn next_kept(self, directory: Directory, log: &[u8]) -> Step
+    pub fn next_kept(self, directory: Directory, log: &[u8]) -> Result<Stepped, Refusal>
         requires { directory_kept directory ≡ true }
         ensures { result ≡ step_of directory log.now self }
     {
@@ -184,7 +178,7 @@ impl LogReader {
     }
 
     // The next action of the log.
-    pub fn next(self, directory: Directory, log: &[u8]) -> Step
+    pub fn next(self, directory: Directory, log: &[u8]) -> Result<Stepped, Refusal>
         ensures { result ≡ next_of directory log.now self }
     {
         if directory.kept() {

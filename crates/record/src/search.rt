@@ -6,13 +6,6 @@ ghost use Rattle.record.specs.Inner.{named_in, sought_in};
 
 use directory::{Directory, Found, TableKind};
 
-// A kind and a number, or none.
-#[derive(Clone, Copy)]
-pub enum Named {
-    Table(TableKind, u16),
-    Nothing,
-}
-
 // The number behind a tag, as far as there are bytes.
 fn number_at(log: &[u8], at: usize) -> u16
     requires { at ≤ length log.now }
@@ -24,22 +17,22 @@ fn number_at(log: &[u8], at: usize) -> u16
     if at < log.len() { log[at] as u16 } else { 0 }
 }
 
-// By the tag.
-fn named_at(log: &[u8], at: usize) -> Named
+// By the tag: the kind and the number, or none.
+fn named_at(log: &[u8], at: usize) -> Option<(TableKind, u16)>
     requires { at ≤ length log.now }
     ensures { result ≡ named_in log.now at }
 {
     if log.len() <= at {
-        return Named::Nothing;
+        return None;
     }
     let number = number_at(log, at + 1);
     match log[at] {
-        2 => Named::Table(TableKind::Index, number),
-        3 => Named::Table(TableKind::Value, number),
-        5 => Named::Table(TableKind::Index, number),
-        6 => Named::Table(TableKind::RefCount, number),
-        7 => Named::Table(TableKind::RefCount, number),
-        _ => Named::Nothing,
+        2 => Some((TableKind::Index, number)),
+        3 => Some((TableKind::Value, number)),
+        5 => Some((TableKind::Index, number)),
+        6 => Some((TableKind::RefCount, number)),
+        7 => Some((TableKind::RefCount, number)),
+        _ => None,
     }
 }
 
@@ -48,8 +41,8 @@ pub fn sought(directory: Directory, log: &[u8], at: usize) -> Found
     ensures { result ≡ sought_in directory log.now at }
 {
     match named_at(log, at) {
-        Named::Nothing => Found::Nothing,
-        Named::Table(kind, number) => directory.find(kind, number),
+        None => Found::Nothing,
+        Some((kind, number)) => directory.find(kind, number),
     }
 }
 
@@ -59,7 +52,7 @@ pub fn sought_in(t: &[u64; 81], log: &[u8], at: usize) -> Found
     ensures { result ≡ sought_in (directory_in t.now) log.now at }
 {
     match named_at(log, at) {
-        Named::Nothing => Found::Nothing,
-        Named::Table(kind, number) => directory::find_in(t, kind, number),
+        None => Found::Nothing,
+        Some((kind, number)) => directory::find_in(t, kind, number),
     }
 }

@@ -1,16 +1,18 @@
 -- `dropped_index_at` meets its contract. Assumes nothing.
-use Prim.Native.Nat.{◌+◌}
+use Prim.Native.Nat.{ℕ, ◌+◌}
 use mathlib.Core.Path.{sym, ap, ◌∙◌}
 use Rattle.directory.specs.declared.table.TableKind.TheVariants.{Index}
-use Rattle.record.specs.Inner.{got_table, action_by}
+use Rattle.record.specs.Inner.{got_by, action_by}
 use Rattle.record.specs.Record.{drop_index}
-use Rattle.record.specs.declared.item.TableAnswer.{TableAnswer}
+use Rattle.std.specs.Prelude.{Result}
+use Rattle.std.proofs.lemmas.Result.{err_from_is_err_and}
+use Rattle.answer.specs.declared.answer.Answer.{Answer}
 use Rattle.record.proofs.Parts.{dropped-stop, dropped_met}
 use Rattle.record.proofs.item.dropped_index_at.Goals as goal
 
-pub returns-in-NoTable : goal.returns-in-NoTable
-returns-in-NoTable c = λ d e. dropped-stop _ _ d Index drop_index _ (sym (ap (λ (x : TableAnswer). got_table x (c.args.body + 2)) c.in-NoTable.is) ∙ c.table_at.ensures d Index e)
+pub returns-in_err-table : goal.returns-in_err-table
+returns-in_err-table c = λ d e. let p = err_from_is_err_and c.from_residual.result c.from_residual.ensures.1 in rw (p.1, p.2) (dropped-stop _ _ d Index drop_index _ (sym (ap (λ (x : Result ℕ Answer). got_by x (c.args.body + 2)) c.in_err-table.was) ∙ c.table_at.ensures d Index e))
 
-pub returns-in-Table : goal.returns-in-Table
+pub returns : goal.returns
 unfolding action_by
-returns-in-Table c = λ d e. dropped_met _ _ d Index drop_index _ (sym (ap (λ (x : TableAnswer). got_table x (c.args.body + 2)) c.in-Table.is) ∙ c.table_at.ensures d Index e)
+returns c = λ d e. dropped_met _ _ d Index drop_index _ (sym (ap (λ (x : Result ℕ Answer). got_by x (c.args.body + 2)) c.in_ok-table.was) ∙ c.table_at.ensures d Index e)

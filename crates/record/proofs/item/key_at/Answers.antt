@@ -13,12 +13,12 @@ returns-in-Nothing c =
     λ d kind e.
     sym (key_met _ _ d kind _ _ _ c.if-log-body-lt10.false c.u16_at-table.ensures c.u64_at-index.ensures (sym c.in-Nothing.is ∙ e ∙ ap (find_table d kind) (sym c.u16_at-table.ensures)))
 
-pub returns-then-index-count : goal.returns-then-index-count
-returns-then-index-count c =
+pub returns-then-index-from : goal.returns-then-index-from
+returns-then-index-from c =
     λ d kind e.
-    sym (key_met _ _ d kind _ _ _ c.if-log-body-lt10.false c.u16_at-table.ensures c.u64_at-index.ensures (sym c.in-At.is ∙ e ∙ ap (find_table d kind) (sym c.u16_at-table.ensures)) ∙ rw (lt-ltb _ _ c.if-index-count.true))
+    sym (key_met _ _ d kind _ _ _ c.if-log-body-lt10.false c.u16_at-table.ensures c.u64_at-index.ensures (sym c.in-At.is ∙ e ∙ ap (find_table d kind) (sym c.u16_at-table.ensures)) ∙ rw (lt-ltb _ _ (rw c.from.ensures at c.if-index-from.true)))
 
-pub returns-else-index-count : goal.returns-else-index-count
-returns-else-index-count c =
+pub returns-else-index-from : goal.returns-else-index-from
+returns-else-index-from c =
     λ d kind e.
-    sym (key_met _ _ d kind _ _ _ c.if-log-body-lt10.false c.u16_at-table.ensures c.u64_at-index.ensures (sym c.in-At.is ∙ e ∙ ap (find_table d kind) (sym c.u16_at-table.ensures)) ∙ rw (le-ltb _ _ c.if-index-count.false))
+    sym (key_met _ _ d kind _ _ _ c.if-log-body-lt10.false c.u16_at-table.ensures c.u64_at-index.ensures (sym c.in-At.is ∙ e ∙ ap (find_table d kind) (sym c.u16_at-table.ensures)) ∙ rw (le-ltb _ _ (rw c.from.ensures at c.if-index-from.false)))

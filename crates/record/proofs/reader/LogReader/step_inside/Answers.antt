@@ -13,21 +13,21 @@ pub overflow_add-i : goal.overflow_add-i
 overflow_add-i c =
     let a = c.args in
     let p = c.requires.1 in
-    let w = within (inside p.directory a.self.validate a.self.crc32) _ _ _ _ c.requires.0 (sym (c.item_at.ensures p.directory p.same) ∙ ap got_item c.in-Read.is) in
+    let w = within (inside p.directory a.self.validate a.self.crc32) _ _ _ _ c.requires.0 (sym (c.item_at.ensures p.directory p.same) ∙ ap got_item c.in-Ok.is) in
     omega (arith, w.inside)
 
 pub after-reader-requires : goal.after-reader-requires
 after-reader-requires c =
     let a = c.args in
     let p = c.requires.1 in
-    let w = within (inside p.directory a.self.validate a.self.crc32) _ _ _ _ c.requires.0 (sym (c.item_at.ensures p.directory p.same) ∙ ap got_item c.in-Read.is) in
+    let w = within (inside p.directory a.self.validate a.self.crc32) _ _ _ _ c.requires.0 (sym (c.item_at.ensures p.directory p.same) ∙ ap got_item c.in-Ok.is) in
     (w.behind, w.inside)
 
-pub returns-in-NoItem : goal.returns-in-NoItem
-returns-in-NoItem c =
+pub returns-in-Err : goal.returns-in-Err
+returns-in-Err c =
     λ d e.
     let a = c.args in
-    c.refuse.ensures ∙ ap (λ (g : Got Item). stepped a.log.now a.self g) (sym (ap got_item c.in-NoItem.is) ∙ c.item_at.ensures d e)
+    c.refuse.ensures ∙ ap (λ (g : Got Item). stepped a.log.now a.self g) (sym (ap got_item c.in-Err.is) ∙ c.item_at.ensures d e)
 
-pub returns-in-Read : goal.returns-in-Read
-returns-in-Read c = λ d e. item_step _ _ _ _ _ _ (sym (ap got_item c.in-Read.is) ∙ c.item_at.ensures d e) c.action-action.ensures c.after-reader.ensures
+pub returns-in-Ok : goal.returns-in-Ok
+returns-in-Ok c = λ d e. item_step _ _ _ _ _ _ (sym (ap got_item c.in-Ok.is) ∙ c.item_at.ensures d e) c.action-action.ensures c.after-reader.ensures
