@@ -17,8 +17,6 @@ use Rattle.directory.specs.declared.table.TableKind.{TableKind}
 use Rattle.directory.specs.declared.table.TableKind.TheVariants.{Index, Value, RefCount}
 use Rattle.directory.specs.declared.table.TableDescription.{TableDescription}
 use Rattle.directory.specs.declared.directory.Directory.{Directory}
-use Rattle.directory.specs.declared.directory.Found.{Found}
-use Rattle.directory.specs.declared.directory.Found.TheVariants.{At, Nothing}
 use Rattle.answer.specs.Answer.{number_of, refusal}
 use Rattle.answer.specs.declared.answer.Answer.{Answer}
 use Rattle.answer.specs.declared.answer.Answer.TheVariants.{Done, EndOfLog, Cut, UnknownTag, OutOfPlace, WrongId, NoTable, NoIndex, WrongSum, NoRoom, ShortOutput, NotNext, UsedUp, BadState, BadArgument}
@@ -31,7 +29,7 @@ use Rattle.record.specs.declared.action.LogAction.{LogAction}
 use Rattle.record.specs.declared.reader.LogReader.{LogReader}
 use Rattle.record.specs.declared.reader.Stepped.{Stepped}
 use Rattle.record.proofs.Parts.{inside-short, inside_met, opening-short, opening_met, no-tag}
-use Rattle.std.specs.Prelude.{Result, Ok, Err}
+use Rattle.std.specs.Prelude.{Result, Ok, Err, Option, Some, None}
 
 -- every answer with which a format refuses is one of those that P has
 abbrev Refuses : {A : Type 0} → (Answer → Type 0) → Format A → Type 0
@@ -59,9 +57,9 @@ module _ (P : Answer → Type 0) where
   refuses-test true answer g h k = k
   refuses-test false answer g h k = h
 
-  refuses-known : {B : Type 0} (f : Found) (g : TableDescription → Format B) → P NoTable → ((t : TableDescription) → Refuses P (g t)) → Refuses P (known f >>= g)
-  refuses-known Nothing g p h = p
-  refuses-known (At row t) g p h = h t
+  refuses-known : {B : Type 0} (f : Option (ℕ × TableDescription)) (g : TableDescription → Format B) → P NoTable → ((t : TableDescription) → Refuses P (g t)) → Refuses P (known f >>= g)
+  refuses-known None g p h = p
+  refuses-known (Some (row, t)) g p h = h t
 
   -- one tag of those that are asked for
   refuses-tag : {A : Type 0} (tag k : ℕ) (f g : Format A) → (tag ≡ k → Refuses P f) → ((tag ≡ k → ⊥) → Refuses P g) → Refuses P (if eqb tag k then f else g)

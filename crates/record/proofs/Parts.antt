@@ -17,8 +17,7 @@ use Rattle.directory.specs.Directory.{find_table}
 use Rattle.directory.specs.declared.table.TableKind.{TableKind}
 use Rattle.directory.specs.declared.table.TableKind.TheVariants.{Index, Value, RefCount}
 use Rattle.directory.specs.declared.directory.Directory.{Directory}
-use Rattle.directory.specs.declared.directory.Found.{Found}
-use Rattle.directory.specs.declared.directory.Found.TheVariants.{At, Nothing}
+use Rattle.directory.specs.declared.table.TableDescription.{TableDescription}
 use Rattle.record.specs.Format.{refuse, give, Got, stopped, got, read_at, ◌>>◌, test}
 use Rattle.record.specs.Record.{Item, insert_of, key, chunk, value_length, value, table, dropped_item, sum_holds, ended_item, inside_by, inside, early, begun_id, early_end, opening_by, opening}
 use Rattle.answer.specs.declared.answer.Answer.{Answer}
@@ -31,7 +30,7 @@ use Rattle.record.specs.declared.reader.LogReader.{LogReader}
 use Rattle.record.specs.Next.{reader_after, stepped}
 use Rattle.record.specs.Inner.{tag_of_kind, action_by, action_in, got_item}
 use Rattle.record.proofs.Formats.{need-short, need_met, read-give, read-refuse, then_stop, then_got}
-use Rattle.std.specs.Prelude.{Ok}
+use Rattle.std.specs.Prelude.{Ok, Option, Some, None}
 
 -- a test, and then a value or a refusal
 abbrev pub tested : {A : Type 0} → Bool → Got A → Answer → Got A
@@ -52,20 +51,20 @@ module _ {A : Type 0} (answer : Answer) (at : ℕ) (log : List ℕ) where
 module _ (at : ℕ) (log : List ℕ) where
   -- ---- table and index
 
-  abbrev pub key_in : Found → ℕ → ℕ → Got Key
-  key_in Nothing t i = stopped NoTable
-  key_in (At row d) t i = tested (ltb i d.count) (got (record { table = t; index = i; description = d }) (at + 10)) NoIndex
+  abbrev pub key_in : Option (ℕ × TableDescription) → ℕ → ℕ → Got Key
+  key_in None t i = stopped NoTable
+  key_in (Some (row, d)) t i = tested (ltb i d.count) (got (record { table = t; index = i; description = d }) (at + 10)) NoIndex
 
   pub key-short : (d : Directory) (kind : TableKind) → length log - at < 10 → read_at (key d kind) at log ≡ stopped Cut
   unfolding key
   key-short d kind h = need-short 10 Cut _ at log h
 
-  pub key_met : (d : Directory) (kind : TableKind) (t i : ℕ) (f : Found) → 10 ≤ length log - at → t ≡ little_at 2 log at → i ≡ little_at 8 log (at + 2)
+  pub key_met : (d : Directory) (kind : TableKind) (t i : ℕ) (f : Option (ℕ × TableDescription)) → 10 ≤ length log - at → t ≡ little_at 2 log at → i ≡ little_at 8 log (at + 2)
       → f ≡ find_table d kind t → read_at (key d kind) at log ≡ key_in f t i
   unfolding key
-  key_met d kind t i Nothing h e₁ e₂ e₃ =
+  key_met d kind t i None h e₁ e₂ e₃ =
       need_met 10 Cut _ at log h ∙ rw (little_take 2 log at 10 (omega arith), little_drop 2 log at 8, ← e₁, ← e₂, ← e₃) (read-refuse NoTable (at + 10) log)
-  key_met d kind t i (At row r) h e₁ e₂ e₃ =
+  key_met d kind t i (Some (row, r)) h e₁ e₂ e₃ =
       need_met 10 Cut _ at log h
       ∙ rw (little_take 2 log at 10 (omega arith), little_drop 2 log at 8, ← e₁, ← e₂, ← e₃) (test-give NoIndex (at + 10) log (ltb i r.count) _)
 
@@ -98,19 +97,19 @@ module _ (at : ℕ) (log : List ℕ) where
 
   -- ---- the table of a drop
 
-  abbrev pub table_in : Found → ℕ → Got ℕ
-  table_in Nothing t = stopped NoTable
-  table_in (At row d) t = got t (at + 2)
+  abbrev pub table_in : Option (ℕ × TableDescription) → ℕ → Got ℕ
+  table_in None t = stopped NoTable
+  table_in (Some (row, d)) t = got t (at + 2)
 
   pub table-short : (d : Directory) (kind : TableKind) → length log - at < 2 → read_at (table d kind) at log ≡ stopped Cut
   unfolding table
   table-short d kind h = need-short 2 Cut _ at log h
 
-  pub table_met : (d : Directory) (kind : TableKind) (t : ℕ) (f : Found) → 2 ≤ length log - at → t ≡ little_at 2 log at → f ≡ find_table d kind t
+  pub table_met : (d : Directory) (kind : TableKind) (t : ℕ) (f : Option (ℕ × TableDescription)) → 2 ≤ length log - at → t ≡ little_at 2 log at → f ≡ find_table d kind t
       → read_at (table d kind) at log ≡ table_in f t
   unfolding table
-  table_met d kind t Nothing h e₁ e₂ = need_met 2 Cut _ at log h ∙ rw (← e₁, ← e₂) (read-refuse NoTable (at + 2) log)
-  table_met d kind t (At row r) h e₁ e₂ = need_met 2 Cut _ at log h ∙ rw (← e₁, ← e₂) (read-give t (at + 2) log)
+  table_met d kind t None h e₁ e₂ = need_met 2 Cut _ at log h ∙ rw (← e₁, ← e₂) (read-refuse NoTable (at + 2) log)
+  table_met d kind t (Some (row, r)) h e₁ e₂ = need_met 2 Cut _ at log h ∙ rw (← e₁, ← e₂) (read-give t (at + 2) log)
 
   module _ (d : Directory) (kind : TableKind) (action : ℕ → LogAction) where
     pub dropped-stop : (answer : Answer) → stopped answer ≡ read_at (table d kind) at log → stopped answer ≡ read_at (dropped_item d kind action) at log

@@ -7,8 +7,7 @@ use Rattle.directory.specs.Directory.{find_table}
 use Rattle.directory.specs.declared.table.TableKind.{TableKind}
 use Rattle.directory.specs.declared.table.TableKind.TheVariants.{Index, Value, RefCount}
 use Rattle.directory.specs.declared.directory.Directory.{Directory}
-use Rattle.directory.specs.declared.directory.Found.{Found}
-use Rattle.directory.specs.declared.directory.Found.TheVariants as found
+use Rattle.directory.specs.declared.table.TableDescription.{TableDescription}
 use Rattle.record.specs.Format.{Got, stopped, got}
 use Rattle.record.specs.Record.{Item, insert_of, drop_index, drop_ref_count}
 use Rattle.record.specs.declared.action.LogAction.{LogAction}
@@ -63,20 +62,20 @@ abbrev pub named_in : List ℕ → ℕ → Option (TableKind × ℕ)
 named_in log at = named_by_tag (get_or log at 0) (little_at 2 log (at + 1))
 
 -- what the search for it finds
-abbrev pub looked_up : Directory → Option (TableKind × ℕ) → Found
-looked_up d None = found.Nothing
+abbrev pub looked_up : Directory → Option (TableKind × ℕ) → Option (ℕ × TableDescription)
+looked_up d None = None
 looked_up d (Some (kind, number)) = find_table d kind number
 
 -- the same of the action at a place
-abbrev pub sought_in : Directory → List ℕ → ℕ → Found
+abbrev pub sought_in : Directory → List ℕ → ℕ → Option (ℕ × TableDescription)
 sought_in d log at = looked_up d (named_in log at)
 
 -- some directory's search found that
-pub record FoundBy (f : Found) (kind : TableKind) (number : ℕ) : Type 0 where
+pub record FoundBy (f : Option (ℕ × TableDescription)) (kind : TableKind) (number : ℕ) : Type 0 where
   pub directory : Directory
   pub same : f ≡ find_table directory kind number
 
 -- some directory's search for the table that the action at a place names
-pub record Sought (f : Found) (log : List ℕ) (at : ℕ) : Type 0 where
+pub record Sought (f : Option (ℕ × TableDescription)) (log : List ℕ) (at : ℕ) : Type 0 where
   pub directory : Directory
   pub same : f ≡ sought_in directory log at

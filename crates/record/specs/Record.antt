@@ -1,6 +1,6 @@
 -- A record's bytes and how they are read (document 01, "Record bytes", "Numbered answers", "The opening of a record").
 -- The order of the lines is the order of the checks, and each line that may refuse has its number. Beside it: `LogReader::next`, log.rs 251-330.
-use Rattle.std.specs.Prelude.{Bool, not, ◌||◌, [], ◌∷◌, ℕ, ◌+◌, ◌*◌, eqb, ltb, take, drop}
+use Rattle.std.specs.Prelude.{Bool, not, ◌||◌, [], ◌∷◌, ℕ, ◌+◌, ◌*◌, eqb, ltb, take, drop, Option, Some, None}
 use Rattle.std.specs.Int.Count.{ones}
 use Rattle.std.specs.Prelude.{if◌then◌else◌}
 use Rattle.words.specs.Words.{little}
@@ -10,8 +10,6 @@ use Rattle.directory.specs.declared.table.TableKind.{TableKind}
 use Rattle.directory.specs.declared.table.TableKind.TheVariants.{Index, Value, RefCount}
 use Rattle.directory.specs.declared.table.TableDescription.{TableDescription}
 use Rattle.directory.specs.declared.directory.Directory.{Directory}
-use Rattle.directory.specs.declared.directory.Found.{Found}
-use Rattle.directory.specs.declared.directory.Found.TheVariants.{At, Nothing}
 use Rattle.record.specs.Format.{Format, refuse, give, ◌>>=◌, ◌>>◌, bytes, byte, test}
 use Rattle.answer.specs.declared.answer.Answer.TheVariants.{EndOfLog, Cut, UnknownTag, OutOfPlace, NoTable, NoIndex, WrongSum}
 use Rattle.record.specs.declared.action.LogAction.{LogAction}
@@ -49,9 +47,9 @@ tag_of (InsertRefCount a) = 6
 tag_of (DropRefCountTable t) = 7
 
 -- "table not in the directory under that kind"
-abbrev pub known : Found → Format TableDescription
-known Nothing = refuse NoTable
-known (At row t) = give t
+abbrev pub known : Option (ℕ × TableDescription) → Format TableDescription
+known None = refuse NoTable
+known (Some (row, t)) = give t
 
 -- "table right after its 10 bytes .., then index, then the payload"
 unfoldable pub key : Directory → TableKind → Format Key

@@ -12,7 +12,7 @@ ghost use Rattle.record.specs.Record.{key, chunk, masked_item, value_length, val
 use super::action::LogAction;
 use super::mask::entries_length;
 use answer::Answer;
-use directory::{Found, IndexTableId, RefCountTableId, TableDescription, TableKind};
+use directory::{IndexTableId, RefCountTableId, TableDescription, TableKind};
 
 // A table's number and an index, both tested, with the table's description.
 #[derive(Clone, Copy)]
@@ -50,7 +50,7 @@ impl ReadItem {
 }
 
 // Table and index, behind the tag of an insertion. Here and below `f` is what the search for the table that is named there has found.
-fn key_at(f: Found, log: &[u8], body: usize) -> Result<Key, Answer>
+fn key_at(f: Option<(usize, TableDescription)>, log: &[u8], body: usize) -> Result<Key, Answer>
     requires { body ≤ length log.now }
     ensures { (d : Directory) (kind : TableKind) → f ≡ find_table d kind (little_at 2 log.now body) → got_by result (body + 10) ≡ read_at (key d kind) body log.now }
 {
@@ -59,19 +59,17 @@ fn key_at(f: Found, log: &[u8], body: usize) -> Result<Key, Answer>
     }
     let table = words::u16_at(log, body);
     let index = words::u64_at(log, body + 2);
-    match f {
-        Found::Nothing => Err(Answer::NoTable),
-        Found::At(_, t) => {
-            if index < u64::from(t.count) {
-                Ok(Key {
-                    table,
-                    index,
-                    description: t,
-                })
-            } else {
-                Err(Answer::NoIndex)
-            }
-        }
+    let Some((_, description)) = f else {
+        return Err(Answer::NoTable);
+    };
+    if index < u64::from(description.count) {
+        Ok(Key {
+            table,
+            index,
+            description,
+        })
+    } else {
+        Err(Answer::NoIndex)
     }
 }
 
@@ -87,7 +85,13 @@ fn insert_tag(kind: TableKind) -> u8
 }
 
 // The mask and its entries, behind a key.
-fn chunk_at(log: &[u8], start: usize, kind: TableKind, width: usize, k: Key) -> Result<ReadItem, Answer>
+fn chunk_at(
+    log: &[u8],
+    start: usize,
+    kind: TableKind,
+    width: usize,
+    k: Key,
+) -> Result<ReadItem, Answer>
     requires { (width ≤ 16) × (start ≤ length log.now) }
     ensures { got_item result ≡ read_at (chunk kind width k) start log.now }
 {
@@ -109,7 +113,13 @@ fn chunk_at(log: &[u8], start: usize, kind: TableKind, width: usize, k: Key) -> 
 }
 
 // Tags 2 and 6.
-fn masked_at(f: Found, log: &[u8], body: usize, kind: TableKind, width: usize) -> Result<ReadItem, Answer>
+fn masked_at(
+    f: Option<(usize, TableDescription)>,
+    log: &[u8],
+    body: usize,
+    kind: TableKind,
+    width: usize,
+) -> Result<ReadItem, Answer>
     requires { (width ≤ 16) × (body ≤ length log.now) × FoundBy f kind (little_at 2 log.now body) }
     ensures { (d : Directory) → f ≡ find_table d kind (little_at 2 log.now body) → got_item result ≡ read_at (masked_item d kind width) body log.now }
 {
@@ -143,7 +153,11 @@ fn value_at(log: &[u8], start: usize, k: Key) -> Result<ReadItem, Answer>
 }
 
 // Tag 3.
-fn valued_at(f: Found, log: &[u8], body: usize) -> Result<ReadItem, Answer>
+fn valued_at(
+    f: Option<(usize, TableDescription)>,
+    log: &[u8],
+    body: usize,
+) -> Result<ReadItem, Answer>
     requires { (body ≤ length log.now) × FoundBy f Value (little_at 2 log.now body) }
     ensures { (d : Directory) → f ≡ find_table d Value (little_at 2 log.now body) → got_item result ≡ read_at (valued_item d) body log.now }
 {
@@ -184,7 +198,7 @@ fn ended_at(log: &[u8], body: usize, validate: bool, register: u32) -> Result<Re
 }
 
 // A table's number, behind the tag of a drop.
-fn table_at(f: Found, log: &[u8], body: usize) -> Result<u16, Answer>
+fn table_at(f: Option<(usize, TableDescription)>, log: &[u8], body: usize) -> Result<u16, Answer>
     requires { body ≤ length log.now }
     ensures { (d : Directory) (kind : TableKind) → f ≡ find_table d kind (little_at 2 log.now body) → got_by result (body + 2) ≡ read_at (table d kind) body log.now }
 {
@@ -193,13 +207,17 @@ fn table_at(f: Found, log: &[u8], body: usize) -> Result<u16, Answer>
     }
     let number = words::u16_at(log, body);
     match f {
-        Found::Nothing => Err(Answer::NoTable),
-        Found::At(_, _) => Ok(number),
+        None => Err(Answer::NoTable),
+        Some(_) => Ok(number),
     }
 }
 
 // Tag 5.
-fn dropped_index_at(f: Found, log: &[u8], body: usize) -> Result<ReadItem, Answer>
+fn dropped_index_at(
+    f: Option<(usize, TableDescription)>,
+    log: &[u8],
+    body: usize,
+) -> Result<ReadItem, Answer>
     requires { body ≤ length log.now }
     ensures { (d : Directory) → f ≡ find_table d Index (little_at 2 log.now body) → got_item result ≡ read_at (dropped_item d Index drop_index) body log.now }
 {
@@ -214,7 +232,11 @@ fn dropped_index_at(f: Found, log: &[u8], body: usize) -> Result<ReadItem, Answe
 }
 
 // Tag 7.
-fn dropped_ref_count_at(f: Found, log: &[u8], body: usize) -> Result<ReadItem, Answer>
+fn dropped_ref_count_at(
+    f: Option<(usize, TableDescription)>,
+    log: &[u8],
+    body: usize,
+) -> Result<ReadItem, Answer>
     requires { body ≤ length log.now }
     ensures { (d : Directory) → f ≡ find_table d RefCount (little_at 2 log.now body) → got_item result ≡ read_at (dropped_item d RefCount drop_ref_count) body log.now }
 {
@@ -229,7 +251,13 @@ fn dropped_ref_count_at(f: Found, log: &[u8], body: usize) -> Result<ReadItem, A
 }
 
 // The decision on the tag, inside a record.
-pub fn item_at(f: Found, log: &[u8], at: usize, validate: bool, register: u32) -> Result<ReadItem, Answer>
+pub fn item_at(
+    f: Option<(usize, TableDescription)>,
+    log: &[u8],
+    at: usize,
+    validate: bool,
+    register: u32,
+) -> Result<ReadItem, Answer>
     requires { (at ≤ length log.now) × Sought f log.now at }
     ensures { (d : Directory) → f ≡ sought_in d log.now at → got_item result ≡ read_at (inside d validate register) at log.now }
 {

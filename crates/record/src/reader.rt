@@ -12,7 +12,7 @@ use super::item::item_at;
 use super::opening::opening_at;
 use super::search::sought;
 use answer::{Answer, Refusal};
-use directory::{Directory, Found};
+use directory::{Directory, TableDescription};
 
 // `inside` says whether a record was begun and not ended; then `record_id` is its id and, if validating, `crc32` the checksum's register
 // over its bytes so far.
@@ -104,7 +104,11 @@ impl LogReader {
     }
 
     // Inside a record.
-    fn step_inside(self, f: Found, log: &[u8]) -> Result<Stepped, Refusal>
+    fn step_inside(
+        self,
+        f: Option<(usize, TableDescription)>,
+        log: &[u8],
+    ) -> Result<Stepped, Refusal>
         requires { (self.position ≤ length log.now) × Sought f log.now self.position }
         ensures { (d : Directory) → f ≡ sought_in d log.now self.position
             → result ≡ stepped log.now self (read_at (inside d self.validate self.crc32) self.position log.now) }

@@ -4,7 +4,7 @@ ghost use Rattle.words.specs.Words.{little_at};
 ghost use Rattle.directory.specs.Inner.{directory_in, Flat};
 ghost use Rattle.record.specs.Inner.{named_in, sought_in};
 
-use directory::{Directory, Found, TableKind};
+use directory::{Directory, TableDescription, TableKind};
 
 // The number behind a tag, as far as there are bytes.
 fn number_at(log: &[u8], at: usize) -> u16
@@ -36,23 +36,19 @@ fn named_at(log: &[u8], at: usize) -> Option<(TableKind, u16)>
     }
 }
 
-pub fn sought(directory: Directory, log: &[u8], at: usize) -> Found
+pub fn sought(directory: Directory, log: &[u8], at: usize) -> Option<(usize, TableDescription)>
     requires { at ≤ length log.now }
     ensures { result ≡ sought_in directory log.now at }
 {
-    match named_at(log, at) {
-        None => Found::Nothing,
-        Some((kind, number)) => directory.find(kind, number),
-    }
+    let (kind, number) = named_at(log, at)?;
+    directory.find(kind, number)
 }
 
 // The same in a directory in numbers.
-pub fn sought_in(t: &[u64; 81], log: &[u8], at: usize) -> Found
+pub fn sought_in(t: &[u64; 81], log: &[u8], at: usize) -> Option<(usize, TableDescription)>
     requires { Flat t.now × (at ≤ length log.now) }
     ensures { result ≡ sought_in (directory_in t.now) log.now at }
 {
-    match named_at(log, at) {
-        None => Found::Nothing,
-        Some((kind, number)) => directory::find_in(t, kind, number),
-    }
+    let (kind, number) = named_at(log, at)?;
+    directory::find_in(t, kind, number)
 }

@@ -8,17 +8,17 @@ use Rattle.record.proofs.item.key_at.Goals as goal
 pub returns-then-log-body-lt10 : goal.returns-then-log-body-lt10
 returns-then-log-body-lt10 c = λ d kind e. sym (key-short _ _ d kind c.if-log-body-lt10.true)
 
-pub returns-in-Nothing : goal.returns-in-Nothing
-returns-in-Nothing c =
+pub returns-in_default : goal.returns-in_default
+returns-in_default c =
     λ d kind e.
-    sym (key_met _ _ d kind _ _ _ c.if-log-body-lt10.false c.u16_at-table.ensures c.u64_at-index.ensures (sym c.in-Nothing.is ∙ e ∙ ap (find_table d kind) (sym c.u16_at-table.ensures)))
+    sym (key_met _ _ d kind _ _ _ c.if-log-body-lt10.false c.u16_at-table.ensures c.u64_at-index.ensures (sym c.in_default.is ∙ e ∙ ap (find_table d kind) (sym c.u16_at-table.ensures)))
 
 pub returns-then-index-from : goal.returns-then-index-from
 returns-then-index-from c =
     λ d kind e.
-    sym (key_met _ _ d kind _ _ _ c.if-log-body-lt10.false c.u16_at-table.ensures c.u64_at-index.ensures (sym c.in-At.is ∙ e ∙ ap (find_table d kind) (sym c.u16_at-table.ensures)) ∙ rw (lt-ltb _ _ (rw c.from.ensures at c.if-index-from.true)))
+    sym (key_met _ _ d kind _ _ _ c.if-log-body-lt10.false c.u16_at-table.ensures c.u64_at-index.ensures (sym c.in-Some.is ∙ e ∙ ap (find_table d kind) (sym c.u16_at-table.ensures)) ∙ rw (lt-ltb _ _ (rw c.from.ensures at c.if-index-from.true)))
 
 pub returns-else-index-from : goal.returns-else-index-from
 returns-else-index-from c =
     λ d kind e.
-    sym (key_met _ _ d kind _ _ _ c.if-log-body-lt10.false c.u16_at-table.ensures c.u64_at-index.ensures (sym c.in-At.is ∙ e ∙ ap (find_table d kind) (sym c.u16_at-table.ensures)) ∙ rw (le-ltb _ _ (rw c.from.ensures at c.if-index-from.false)))
+    sym (key_met _ _ d kind _ _ _ c.if-log-body-lt10.false c.u16_at-table.ensures c.u64_at-index.ensures (sym c.in-Some.is ∙ e ∙ ap (find_table d kind) (sym c.u16_at-table.ensures)) ∙ rw (le-ltb _ _ (rw c.from.ensures at c.if-index-from.false)))
