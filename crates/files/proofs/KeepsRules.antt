@@ -7,6 +7,8 @@ use mathlib.Core.Path.{◌≡◌, refl, ◌∙◌}
 use native.Mathlib.Omega.{arith}
 use lib.Dec.{eqb}
 use borrow.Author.Tests.{ltb-true, eqb-false}
+use Rattle.std.specs.Prelude.{Result, IfOk}
+use Rattle.answer.specs.declared.answer.Answer.{Answer}
 use Rattle.files.specs.Queues.{appending_size, files_of, file_count, room_kept, queues_kept, QueuesTyped}
 use Rattle.files.specs.Moves.{with_dirty, reading_cleaned, replay_cleaned}
 use Rattle.files.specs.Calls.{flushes, flush_one_kept, flush_one, replay_next_kept, replay_next, clear_replay_logs_kept, clear_replay_logs, clean_logs_kept, clean_logs, kill_logs_kept, kill_logs, needs_new, file_set_full, files_used_up, taken_by, take_file_kept, take_file}
@@ -100,15 +102,15 @@ module _ (q : Queues) (s : QueuesTyped q) (ok : queues_kept q ≡ true) where
         by false n true e = rw (n, e) (kept-makes _ (made_kept q s k size n low (fewer n e)))
         by false n false e = rw (n, e) (kept-makes _ (pool-kept q s k size n (omega (arith, eqb-false q.log_pool.count 0 e)) low))
 
-  pub take_file-kept : (length : ℕ) → queues_kept (take_file_kept q length).queues ≡ true
+  pub take_file-kept : (length : ℕ) → IfOk (take_file_kept q length) (λ (t : Taken). queues_kept t.queues ≡ true)
   unfolding take_file_kept
   take_file-kept length = by (file_set_full q) refl (files_used_up q length) refl
     where
-      by : (a : Bool) → file_set_full q ≡ a → (b : Bool) → files_used_up q length ≡ b → queues_kept (take_file_kept q length).queues ≡ true
-      by true e b f = rw e ok
-      by false e true f = rw (e, f) ok
+      by : (a : Bool) → file_set_full q ≡ a → (b : Bool) → files_used_up q length ≡ b → IfOk (take_file_kept q length) (λ (t : Taken). queues_kept t.queues ≡ true)
+      by true e b f = rw e tt
+      by false e true f = rw (e, f) tt
       by false e false f = rw (e, f) (taken (appending_size q + length) (size_low q length f) e)
 
-  pub take_file_lem : (length : ℕ) → queues_kept (take_file q length).queues ≡ true
+  pub take_file_lem : (length : ℕ) → IfOk (take_file q length) (λ (t : Taken). queues_kept t.queues ≡ true)
   unfolding take_file
-  take_file_lem length = behind-door (λ (r : Taken). queues_kept r.queues ≡ true) _ (queues_kept q) ok (take_file-kept length)
+  take_file_lem length = behind-door (λ (r : Result Taken Answer). IfOk r (λ (t : Taken). queues_kept t.queues ≡ true)) _ (queues_kept q) ok (take_file-kept length)

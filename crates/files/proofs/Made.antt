@@ -3,6 +3,7 @@ use Prim.Native.Nat.{ℕ, ◌+◌}
 use mathlib.Core.Bool.{true, false}
 use mathlib.Core.Path.{◌≡◌}
 use lib.ListN.{replicate}
+use Rattle.std.specs.Prelude.{Some}
 use Rattle.numbers.specs.Queue.{no_numbers, pushed, pushed_if, appended, front_of_of, without_first, emptied}
 use Rattle.numbers.specs.declared.queue.NumberQueue.{NumberQueue}
 use Rattle.answer.specs.declared.answer.Answer.{Answer}
@@ -49,7 +50,7 @@ module _ (q : Queues) where
   emptied_as c e f g = rw (f, g)
 
   pub replayed_as_lem : (q' : Queues) (n : ℕ) → n ≡ front_of_of q.replay_queue → q' ≡ front_replayed (reading_cleaned q)
-      → ◌≡◌ {A = ReplayNext} (record { answer = Done; found = true; number = n; queues = q' }) (record { answer = Done; found = true; number = front_of_of q.replay_queue; queues = front_replayed (reading_cleaned q) })
+      → ◌≡◌ {A = ReplayNext} (record { answer = Done; number = Some n; queues = q' }) (record { answer = Done; number = Some (front_of_of q.replay_queue); queues = front_replayed (reading_cleaned q) })
   replayed_as_lem q' n e f = rw (e, f)
 
   pub not_cleaned_as : (a : Answer) (e r : NumberQueue) → e ≡ no_numbers → r ≡ no_numbers

@@ -8,6 +8,8 @@ use mathlib.Core.Path.{◌≡◌, refl, sym, ap, ◌∙◌}
 use native.Mathlib.Omega.{arith}
 use lib.Dec.{eqb}
 use borrow.Author.Tests.{ltb-true, eqb-false}
+use Rattle.std.specs.Prelude.{Result, IfOk}
+use Rattle.answer.specs.declared.answer.Answer.{Answer}
 use Rattle.numbers.specs.Numbers.{times}
 use Rattle.numbers.specs.Queue.{list_of}
 use Rattle.numbers.proofs.Laws.{one-le}
@@ -116,15 +118,14 @@ module _ (q : Queues) (s : QueuesTyped q) (v : ℕ) where
       by false n false e =
           none (taken_by q size) (from_pool q size) (rw (n, e)) (pool-times q s r size n (omega (arith, eqb-false q.log_pool.count 0 e)) v) (rw (n, e))
 
-  file-taken : (length : ℕ) → Kept q → Made (take_file_kept q length)
-  unfolding take_file_kept Made
-  file-taken length r =
-      door Made (file_set_full q) (λ e. nothing) (door Made (files_used_up q length) (λ e. nothing) (taken (appending_size q + length) r))
-    where
-      nothing : times v (files_of q) ≡ times v (files_of q) + 0
-      nothing = omega arith
+  made_if : Result Taken Answer → Type 0
+  made_if r = IfOk r Made
+
+  file-taken : (length : ℕ) → Kept q → made_if (take_file_kept q length)
+  unfolding take_file_kept made_if
+  file-taken length r = door made_if (file_set_full q) (λ e. tt) (door made_if (files_used_up q length) (λ e. tt) (taken (appending_size q + length) r))
 
   -- "a new number only if the pool is empty"
-  pub take_file_lem : (length : ℕ) → times v (files_of (take_file q length).queues) ≡ times v (files_of q) + times v (file_made (take_file q length).source (take_file q length).number)
-  unfolding take_file Made
-  take_file_lem length = door Made (queues_kept q) (λ ok. file-taken length (kept_facts q ok)) (omega arith)
+  pub take_file_lem : (length : ℕ) → IfOk (take_file q length) (λ (t : Taken). times v (files_of t.queues) ≡ times v (files_of q) + times v (file_made t.source t.number))
+  unfolding take_file Made made_if
+  take_file_lem length = door made_if (queues_kept q) (λ ok. file-taken length (kept_facts q ok)) tt

@@ -3,11 +3,12 @@
 use Prim.Native.Nat.{ℕ, ◌+◌, ◌<◌}
 use mathlib.Core.Bool.{Bool, true, false}
 use mathlib.Core.List.{List, [], ◌∷◌, ◌++◌}
-use mathlib.Core.Path.{◌≡◌, refl, sym, ap, ◌∙◌}
+use mathlib.Core.Path.{◌≡◌, refl, sym, ap, subst, ◌∙◌}
 use native.Mathlib.Omega.{arith}
 use lib.ListN.{length, take, drop}
 use lib.Dec.{eqb}
 use borrow.Author.Tests.{ltb-true, ne_eqb}
+use Rattle.std.specs.Prelude.{IsSomeAnd}
 use Rattle.words.proofs.Choices.{if_true, if_false}
 use Rattle.numbers.specs.Numbers.{some_of, insert_all, ascends}
 use Rattle.numbers.specs.Queue.{list_of, front_of_of}
@@ -56,12 +57,13 @@ module _ (q : Queues) (s : QueuesTyped q) (ok : queues_kept q ≡ true) where
     unfolding replay_next_kept
     replay_moves = ap (λ (r : ReplayNext). r.queues) (if_false (eqb q.replay_queue.count 0) _ _ (ne_eqb q.replay_queue.count 0 (λ e. omega arith)))
 
-    pub replay-takes-front : replay_of q ≡ (replay_next_kept q).number ∷ replay_of (replay_next_kept q).queues
+    pub replay-takes-front : IsSomeAnd (replay_next_kept q).number (λ (n : ℕ). replay_of q ≡ n ∷ replay_of (replay_next_kept q).queues)
     unfolding replay_next_kept front_replayed reading_cleaned
     replay-takes-front =
         let e = ne_eqb q.replay_queue.count 0 (λ e. omega arith) in
-        front-list q.replay_queue some (omega (arith, k.room.replay, s.replay))
-        ∙ ap (λ (r : ReplayNext). r.number ∷ replay_of r.queues) (sym (if_false (eqb q.replay_queue.count 0) _ _ e))
+        subst (λ (r : ReplayNext). IsSomeAnd r.number (λ (n : ℕ). replay_of q ≡ n ∷ replay_of r.queues))
+        (sym (if_false (eqb q.replay_queue.count 0) _ _ e))
+        (front-list q.replay_queue some (omega (arith, k.room.replay, s.replay)))
 
     pub replay-reads-front : reading_of (replay_next_kept q).queues ≡ front_of_of q.replay_queue ∷ []
     unfolding front_replayed reading_cleaned

@@ -1,7 +1,7 @@
 -- What each call answers, hands back and tells the host (document 01, "File numbers"; log.rs 780-1084). Each is said first of queues
 -- that keep the rules (`..Kept`); queues that break one get 13 (document 01: "Order in every call: 13, then .."). A refusal hands the queues
 -- back as they were and tells the host nothing.
-use Rattle.std.specs.Prelude.{ℕ, ◌+◌, Bool, true, false, not, ◌&&◌, ◌||◌, List, [], ◌∷◌, ltb, eqb, leb}
+use Rattle.std.specs.Prelude.{ℕ, ◌+◌, Bool, true, false, not, ◌&&◌, ◌||◌, List, [], ◌∷◌, ltb, eqb, leb, Option, Some, None, Result, Ok, Err}
 use Rattle.std.specs.Prelude.{if◌then◌else◌}
 use Rattle.numbers.specs.Queue.{list_of, no_numbers, pushed_if, front_of_of, first_of, without_first, emptied, all_sorted_in}
 use Rattle.numbers.specs.declared.queue.NumberQueue.{NumberQueue}
@@ -10,7 +10,6 @@ use Rattle.answer.specs.declared.answer.Answer.TheVariants.{Done, NoRoom, UsedUp
 use Rattle.files.specs.Queues.{appending_size, file_count, queues_kept}
 use Rattle.files.specs.Moves.{appending_file, no_reading, with_appending, with_reading, with_cleanup, with_pool, with_next, with_dirty, appending_queued, reading_cleaned, first_ids, front_replayed, replay_cleaned}
 use Rattle.files.specs.declared.queues.Queues.{Queues}
-use Rattle.files.specs.declared.reading.FirstId.{FirstId}
 use Rattle.files.specs.declared.reading.ReplayNext.{ReplayNext}
 use Rattle.files.specs.declared.reading.ReplayCleared.{ReplayCleared}
 use Rattle.files.specs.declared.writing.Flushed.{Flushed}
@@ -27,12 +26,12 @@ flushes q min = ltb min (appending_size q)
 
 -- nothing moved
 abbrev pub not_flushed : Answer → Queues → Flushed
-not_flushed answer q = record { answer = answer; moved = false; number = 0; queues = q }
+not_flushed answer q = record { answer = answer; moved = None; queues = q }
 
 -- "moves the appending file to the end of the read queue .. ; it says which"
 unfoldable pub flush_one_kept : Queues → ℕ → Flushed
 flush_one_kept q min =
-    if flushes q min then record { answer = Done; moved = true; number = q.appending.id; queues = appending_queued q } else
+    if flushes q min then record { answer = Done; moved = Some q.appending.id; queues = appending_queued q } else
     not_flushed Done q
 
 -- behind 13
@@ -41,21 +40,19 @@ flush_one q min = if queues_kept q then flush_one_kept q min else not_flushed Ba
 
 -- ---- `replay_record_id` (log.rs 780-782): the id of the replay queue's front, or that there is none
 -- the id of the replay queue's front, or that there is none
-unfoldable pub replay_record_id : Queues → FirstId
-replay_record_id q =
-    if eqb q.replay_queue.count 0 then record { found = false; id = 0 } else
-    record { found = true; id = front_of_of (first_ids q) }
+unfoldable pub replay_record_id : Queues → Option ℕ
+replay_record_id q = if eqb q.replay_queue.count 0 then None else Some (front_of_of (first_ids q))
 
 -- ---- `replay_next` (log.rs 989-1005)
 -- no file to replay
 abbrev pub no_replay : Answer → Queues → ReplayNext
-no_replay answer q = record { answer = answer; found = false; number = 0; queues = q }
+no_replay answer q = record { answer = answer; number = None; queues = q }
 
 -- "sends reading to cleanup, then takes the front of the replay queue or says there is none; both are 0"
 unfoldable pub replay_next_kept : Queues → ReplayNext
 replay_next_kept q =
     if eqb q.replay_queue.count 0 then no_replay Done (reading_cleaned q) else
-    record { answer = Done; found = true; number = front_of_of q.replay_queue; queues = front_replayed (reading_cleaned q) }
+    record { answer = Done; number = Some (front_of_of q.replay_queue); queues = front_replayed (reading_cleaned q) }
 
 -- behind 13
 unfoldable pub replay_next : Queues → ReplayNext
@@ -145,7 +142,7 @@ from_pool q size = grown (with_pool q (without_first 1 q.log_pool)) (front_of_of
 
 -- a file taken, and where from
 abbrev pub took_from : FileSource → ℕ → Queues → Taken
-took_from source number q = record { answer = Done; source = source; number = number; queues = q }
+took_from source number q = record { source = source; number = number; queues = q }
 
 -- which file is taken, its size being as given
 unfoldable pub taken_by : Queues → ℕ → Taken
@@ -154,20 +151,16 @@ taken_by q size =
     if eqb q.log_pool.count 0 then took_from New q.next_log_id (made_new q size) else
     took_from Pool (front_of_of q.log_pool) (from_pool q size)
 
--- none taken
-abbrev pub not_taken : Answer → Queues → Taken
-not_taken answer q = record { answer = answer; source = Appending; number = 0; queues = q }
-
 -- "9 for files, 12"; "The record's length adds to the file's size (0 when taken)"
-unfoldable pub take_file_kept : Queues → ℕ → Taken
+unfoldable pub take_file_kept : Queues → ℕ → Result Taken Answer
 take_file_kept q more =
-    if file_set_full q then not_taken NoRoom q else
-    if files_used_up q more then not_taken UsedUp q else
-    taken_by q (appending_size q + more)
+    if file_set_full q then Err NoRoom else
+    if files_used_up q more then Err UsedUp else
+    Ok (taken_by q (appending_size q + more))
 
 -- behind 13
-unfoldable pub take_file : Queues → ℕ → Taken
-take_file q more = if queues_kept q then take_file_kept q more else not_taken BadState q
+unfoldable pub take_file : Queues → ℕ → Result Taken Answer
+take_file q more = if queues_kept q then take_file_kept q more else Err BadState
 
 -- the number of the file that was made for a record, if one was
 abbrev pub file_made : FileSource → ℕ → List ℕ

@@ -56,6 +56,7 @@ impl Queues {
         }
     }
 
+    #[tactic(auto, unfolding(crate::specs::Calls::clean_logs))]
     pub fn clean_logs(self, max: usize) -> Cleaned
         ensures { result ≡ clean_logs self max }
     {
@@ -80,6 +81,7 @@ impl Queues {
         }
     }
 
+    #[tactic(auto, unfolding(crate::specs::Calls::kill_logs))]
     pub fn kill_logs(self) -> Killed
         ensures { result ≡ kill_logs self }
     {

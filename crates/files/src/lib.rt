@@ -9,10 +9,10 @@ mod reading;
 mod writing;
 
 pub use cleaning::{Cleaned, Killed};
-pub use found::{LogName, log_name};
+pub use found::log_name;
 pub use numbers::NumberQueue;
 pub use open::Opened;
 pub use queues::{Appending, Queues, Reading};
 pub use read::ReadNext;
-pub use reading::{FirstId, ReplayCleared, ReplayNext};
+pub use reading::{ReplayCleared, ReplayNext};
 pub use writing::{FileSource, Flushed, Taken};

@@ -51,8 +51,8 @@ impl Appending {
     {
         Appending {
             some: true,
-            id: id,
-            size: size,
+            id,
+            size,
         }
     }
 }
@@ -67,14 +67,8 @@ impl Reading {
     pub(crate) fn file(id: u64) -> Reading
         ensures { result ≡ reading_file id }
     {
-        Reading { some: true, id: id }
+        Reading { some: true, id }
     }
-}
-
-pub(crate) fn wide(x: u32) -> u64
-    ensures { result ≡ x }
-{
-    x as u64
 }
 
 impl Queues {
@@ -97,6 +91,7 @@ impl Queues {
         }
     }
 
+    #[tactic(auto, unfolding(crate::specs::Queues::appending_size))]
     pub(crate) fn size(self) -> u64
         ensures { result ≡ appending_size self }
     {
@@ -107,35 +102,28 @@ impl Queues {
         }
     }
 
+    #[tactic(auto, unfolding(crate::specs::Queues::file_count))]
     pub(crate) fn file_count(self) -> usize
         requires { (self.read_queue.count ≤ 64) × (self.cleanup_queue.count ≤ 64) × (self.log_pool.count ≤ 16) × (self.replay_queue.count ≤ 64) }
         ensures { result ≡ file_count self }
     {
-        let a = numbers::count(self.appending.some);
-        let b = numbers::count(self.reading.some);
-        a + self.read_queue.count
-            + b
+        usize::from(self.appending.some)
+            + self.read_queue.count
+            + usize::from(self.reading.some)
             + self.cleanup_queue.count
             + self.log_pool.count
             + self.replay_queue.count
     }
 
+    #[tactic(auto, unfolding(crate::specs::Queues::room_kept))]
     fn room_kept(self) -> bool
         ensures { result ≡ room_kept self }
     {
-        if 64 < self.read_queue.count {
-            return false;
-        }
-        if 64 < self.cleanup_queue.count {
-            return false;
-        }
-        if Queues::MAX_LOG_POOL_SIZE < self.log_pool.count {
-            return false;
-        }
-        if 64 < self.replay_queue.count {
-            return false;
-        }
-        self.file_count() <= 64
+        self.read_queue.count <= 64
+            && self.cleanup_queue.count <= 64
+            && self.log_pool.count <= Queues::MAX_LOG_POOL_SIZE
+            && self.replay_queue.count <= 64
+            && self.file_count() <= 64
     }
 
     // All file numbers, one behind the other, so that one test sees them all.
@@ -153,6 +141,7 @@ impl Queues {
     }
 
     // Whether the queues keep every rule; where they don't, a call that is handed them answers 13.
+    #[tactic(auto, using(crate::proofs::Rule::room_facts), unfolding(crate::specs::Queues::queues_kept))]
     pub fn kept(self) -> bool
         ensures { result ≡ queues_kept self }
     {
@@ -161,16 +150,10 @@ impl Queues {
         }
         let files = self.gather();
         let all = files.numbers;
-        if !numbers::all_below(&all, files.count, wide(self.next_log_id)) {
-            return false;
-        }
-        if !numbers::no_twice(&all, files.count) {
-            return false;
-        }
-        let pool = self.log_pool;
-        if !numbers::rises(&pool.numbers, pool.count) {
-            return false;
-        }
-        self.size() < 9223372036854775808
+        let pool = self.log_pool.numbers;
+        numbers::all_below(&all, files.count, u64::from(self.next_log_id))
+            && numbers::no_twice(&all, files.count)
+            && numbers::rises(&pool, self.log_pool.count)
+            && self.size() < 9223372036854775808
     }
 }

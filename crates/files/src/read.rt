@@ -30,6 +30,7 @@ impl Queues {
         }
     }
 
+    #[tactic(auto, unfolding(crate::specs::Moves::front_read))]
     fn front_read(self) -> Queues
         requires { self.read_queue.count ≤ 64 }
         ensures { result ≡ front_read self }
@@ -40,6 +41,7 @@ impl Queues {
         q
     }
 
+    #[tactic(auto, unfolding(crate::specs::Read::now_reading))]
     fn now_reading(self) -> Queues
         requires { self.read_queue.count ≤ 64 }
         ensures { result ≡ now_reading self }
@@ -92,6 +94,7 @@ impl Queues {
         self.read(step, reader)
     }
 
+    #[tactic(auto, unfolding(crate::specs::Read::read_next))]
     pub fn read_next(self, log: &[u8], position: usize, validate: bool) -> ReadNext
         ensures { result ≡ read_next self log.now position validate }
     {

@@ -9,18 +9,11 @@ use super::queues::{Queues, Reading};
 use answer::Answer;
 use numbers::NumberQueue;
 
-#[derive(Clone, Copy)]
-pub struct FirstId {
-    pub found: bool,
-    pub id: u64,
-}
-
-// Whether there was a file to replay, and its number.
+// The number of the file to replay, if there was one.
 #[derive(Clone, Copy)]
 pub struct ReplayNext {
     pub answer: Answer,
-    pub found: bool,
-    pub number: u64,
+    pub number: Option<u64>,
     pub queues: Queues,
 }
 
@@ -43,22 +36,18 @@ impl Queues {
         0 < self.read_queue.count
     }
 
-    pub fn replay_record_id(self) -> FirstId
+    // The id of the first record of the file that is replayed next.
+    #[tactic(auto, unfolding(crate::specs::Calls::replay_record_id))]
+    pub fn replay_record_id(self) -> Option<u64>
         ensures { result ≡ replay_record_id self }
     {
         if self.replay_queue.count == 0 {
-            return FirstId {
-                found: false,
-                id: 0,
-            };
+            return None;
         }
-        let ids = self.replay_ids;
-        FirstId {
-            found: true,
-            id: ids[0],
-        }
+        Some(self.replay_ids[0])
     }
 
+    #[tactic(auto, unfolding(crate::specs::Moves::reading_cleaned))]
     pub(crate) fn reading_cleaned(self) -> Queues
         requires { self.cleanup_queue.count + one_if self.reading.some ≤ 64 }
         ensures { result ≡ reading_cleaned self }
@@ -71,6 +60,7 @@ impl Queues {
         q
     }
 
+    #[tactic(auto, unfolding(crate::specs::Moves::front_replayed))]
     fn front_replayed(self) -> Queues
         requires { self.replay_queue.count ≤ 64 }
         ensures { result ≡ front_replayed self }
@@ -92,13 +82,13 @@ impl Queues {
         ensures { result ≡ no_replay answer self }
     {
         ReplayNext {
-            answer: answer,
-            found: false,
-            number: 0,
+            answer,
+            number: None,
             queues: self,
         }
     }
 
+    #[tactic(auto, unfolding(crate::specs::Calls::replay_next_kept))]
     pub fn replay_next_kept(self) -> ReplayNext
         requires { queues_kept self ≡ true }
         ensures { result ≡ replay_next_kept self }
@@ -109,12 +99,12 @@ impl Queues {
         }
         ReplayNext {
             answer: Answer::Done,
-            found: true,
-            number: self.replay_queue.front(),
+            number: Some(self.replay_queue.front()),
             queues: q.front_replayed(),
         }
     }
 
+    #[tactic(auto, unfolding(crate::specs::Calls::replay_next))]
     pub fn replay_next(self) -> ReplayNext
         ensures { result ≡ replay_next self }
     {
@@ -124,6 +114,7 @@ impl Queues {
         self.replay_next_kept()
     }
 
+    #[tactic(auto, unfolding(crate::specs::Moves::replay_cleaned))]
     fn replay_cleaned(self) -> Queues
         requires { self.cleanup_queue.count + self.replay_queue.count ≤ 64 }
         ensures { result ≡ replay_cleaned self }
@@ -147,6 +138,7 @@ impl Queues {
         }
     }
 
+    #[tactic(auto, unfolding(crate::specs::Calls::clear_replay_logs))]
     pub fn clear_replay_logs(self) -> ReplayCleared
         ensures { result ≡ clear_replay_logs self }
     {

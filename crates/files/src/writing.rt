@@ -2,17 +2,16 @@
 ghost use Rattle.std.specs.Prelude.{◌≡◌, true, false, ◌+◌, ◌<◌};
 ghost use Rattle.files.specs.Queues.{appending_size, queues_kept};
 ghost use Rattle.files.specs.Moves.{appending_queued};
-ghost use Rattle.files.specs.Calls.{not_flushed, flush_one_kept, flush_one, needs_new, file_set_full, lacks_number, files_used_up, took_from, taken_by, not_taken, take_file_kept, take_file};
+ghost use Rattle.files.specs.Calls.{not_flushed, flush_one_kept, flush_one, needs_new, file_set_full, lacks_number, files_used_up, took_from, taken_by, take_file_kept, take_file};
 
-use super::queues::{Appending, Queues, wide};
+use super::queues::{Appending, Queues};
 use answer::Answer;
 
-// Whether the appending file was moved, and its number.
+// The number of the appending file, if it was moved.
 #[derive(Clone, Copy)]
 pub struct Flushed {
     pub answer: Answer,
-    pub moved: bool,
-    pub number: u64,
+    pub moved: Option<u64>,
     pub queues: Queues,
 }
 
@@ -26,7 +25,6 @@ pub enum FileSource {
 
 #[derive(Clone, Copy)]
 pub struct Taken {
-    pub answer: Answer,
     pub source: FileSource,
     pub number: u64,
     pub queues: Queues,
@@ -37,13 +35,13 @@ impl Queues {
         ensures { result ≡ not_flushed answer self }
     {
         Flushed {
-            answer: answer,
-            moved: false,
-            number: 0,
+            answer,
+            moved: None,
             queues: self,
         }
     }
 
+    #[tactic(auto, unfolding(crate::specs::Moves::appending_queued))]
     fn appending_queued(self) -> Queues
         requires { self.read_queue.count < 64 }
         ensures { result ≡ appending_queued self }
@@ -54,6 +52,7 @@ impl Queues {
         q
     }
 
+    #[tactic(auto, unfolding(crate::specs::Calls::flush_one_kept, crate::specs::Calls::flushes))]
     pub fn flush_one_kept(self, min: u64) -> Flushed
         requires { queues_kept self ≡ true }
         ensures { result ≡ flush_one_kept self min }
@@ -63,12 +62,12 @@ impl Queues {
         }
         Flushed {
             answer: Answer::Done,
-            moved: true,
-            number: self.appending.id,
+            moved: Some(self.appending.id),
             queues: self.appending_queued(),
         }
     }
 
+    #[tactic(auto, unfolding(crate::specs::Calls::flush_one))]
     pub fn flush_one(self, min: u64) -> Flushed
         ensures { result ≡ flush_one self min }
     {
@@ -78,51 +77,42 @@ impl Queues {
         self.flush_one_kept(min)
     }
 
+    #[tactic(auto, unfolding(crate::specs::Calls::needs_new))]
     fn needs_new(self) -> bool
         ensures { result ≡ needs_new self }
     {
-        if self.appending.some {
-            return false;
-        }
-        self.log_pool.count == 0
+        !self.appending.some && self.log_pool.count == 0
     }
 
+    #[tactic(auto, unfolding(crate::specs::Calls::file_set_full))]
     pub fn file_set_full(self) -> bool
         requires { queues_kept self ≡ true }
         ensures { result ≡ file_set_full self }
     {
-        if self.needs_new() {
-            return self.file_count() == 64;
-        }
-        false
+        self.needs_new() && self.file_count() == 64
     }
 
+    #[tactic(auto, unfolding(crate::specs::Calls::lacks_number))]
     fn lacks_number(self) -> bool
         ensures { result ≡ lacks_number self }
     {
-        if self.needs_new() {
-            return self.next_log_id == 4294967295;
-        }
-        false
+        self.needs_new() && self.next_log_id == 4294967295
     }
 
+    #[tactic(auto, unfolding(crate::specs::Calls::files_used_up))]
     pub fn files_used_up(self, length: u64) -> bool
         requires { queues_kept self ≡ true }
         ensures { result ≡ files_used_up self length }
     {
-        if self.lacks_number() {
-            return true;
-        }
-        9223372036854775808 - self.size() <= length
+        self.lacks_number() || 9223372036854775808 - self.size() <= length
     }
 
     fn took(self, source: FileSource, number: u64) -> Taken
         ensures { result ≡ took_from source number self }
     {
         Taken {
-            answer: Answer::Done,
-            source: source,
-            number: number,
+            source,
+            number,
             queues: self,
         }
     }
@@ -138,6 +128,7 @@ impl Queues {
     }
 
     // The file for a record of that length.
+    #[tactic(auto, unfolding(crate::specs::Calls::taken_by))]
     fn taken(self, length: u64) -> Taken
         requires { (queues_kept self ≡ true) × (files_used_up self length ≡ false) }
         ensures { result ≡ taken_by self (appending_size self + length) }
@@ -149,7 +140,7 @@ impl Queues {
         }
         let mut q = self;
         if self.log_pool.count == 0 {
-            let id = wide(self.next_log_id);
+            let id = u64::from(self.next_log_id);
             q.next_log_id = self.next_log_id + 1;
             return q.grown(id, size).took(FileSource::New, id);
         }
@@ -158,36 +149,27 @@ impl Queues {
         q.grown(id, size).took(FileSource::Pool, id)
     }
 
-    fn not_taken(self, answer: Answer) -> Taken
-        ensures { result ≡ not_taken answer self }
-    {
-        Taken {
-            answer: answer,
-            source: FileSource::Appending,
-            number: 0,
-            queues: self,
-        }
-    }
-
     // What the end of a record of that length needs of the files.
-    pub fn take_file_kept(self, length: u64) -> Taken
+    #[tactic(auto, unfolding(crate::specs::Calls::take_file_kept))]
+    pub fn take_file_kept(self, length: u64) -> Result<Taken, Answer>
         requires { queues_kept self ≡ true }
         ensures { result ≡ take_file_kept self length }
     {
         if self.file_set_full() {
-            return self.not_taken(Answer::NoRoom);
+            return Err(Answer::NoRoom);
         }
         if self.files_used_up(length) {
-            return self.not_taken(Answer::UsedUp);
+            return Err(Answer::UsedUp);
         }
-        self.taken(length)
+        Ok(self.taken(length))
     }
 
-    pub fn take_file(self, length: u64) -> Taken
+    #[tactic(auto, unfolding(crate::specs::Calls::take_file))]
+    pub fn take_file(self, length: u64) -> Result<Taken, Answer>
         ensures { result ≡ take_file self length }
     {
         if !self.kept() {
-            return self.not_taken(Answer::BadState);
+            return Err(Answer::BadState);
         }
         self.take_file_kept(length)
     }
