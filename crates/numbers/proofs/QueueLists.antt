@@ -1,17 +1,17 @@
 -- What each operation of a queue comes to on lists, and that its array keeps its length. Assumes nothing.
 use Prim.Native.Nat.{ℕ, suc, ◌+◌, ◌-◌, ◌≤◌, ◌<◌}
-use mathlib.Core.Bool.{Bool, true, false}
 use mathlib.Core.List.{List, [], ◌∷◌, ◌++◌, append-nil}
 use mathlib.Core.Path.{◌≡◌, refl, sym, ap, ◌∙◌}
 use native.Mathlib.Omega.{arith}
 use native.Mathlib.Numerals.{add-one}
 use lib.ListN.{set, take, drop, length, length-set, length-drop}
 use lib.Seq.{take-paste, length-paste, take-suc-set, drop-cons}
+use Rattle.std.specs.Prelude.{Option, Some, None}
 use Rattle.words.proofs.Cut.{drop_take}
-use Rattle.numbers.specs.Numbers.{some_of, one_if, insert, insert_all, spot}
+use Rattle.numbers.specs.Numbers.{some_of, insert, insert_all, spot}
 use Rattle.numbers.specs.Queue.{list_of, pushed, pushed_if, appended, front_of_of, first_of, without_first, sorted_in, all_sorted_in}
 use Rattle.numbers.specs.declared.queue.NumberQueue.{NumberQueue}
-use Rattle.numbers.proofs.Laws.{take_least, over-front, put-insert, put-length, spot-fits}
+use Rattle.numbers.proofs.Laws.{take-min, over-front, put-insert, put-length, spot-fits}
 
 module _ (q : NumberQueue) where
   pub push_list : (v : ℕ) → q.count < length q.numbers → list_of (pushed q v) ≡ list_of q ++ v ∷ []
@@ -20,17 +20,17 @@ module _ (q : NumberQueue) where
   pub push_length : (v : ℕ) → length (pushed q v).numbers ≡ length q.numbers
   push_length v = length-set q.numbers q.count v
 
-  pub push_if_list : (b : Bool) (v : ℕ) → q.count + one_if b ≤ length q.numbers → list_of (pushed_if q b v) ≡ list_of q ++ some_of b v
-  push_if_list true v h = push_list v (omega arith)
-  push_if_list false v h = sym (append-nil (list_of q))
+  pub push_if_list : (some : Option ℕ) → q.count + length (some_of some) ≤ length q.numbers → list_of (pushed_if q some) ≡ list_of q ++ some_of some
+  push_if_list None h = sym (append-nil (list_of q))
+  push_if_list (Some v) h = push_list v (omega arith)
 
-  pub push_if_count : (b : Bool) (v : ℕ) → (pushed_if q b v).count ≡ q.count + one_if b
-  push_if_count true v = refl
-  push_if_count false v = omega arith
+  pub push_if_count : (some : Option ℕ) → (pushed_if q some).count ≡ q.count + length (some_of some)
+  push_if_count None = omega arith
+  push_if_count (Some v) = refl
 
-  pub push_if_length : (b : Bool) (v : ℕ) → length (pushed_if q b v).numbers ≡ length q.numbers
-  push_if_length true v = push_length v
-  push_if_length false v = refl
+  pub push_if_length : (some : Option ℕ) → length (pushed_if q some).numbers ≡ length q.numbers
+  push_if_length None = refl
+  push_if_length (Some v) = push_length v
 
   module _ (r : NumberQueue) (h : q.count + r.count ≤ length q.numbers) (k : r.count ≤ length r.numbers) where
     pub append-list : list_of (appended q r) ≡ list_of q ++ list_of r
@@ -40,7 +40,7 @@ module _ (q : NumberQueue) where
     append-length = length-paste q.numbers q.count r.numbers r.count h k
 
   pub first-list : (n : ℕ) → list_of (first_of n q) ≡ take n (list_of q)
-  first-list n = take_least n q.count q.numbers
+  first-list n = take-min n q.count q.numbers
 
   module _ (n : ℕ) (h : q.count ≤ length q.numbers) where
     left : q.count - n ≤ length (drop n q.numbers)

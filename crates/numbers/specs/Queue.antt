@@ -1,9 +1,8 @@
 -- Queues of numbers: the first `count` of an array. What lies behind them means nothing; what each operation leaves there is said all the same.
 -- What each of them comes to on lists: proofs/QueueLists.
-use Rattle.std.specs.Prelude.{ℕ, ◌+◌, ◌-◌, Bool, List, [], ◌∷◌, get_or, set, take, drop, replicate}
+use Rattle.std.specs.Prelude.{ℕ, ◌+◌, ◌-◌, min, List, [], ◌∷◌, get_or, set, take, drop, replicate, Option, Some, None}
 use Rattle.std.proofs.Math.Seq.{paste}
-use Rattle.std.specs.Prelude.{if◌then◌else◌}
-use Rattle.numbers.specs.Numbers.{spot, least, put_in, over}
+use Rattle.numbers.specs.Numbers.{spot, put_in, over}
 use Rattle.numbers.specs.declared.queue.NumberQueue.{NumberQueue}
 
 -- the numbers in a queue, in its order
@@ -18,9 +17,10 @@ no_numbers = record { count = 0; numbers = replicate 64 0 }
 abbrev pub pushed : NumberQueue → ℕ → NumberQueue
 pushed q v = record { count = q.count + 1; numbers = set q.numbers q.count v }
 
--- v at the end, if there is one
-abbrev pub pushed_if : NumberQueue → Bool → ℕ → NumberQueue
-pushed_if q b v = if b then pushed q v else q
+-- one number at the end, if there is one
+abbrev pub pushed_if : NumberQueue → Option ℕ → NumberQueue
+pushed_if q None = q
+pushed_if q (Some v) = pushed q v
 
 -- another queue at the end
 abbrev pub appended : NumberQueue → NumberQueue → NumberQueue
@@ -32,7 +32,7 @@ front_of_of q = get_or q.numbers 0 0
 
 -- the first n, or all if there are fewer
 abbrev pub first_of : ℕ → NumberQueue → NumberQueue
-first_of n q = record { count = least n q.count; numbers = q.numbers }
+first_of n q = record { count = min n q.count; numbers = q.numbers }
 
 -- the others move to the front, and the places behind them keep what they have
 abbrev pub without_first : ℕ → NumberQueue → NumberQueue
