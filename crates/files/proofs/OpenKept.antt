@@ -16,8 +16,6 @@ use Rattle.record.specs.Next.{reader_at, opening_of}
 use Rattle.answer.specs.declared.answer.Answer.{Answer}
 use Rattle.answer.specs.declared.answer.Answer.TheVariants.{Done, EndOfLog}
 use Rattle.record.specs.declared.reader.LogReader.{LogReader}
-use Rattle.record.specs.declared.reader.Step.{Step}
-use Rattle.record.specs.declared.reader.Step.TheVariants.{Took, Refused}
 use Rattle.found.specs.Names.{said_by}
 use Rattle.found.specs.Logs.{LogFile, file_number, file_id, taken_numbers, removed, kept_files, in_order_of, ordered, how_many, next_from, answered}
 use Rattle.found.proofs.Listed.{filled}
@@ -36,6 +34,9 @@ use Rattle.files.proofs.Rule.{Kept, kept_facts, kept-makes, behind-door}
 use Rattle.files.proofs.Kept.{reading_kept, reading_times}
 use Rattle.files.proofs.ReadOf.{has_reading, has-waiting, next_reading, next-none, next-front}
 use Rattle.files.proofs.ReadKept.{now_kept, now_sized, now_times}
+use Rattle.std.specs.Prelude.{Result, Ok, Err}
+use Rattle.record.specs.declared.reader.Stepped.{Stepped}
+use Rattle.answer.specs.declared.answer.Refusal.{Refusal}
 
 module _ (answer : Answer) (n : ℕ) (files : List LogFile) where
   opened_files : files_of (opened_with (answered answer n files)) ≡ map file_number files
@@ -88,19 +89,19 @@ module _ (q : Queues) (s : QueuesTyped q) (ok : queues_kept q ≡ true) where
   k = kept_facts q ok
 
   module _ (h : has_file q ≡ true) (r : LogReader) where
-    by-keeps : (step : Step) → queues_kept (read_by q r step).queues ≡ true
+    by-keeps : (step : Result Stepped Refusal) → queues_kept (read_by q r step).queues ≡ true
     unfolding read_by
-    by-keeps (Took t) = kept-makes (now_reading q) (now_kept q s k h)
-    by-keeps (Refused f) = by (eqb (number_of f.answer) 1)
+    by-keeps (Ok t) = kept-makes (now_reading q) (now_kept q s k h)
+    by-keeps (Err f) = by (eqb (number_of f.answer) 1)
       where
         by : (b : Bool) → queues_kept (if b then reading_cleaned (now_reading q) else q) ≡ true
         by true = kept-makes _ (reading_kept (now_reading q) (now_sized q s k h) (now_kept q s k h))
         by false = ok
 
-    by_loses_none : (v : ℕ) (step : Step) → times v (files_of (read_by q r step).queues) ≡ times v (files_of q)
+    by_loses_none : (v : ℕ) (step : Result Stepped Refusal) → times v (files_of (read_by q r step).queues) ≡ times v (files_of q)
     unfolding read_by
-    by_loses_none v (Took t) = now_times q s k h v
-    by_loses_none v (Refused f) = by (eqb (number_of f.answer) 1)
+    by_loses_none v (Ok t) = now_times q s k h v
+    by_loses_none v (Err f) = by (eqb (number_of f.answer) 1)
       where
         by : (b : Bool) → times v (files_of (if b then reading_cleaned (now_reading q) else q)) ≡ times v (files_of q)
         by true = reading_times (now_reading q) (now_sized q s k h) (now_kept q s k h) v ∙ now_times q s k h v
@@ -108,7 +109,7 @@ module _ (q : Queues) (s : QueuesTyped q) (ok : queues_kept q ≡ true) where
 
   module _ (log : List ℕ) (p : ℕ) (w : Bool) where
     -- by the file that is read: the one being read, none, or the read queue's front
-    read-cases : (P : ReadNext → Type 0) → ((h : has_file q ≡ true) (r : LogReader) (step : Step) → P (read_by q r step)) → ((a : Answer) (r : LogReader) → P (not_read a r q)) → P (read_next_kept q log p w)
+    read-cases : (P : ReadNext → Type 0) → ((h : has_file q ≡ true) (r : LogReader) (step : Result Stepped Refusal) → P (read_by q r step)) → ((a : Answer) (r : LogReader) → P (not_read a r q)) → P (read_next_kept q log p w)
     read-cases P f g = by q.reading.some refl (eqb q.read_queue.count 0) refl
       where
         by : (a : Bool) → q.reading.some ≡ a → (b : Bool) → eqb q.read_queue.count 0 ≡ b → P (read_next_kept q log p w)

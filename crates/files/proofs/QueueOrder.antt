@@ -1,6 +1,6 @@
 -- In which order the queues are filled and emptied, on lists. Document 01, "File numbers"; each sentence stands with its theorem. Assumes
 -- nothing; `QueuesTyped` says that the arrays have the lengths that their types give them.
-use Prim.Native.Nat.{ℕ, ◌+◌, ◌<◌}
+use Prim.Native.Nat.{ℕ, ◌<◌}
 use mathlib.Core.Bool.{Bool, true, false}
 use mathlib.Core.List.{List, [], ◌∷◌, ◌++◌}
 use mathlib.Core.Path.{◌≡◌, refl, sym, ap, subst, ◌∙◌}

@@ -6,8 +6,8 @@ ghost use Rattle.files.specs.Read.{now_reading, not_read, read_by, read_next_kep
 ghost use Rattle.files.specs.Inner.{has_file};
 
 use super::queues::{Queues, Reading};
-use answer::Answer;
-use record::{LogReader, Step};
+use answer::{Answer, Refusal};
+use record::{LogReader, Stepped};
 
 // The file being read and the reader behind a record's opening.
 #[derive(Clone, Copy)]
@@ -23,9 +23,9 @@ impl Queues {
         ensures { result ≡ not_read answer reader self }
     {
         ReadNext {
-            answer: answer,
+            answer,
             number: 0,
-            reader: reader,
+            reader,
             queues: self,
         }
     }
@@ -53,28 +53,23 @@ impl Queues {
     }
 
     // What an opening that was tried comes to.
-    fn read(self, step: Step, reader: LogReader) -> ReadNext
+    #[tactic(auto, unfolding(crate::specs::Read::read_by))]
+    fn read(self, step: Result<Stepped, Refusal>, reader: LogReader) -> ReadNext
         requires { (queues_kept self ≡ true) × (has_file self ≡ true) }
         ensures { result ≡ read_by self reader step }
     {
         let q = self.now_reading();
         match step {
-            Step::Took(s) => {
-                let begun = s.reader;
-                ReadNext {
-                    answer: Answer::Done,
-                    number: q.reading.id,
-                    reader: begun,
-                    queues: q,
-                }
+            Ok(s) => ReadNext {
+                answer: Answer::Done,
+                number: q.reading.id,
+                reader: s.reader,
+                queues: q,
+            },
+            Err(f) if f.answer == Answer::EndOfLog => {
+                q.reading_cleaned().not_read(f.answer, reader)
             }
-            Step::Refused(f) => {
-                let answer = f.answer;
-                if answer.number() == 1 {
-                    return q.reading_cleaned().not_read(answer, reader);
-                }
-                self.not_read(answer, reader)
-            }
+            Err(f) => self.not_read(f.answer, reader),
         }
     }
 
