@@ -17,8 +17,6 @@ use Rattle.answer.specs.declared.answer.Refusal.{Refusal}
 use Rattle.record.specs.Next.{is_end, reader_at, step_of}
 use Rattle.record.specs.declared.reader.LogReader.{LogReader}
 use Rattle.record.specs.declared.reader.Stepped.{Stepped}
-use Rattle.record.specs.declared.reader.Step.{Step}
-use Rattle.record.specs.declared.reader.Step.TheVariants.{Took, Refused}
 use Rattle.record.proofs.Faults.{step-fault}
 use Rattle.effect.specs.Effect.{Written}
 use Rattle.replay.specs.Replay.{Walked, fault, walked, written_in, add_first, by_step, rest_of, rest_in, by_opening, record_at, tables_kept, judged, replayed_as, image_after}
@@ -27,6 +25,7 @@ use Rattle.replay.proofs.Checked.{judged-kept, judged_bad}
 use Rattle.replay.proofs.CutLog.{run-exactly}
 use Rattle.replay.proofs.Records.{run_bad}
 use Rattle.replay.proofs.Stop.{stop_is}
+use Rattle.std.specs.Prelude.{Result, Ok, Err}
 
 -- a fault that is made of an answer above 0
 made : (a : Answer) (at : ℕ) (x : Refusal) → 0 < number_of a → ◌≡◌ {A = Walked (List Written)} (fault (refusal a at)) (fault x) → 0 < number_of x.answer
@@ -47,26 +46,26 @@ rest-fault d log (suc n) r x e = go (step_of d log r) refl e (rest-fault d log n
     Next : Type 0
     Next = (k : LogReader) (x : Refusal) → rest_of n d log k ≡ fault x → 0 < number_of x.answer
 
-    by : (s : Stepped) (t : Bool) → is_end s.action ≡ t → by_step log (rest_of n d log) (Took s) ≡ fault x → Next → 0 < number_of x.answer
+    by : (s : Stepped) (t : Bool) → is_end s.action ≡ t → by_step log (rest_of n d log) (Ok s) ≡ fault x → Next → 0 < number_of x.answer
     by s true t f ih = let z : ◌≡◌ {A = ℕ} 0 1 = cc (sym (if_true (is_end s.action) _ _ t) ∙ f) in absurd (omega arith)
     by s false t f ih = ih s.reader x (unfirst (written_in log s) (rest_of n d log s.reader) x (sym (if_false (is_end s.action) _ _ t) ∙ f))
 
-    go : (st : Step) → step_of d log r ≡ st → by_step log (rest_of n d log) st ≡ fault x → Next → 0 < number_of x.answer
-    go (Refused y) q f ih = passed y x (step-fault d log r y q) f
-    go (Took s) q f ih = by s (is_end s.action) refl f ih
+    go : (st : Result Stepped Refusal) → step_of d log r ≡ st → by_step log (rest_of n d log) st ≡ fault x → Next → 0 < number_of x.answer
+    go (Err y) q f ih = passed y x (step-fault d log r y q) f
+    go (Ok s) q f ih = by s (is_end s.action) refl f ih
 
 module _ (d : Directory) (log : List ℕ) (at expected : ℕ) (x : Refusal) where
   pub record-fault : record_at d log at expected ≡ fault x → 0 < number_of x.answer
   unfolding record_at
   record-fault e = go (step_of d log (reader_at at true)) refl e
     where
-      by : (s : Stepped) (t : Bool) → eqb s.reader.record_id expected ≡ t → by_opening at expected (rest_in d log) (Took s) ≡ fault x → 0 < number_of x.answer
+      by : (s : Stepped) (t : Bool) → eqb s.reader.record_id expected ≡ t → by_opening at expected (rest_in d log) (Ok s) ≡ fault x → 0 < number_of x.answer
       by s true t f = rest-fault d log (suc (length log)) s.reader x (sym (if_true (eqb s.reader.record_id expected) _ _ t) ∙ f)
       by s false t f = made WrongId at x (omega arith) (sym (if_false (eqb s.reader.record_id expected) _ _ t) ∙ f)
 
-      go : (st : Step) → step_of d log (reader_at at true) ≡ st → by_opening at expected (rest_in d log) st ≡ fault x → 0 < number_of x.answer
-      go (Refused y) q f = passed y x (step-fault d log (reader_at at true) y q) f
-      go (Took s) q f = by s (eqb s.reader.record_id expected) refl f
+      go : (st : Result Stepped Refusal) → step_of d log (reader_at at true) ≡ st → by_opening at expected (rest_in d log) st ≡ fault x → 0 < number_of x.answer
+      go (Err y) q f = passed y x (step-fault d log (reader_at at true) y q) f
+      go (Ok s) q f = by s (eqb s.reader.record_id expected) refl f
 
   -- A REFUSAL OF `replay` HAS A NUMBER ABOVE 0
   pub judged-fault : (image : List ℕ) → judged d log at expected image ≡ fault x → 0 < number_of x.answer

@@ -22,38 +22,38 @@ use Rattle.answer.specs.Answer.{refusal}
 use Rattle.replay.specs.Inner.{is_walked, Opened, Walker, FlatFor}
 use Rattle.replay.specs.Replay.{Walked, fault, walked, record_at, tables_kept, judged, replayed_as, image_after, end_in}
 use Rattle.replay.specs.Sum.{sum_held, sum_tested}
-use Rattle.replay.specs.declared.check.EndAnswer.TheVariants.{Ended, NotEnded}
 use Rattle.replay.proofs.Places.{EndsIn, ends_in}
 use Rattle.replay.proofs.Rest.{whole}
 use Rattle.replay.proofs.Sum.{sum-rest, plain-walked}
+use Rattle.std.specs.Prelude.{Ok, Err}
 
 -- what an end answered says of the walk
-pub ended-walked : (g : Walked (List Written)) (end : ℕ) → Ended end ≡ end_in g → (ws : List Written) × (g ≡ walked ws end)
+pub ended-walked : (g : Walked (List Written)) (end : ℕ) → Ok end ≡ end_in g → (ws : List Written) × (g ≡ walked ws end)
 ended-walked (fault x) end e = let z : ◌≡◌ {A = ℕ} 0 1 = cc in absurd (omega arith)
 ended-walked (walked ws x) end e = let p : x ≡ end = cc in (ws, ap (walked ws) p)
 
-pub not_ended_lem : (g : Walked (List Written)) (a : Refusal) → NotEnded a ≡ end_in g → g ≡ fault a
+pub not_ended_lem : (g : Walked (List Written)) (a : Refusal) → Err a ≡ end_in g → g ≡ fault a
 not_ended_lem (fault x) a e = let p : x ≡ a = cc in ap {B = Walked (List Written)} fault p
 not_ended_lem (walked ws x) a e = let z : ◌≡◌ {A = ℕ} 0 1 = cc in absurd (omega arith)
 
 -- an answer by where a record ended: what `replay` says, and what becomes of the image
-pub ended_as : (at end : ℕ) (g : Walked (List Written)) → Ended end ≡ end_in g → record { answer = Done; position = end; fault_at = end } ≡ replayed_as at g
+pub ended_as : (at end : ℕ) (g : Walked (List Written)) → Ok end ≡ end_in g → record { answer = Done; position = end; fault_at = end } ≡ replayed_as at g
 ended_as at end g e = sym (ap (replayed_as at) (ended-walked g end e).1)
 
-pub not_ended_as : (at : ℕ) (a : Refusal) (g : Walked (List Written)) → NotEnded a ≡ end_in g → record { answer = a.answer; position = at; fault_at = a.position } ≡ replayed_as at g
+pub not_ended_as : (at : ℕ) (a : Refusal) (g : Walked (List Written)) → Err a ≡ end_in g → record { answer = a.answer; position = at; fault_at = a.position } ≡ replayed_as at g
 not_ended_as at a g e = sym (ap (replayed_as at) (not_ended_lem g a e))
 
-pub untouched : (d : Directory) (image : List ℕ) (a : Refusal) (g : Walked (List Written)) → NotEnded a ≡ end_in g → image ≡ image_after d image g
+pub untouched : (d : Directory) (image : List ℕ) (a : Refusal) (g : Walked (List Written)) → Err a ≡ end_in g → image ≡ image_after d image g
 untouched d image a g e = sym (ap (image_after d image) (not_ended_lem g a e))
 
 module _ (d : Directory) (log : List ℕ) (at : ℕ) (r : LogReader) (o : Opened log at r) where
   abbrev fits : ℕ → Bool
   fits end = eqb (little_at 4 log (end - 4)) (checksum_of (take (end - 4 - at) (drop at log)))
 
-  pub checked-no : (a : Refusal) → NotEnded a ≡ end_in (whole d log (plain r)) → NotEnded a ≡ end_in (whole d log r)
+  pub checked-no : (a : Refusal) → Err a ≡ end_in (whole d log (plain r)) → Err a ≡ end_in (whole d log r)
   checked-no a e = sym (ap end_in (sum-rest d log at (suc (length log)) r o ∙ ap (sum_tested at log) (not_ended_lem (whole d log (plain r)) a e)))
 
-  by-sum : (end : ℕ) → Ended end ≡ end_in (whole d log (plain r)) → (b : Bool) → fits end ≡ b → end_in (whole d log r) ≡ end_in (sum_held b end [])
+  by-sum : (end : ℕ) → Ok end ≡ end_in (whole d log (plain r)) → (b : Bool) → fits end ≡ b → end_in (whole d log r) ≡ end_in (sum_held b end [])
   by-sum end e b q =
       let g = ended-walked (whole d log (plain r)) end e in
       ap end_in (sum-rest d log at (suc (length log)) r o ∙ ap (sum_tested at log) g.1 ∙ ap (λ (t : Bool). sum_held t end g.0) q)
@@ -63,10 +63,10 @@ module _ (d : Directory) (log : List ℕ) (at : ℕ) (r : LogReader) (o : Opened
       either true ws = refl
       either false ws = refl
 
-  pub checked_yes : (end : ℕ) → Ended end ≡ end_in (whole d log (plain r)) → fits end ≡ true → Ended end ≡ end_in (whole d log r)
+  pub checked_yes : (end : ℕ) → Ok end ≡ end_in (whole d log (plain r)) → fits end ≡ true → Ok end ≡ end_in (whole d log r)
   checked_yes end e q = sym (by-sum end e true q)
 
-  pub checked_wrong : (end : ℕ) → Ended end ≡ end_in (whole d log (plain r)) → fits end ≡ false → NotEnded (refusal WrongSum (end - 5)) ≡ end_in (whole d log r)
+  pub checked_wrong : (end : ℕ) → Ok end ≡ end_in (whole d log (plain r)) → fits end ≡ false → Err (refusal WrongSum (end - 5)) ≡ end_in (whole d log r)
   checked_wrong end e q = sym (by-sum end e false q)
 
   -- a reader that leaves the checksum out walks on
@@ -74,17 +74,17 @@ module _ (d : Directory) (log : List ℕ) (at : ℕ) (r : LogReader) (o : Opened
   plain_walker p e = subst (Walker log) (sym e) (record { inside = o.inside; plainly = refl; within = o.within })
 
   -- the second pass reads what the first one read, and no checksum
-  pub second_walks : (end : ℕ) → Ended end ≡ end_in (whole d log r) → is_walked (whole d log (plain r)) ≡ true
+  pub second_walks : (end : ℕ) → Ok end ≡ end_in (whole d log r) → is_walked (whole d log (plain r)) ≡ true
   second_walks end e =
       let g = ended-walked (whole d log r) end e in
       ap is_walked (plain-walked d log at (suc (length log)) r g.0 end o g.1)
 
-  pub second-leaves : (image : List ℕ) (end : ℕ) → Ended end ≡ end_in (whole d log r) → image_after d image (whole d log (plain r)) ≡ image_after d image (whole d log r)
+  pub second-leaves : (image : List ℕ) (end : ℕ) → Ok end ≡ end_in (whole d log r) → image_after d image (whole d log (plain r)) ≡ image_after d image (whole d log r)
   second-leaves image end e =
       let g = ended-walked (whole d log r) end e in
       ap (image_after d image) (plain-walked d log at (suc (length log)) r g.0 end o g.1 ∙ sym g.1)
 
-  pub checked-place : (end : ℕ) → Ended end ≡ end_in (whole d log (plain r)) → EndsIn log r end
+  pub checked-place : (end : ℕ) → Ok end ≡ end_in (whole d log (plain r)) → EndsIn log r end
   checked-place end e =
       let g = ended-walked (whole d log (plain r)) end e in
       let k : EndsIn log (plain r) end = ends_in d log (suc (length log)) (plain r) g.0 end o.inside g.1 in

@@ -12,8 +12,6 @@ use Rattle.directory.specs.declared.directory.Directory.{Directory}
 use Rattle.record.specs.Next.{is_end, step_of}
 use Rattle.record.specs.declared.reader.LogReader.{LogReader}
 use Rattle.record.specs.declared.reader.Stepped.{Stepped}
-use Rattle.record.specs.declared.reader.Step.{Step}
-use Rattle.record.specs.declared.reader.Step.TheVariants.{Took, Refused}
 use Rattle.effect.specs.Effect.{Written, apply}
 use Rattle.effect.specs.Meaning.{Sized, last_said}
 use Rattle.effect.specs.Order.{Each, Pairs, Other, Spared}
@@ -27,6 +25,8 @@ use Rattle.replay.proofs.Checked.{judged-walked}
 use Rattle.replay.proofs.CutLog.{run-exactly}
 use Rattle.replay.proofs.Opening.{Whole, whole_record}
 use Rattle.replay.proofs.Stop.{stop_is}
+use Rattle.std.specs.Prelude.{Result, Ok, Err}
+use Rattle.answer.specs.declared.answer.Refusal.{Refusal}
 
 -- each action of an accepted record has the payload that its bytes say
 rest-sized : (d : Directory) (log : List ℕ) (n : ℕ) (r : LogReader) (ws : List Written) (end : ℕ) → rest_of n d log r ≡ walked ws end → Each (Sized d) ws
@@ -49,14 +49,14 @@ rest-sized d log (suc n) r ws end e = go (step_of d log r) refl e (λ k vs. rest
         let a : Each (Sized d) (w ∷ vs) = (h, ih k vs (q ∙ ap (walked vs) p)) in
         subst (λ (x : List Written). Each (Sized d) x) l a
 
-    by : (s : Stepped) → step_of d log r ≡ Took s → (t : Bool) → is_end s.action ≡ t → by_step log (rest_of n d log) (Took s) ≡ walked ws end → Next → Each (Sized d) ws
+    by : (s : Stepped) → step_of d log r ≡ Ok s → (t : Bool) → is_end s.action ≡ t → by_step log (rest_of n d log) (Ok s) ≡ walked ws end → Next → Each (Sized d) ws
     by s q true t f ih = nothing s.reader.position ws (sym (if_true (is_end s.action) _ _ t) ∙ f)
     by s q false t f ih =
         front (written_in log s) s.reader (rest_of n d log s.reader) refl (payload-sized d log r s q).sized ih ws (sym (if_false (is_end s.action) _ _ t) ∙ f)
 
-    go : (st : Step) → step_of d log r ≡ st → by_step log (rest_of n d log) st ≡ walked ws end → Next → Each (Sized d) ws
-    go (Refused x) q f ih = let z : ◌≡◌ {A = ℕ} 0 1 = cc in absurd (omega arith)
-    go (Took s) q f ih = by s q (is_end s.action) refl f ih
+    go : (st : Result Stepped Refusal) → step_of d log r ≡ st → by_step log (rest_of n d log) st ≡ walked ws end → Next → Each (Sized d) ws
+    go (Err x) q f ih = let z : ◌≡◌ {A = ℕ} 0 1 = cc in absurd (omega arith)
+    go (Ok s) q f ih = by s q (is_end s.action) refl f ih
 
 pub accepted-sized : (d : Directory) (log : List ℕ) (at expected : ℕ) (ws : List Written) (end : ℕ) → record_at d log at expected ≡ walked ws end → Each (Sized d) ws
 accepted-sized d log at expected ws end e =

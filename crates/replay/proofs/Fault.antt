@@ -23,8 +23,6 @@ use Rattle.record.specs.Next.{is_end, reader_at, refused, stepped, opened, step_
 use Rattle.record.specs.Record.{Item, inside, opening}
 use Rattle.record.specs.declared.reader.LogReader.{LogReader}
 use Rattle.record.specs.declared.reader.Stepped.{Stepped}
-use Rattle.record.specs.declared.reader.Step.{Step}
-use Rattle.record.specs.declared.reader.Step.TheVariants.{Took, Refused}
 use Rattle.record.proofs.Begins.{begun}
 use Rattle.record.proofs.Faults as faults
 use Rattle.record.proofs.Formats.{unfinished}
@@ -44,6 +42,7 @@ use Rattle.replay.proofs.Places.{going}
 use Rattle.replay.proofs.Rest.{enough}
 use Rattle.replay.proofs.Stop.{stop_is}
 use Rattle.replay.proofs.Sum.{inside-step}
+use Rattle.std.specs.Prelude.{Result, Ok, Err}
 
 -- ---- 2: an action that is begun and not whole, whoever reads it
 
@@ -98,7 +97,7 @@ module _ (d : Directory) (log : List ℕ) (at expected : ℕ) where
       ∙ ap (stepped (take p log) r) (inside-short r.position (take p log) d r.validate r.crc32 (omega arith))
       ∙ ap (refused Cut) (sym e))
 
-  found_here : (n : ℕ) (r : LogReader) (x : Refusal) → at < r.position → r.inside ≡ true → r.position ≤ length log → step_of d log r ≡ Refused x → Found d log at expected (suc n) r x
+  found_here : (n : ℕ) (r : LogReader) (x : Refusal) → at < r.position → r.inside ≡ true → r.position ≤ length log → step_of d log r ≡ Err x → Found d log at expected (suc n) r x
   found_here n r x lies b h e = by t.why
     where
       t : faults.Halted d log r x
@@ -130,11 +129,11 @@ module _ (d : Directory) (log : List ℕ) (at expected : ℕ) where
       Next = (k : LogReader) (x : Refusal) → length log - k.position < n → at < k.position → k.inside ≡ true → k.position ≤ length log → rest_of n d log k ≡ fault x
           → Found d log at expected n k x
 
-      behind : (s : Stepped) → step_of d log r ≡ Took s → is_end s.action ≡ false → Found d log at expected n s.reader x → Found d log at expected (suc n) r x
+      behind : (s : Stepped) → step_of d log r ≡ Ok s → is_end s.action ≡ false → Found d log at expected n s.reader x → Found d log at expected (suc n) r x
       behind s q t f =
           let o = step-on d log r s q in
           let short : List ℕ = take x.position log in
-          let c : step_of d short r ≡ Took s = ap (λ (l : List ℕ). step_of d l r) (sym (append-nil short)) ∙ step_cut d log [] x.position f.high r s q f.low in
+          let c : step_of d short r ≡ Ok s = ap (λ (l : List ℕ). step_of d l r) (sym (append-nil short)) ∙ step_cut d log [] x.position f.high r s q f.low in
           record {
             low = omega (arith, o.forward, f.low);
             high = f.high;
@@ -142,7 +141,7 @@ module _ (d : Directory) (log : List ℕ) (at expected : ℕ) where
             first = ap (by_step short (rest_of n d short)) c ∙ if_false (is_end s.action) _ _ t ∙ ap (add_first (written_in short s)) f.first;
           }
 
-      by : (s : Stepped) → step_of d log r ≡ Took s → (t : Bool) → is_end s.action ≡ t → by_step log (rest_of n d log) (Took s) ≡ fault x → Next → Found d log at expected (suc n) r x
+      by : (s : Stepped) → step_of d log r ≡ Ok s → (t : Bool) → is_end s.action ≡ t → by_step log (rest_of n d log) (Ok s) ≡ fault x → Next → Found d log at expected (suc n) r x
       by s q true t f ih = let z : ◌≡◌ {A = ℕ} 0 1 = cc (sym (if_true (is_end s.action) _ _ t) ∙ f) in absurd (omega arith)
       by s q false t f ih =
           let o = step-on d log r s q in
@@ -150,9 +149,9 @@ module _ (d : Directory) (log : List ℕ) (at expected : ℕ) where
           (ih s.reader x (omega (arith, o.forward, o.inside)) (omega (arith, o.forward)) ((going d log r s b q).stays t) o.inside
           (unfirst (written_in log s) (rest_of n d log s.reader) x (sym (if_false (is_end s.action) _ _ t) ∙ f)))
 
-      go : (st : Step) → step_of d log r ≡ st → by_step log (rest_of n d log) st ≡ fault x → Next → Found d log at expected (suc n) r x
-      go (Refused y) q f ih = let p : y ≡ x = cc in found_here n r x lies b h (q ∙ ap Refused p)
-      go (Took s) q f ih = by s q (is_end s.action) refl f ih
+      go : (st : Result Stepped Refusal) → step_of d log r ≡ st → by_step log (rest_of n d log) st ≡ fault x → Next → Found d log at expected (suc n) r x
+      go (Err y) q f ih = let p : y ≡ x = cc in found_here n r x lies b h (q ∙ ap Err p)
+      go (Ok s) q f ih = by s q (is_end s.action) refl f ih
 
 -- ---- the record
 
@@ -183,13 +182,13 @@ module _ (d : Directory) (log : List ℕ) (at expected : ℕ) (x : Refusal) wher
       }
 
   -- told behind the opening
-  at-opened : (s : Stepped) → step_of d log (reader_at at true) ≡ Took s → eqb s.reader.record_id expected ≡ true → Found d log at expected (suc (length log)) s.reader x
+  at-opened : (s : Stepped) → step_of d log (reader_at at true) ≡ Ok s → eqb s.reader.record_id expected ≡ true → Found d log at expected (suc (length log)) s.reader x
       → Placed d log at expected x
   at-opened s q i f =
       let o = step-on d log (reader_at at true) s q in
       let short : List ℕ = take x.position log in
       let l : length short ≡ x.position = length-take-le x.position log f.high in
-      let c : step_of d short (reader_at at true) ≡ Took s =
+      let c : step_of d short (reader_at at true) ≡ Ok s =
       ap (λ (l : List ℕ). step_of d l (reader_at at true)) (sym (append-nil short)) ∙ step_cut d log [] x.position f.high (reader_at at true) s q f.low in
       record {
         stands = f.stands;
@@ -205,7 +204,7 @@ module _ (d : Directory) (log : List ℕ) (at expected : ℕ) (x : Refusal) wher
   unfolding record_at
   placed e = go (step_of d log (reader_at at true)) refl e
     where
-      by : (s : Stepped) → step_of d log (reader_at at true) ≡ Took s → (t : Bool) → eqb s.reader.record_id expected ≡ t → by_opening at expected (rest_in d log) (Took s) ≡ fault x
+      by : (s : Stepped) → step_of d log (reader_at at true) ≡ Ok s → (t : Bool) → eqb s.reader.record_id expected ≡ t → by_opening at expected (rest_in d log) (Ok s) ≡ fault x
           → Placed d log at expected x
       by s q true t f =
           let o = opening.opening d log at s q in
@@ -230,12 +229,12 @@ module _ (d : Directory) (log : List ℕ) (at expected : ℕ) (x : Refusal) wher
       why p (faults.in_record c l q) = absurd (true≢false (sym c))
       why p (faults.at-opening c l q) = told p l (faults.told-opening log at l x.answer true q)
 
-      go : (st : Step) → step_of d log (reader_at at true) ≡ st → by_opening at expected (rest_in d log) st ≡ fault x → Placed d log at expected x
-      go (Refused y) q f =
+      go : (st : Result Stepped Refusal) → step_of d log (reader_at at true) ≡ st → by_opening at expected (rest_in d log) st ≡ fault x → Placed d log at expected x
+      go (Err y) q f =
           let p : y ≡ x = cc in
-          let t = faults.halted d log (reader_at at true) x (q ∙ ap Refused p) in
+          let t = faults.halted d log (reader_at at true) x (q ∙ ap Err p) in
           why t.place t.why
-      go (Took s) q f = by s q (eqb s.reader.record_id expected) refl f
+      go (Ok s) q f = by s q (eqb s.reader.record_id expected) refl f
 
   -- WHERE A REFUSED RECORD IS AT FAULT, AND WHAT STANDS THERE: the byte is the one that the answer speaks of
   pub fault-stands : record_at d log at expected ≡ fault x → AtFault d log at expected x

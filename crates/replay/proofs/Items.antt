@@ -14,14 +14,13 @@ use Rattle.record.specs.Next.{is_end, forward_to, reader_after, stepped, step_of
 use Rattle.record.specs.Record.{Item, inside}
 use Rattle.record.specs.declared.action.LogAction.{LogAction}
 use Rattle.record.specs.declared.item.ReadItem.{ReadItem}
-use Rattle.record.specs.declared.item.ItemAnswer.TheVariants.{Read}
 use Rattle.record.specs.declared.reader.LogReader.{LogReader}
 use Rattle.record.specs.declared.reader.Stepped.{Stepped}
-use Rattle.record.specs.declared.reader.Step.TheVariants.{Took, Refused}
 use Rattle.record.proofs.Parts.{item_step}
 use Rattle.record.proofs.Steps.{step-on}
 use Rattle.replay.specs.Inner.{Walker, moved_to}
 use Rattle.replay.proofs.Sum.{inside-step}
+use Rattle.std.specs.Prelude.{Ok, Err}
 
 -- where a reader stands behind an action
 after-position : (log : List ℕ) (r : LogReader) (action : LogAction) (end : ℕ) → (reader_after log r action end).position ≡ end
@@ -33,10 +32,10 @@ after-position log r action end = go (is_end action) refl
     go false e = rw e
 
 module _ (d : Directory) (log : List ℕ) (r : LogReader) (w : Walker log r) (at : ℕ) (h : at ≤ length log) where
-  pub item_refused : (a : Answer) → stopped a ≡ read_at (inside d r.validate r.crc32) at log → step_of d log (moved_to r at) ≡ Refused (refusal a at)
+  pub item_refused : (a : Answer) → stopped a ≡ read_at (inside d r.validate r.crc32) at log → step_of d log (moved_to r at) ≡ Err (refusal a at)
   item_refused a e = inside-step d log (moved_to r at) w.inside h ∙ sym (ap (λ (g : Got Item). stepped log (moved_to r at) g) e)
 
-  module _ (i : ReadItem) (x : LogAction) (is : x ≡ action_in i) (e : got_item (Read i) ≡ read_at (inside d r.validate r.crc32) at log) where
+  module _ (i : ReadItem) (x : LogAction) (is : x ≡ action_in i) (e : got_item (Ok i) ≡ read_at (inside d r.validate r.crc32) at log) where
     abbrev pub took_item : Stepped
     took_item = record {
       action = x;
@@ -45,7 +44,7 @@ module _ (d : Directory) (log : List ℕ) (r : LogReader) (w : Walker log r) (at
       reader = reader_after log (moved_to r at) x (i.start + i.length);
     }
 
-    pub item_taken : step_of d log (moved_to r at) ≡ Took took_item
+    pub item_taken : step_of d log (moved_to r at) ≡ Ok took_item
     item_taken = inside-step d log (moved_to r at) w.inside h ∙ sym (item_step log (moved_to r at) i (read_at (inside d r.validate r.crc32) at log) x took_item.reader e is refl)
 
     -- it lies within the log, and takes a byte or more

@@ -10,19 +10,18 @@ use Rattle.std.specs.Prelude.{if◌then◌else◌}
 use Rattle.words.proofs.Choices.{if_true, if_false}
 use Rattle.checksum.specs.Checksum.{all_ones, updated}
 use Rattle.directory.specs.declared.directory.Directory.{Directory}
-use Rattle.record.specs.Next.{forward_to, beginning, reader_at, step_of}
+use Rattle.record.specs.Next.{forward_to, beginning, reader_at, opening_of, step_of}
 use Rattle.answer.specs.Answer.{refusal}
 use Rattle.answer.specs.declared.answer.Answer.TheVariants.{WrongId}
 use Rattle.answer.specs.declared.answer.Refusal.{Refusal}
 use Rattle.record.specs.declared.reader.LogReader.{LogReader}
 use Rattle.record.specs.declared.reader.Stepped.{Stepped}
-use Rattle.record.specs.declared.reader.Step.{Step}
-use Rattle.record.specs.declared.reader.Step.TheVariants.{Took, Refused}
-use Rattle.record.proofs.Steps.{Read, within_record, at-opening, taken, step-on}
+use Rattle.record.proofs.Steps.{Read, within_record, at-opening, taken, step-opens, step-on}
 use Rattle.effect.specs.Effect.{Written}
 use Rattle.replay.specs.Inner.{Opened}
 use Rattle.replay.specs.Replay.{fault, walked, rest_of, by_opening, record_at}
 use Rattle.replay.proofs.Places.{EndsIn, ends_in}
+use Rattle.std.specs.Prelude.{Result, Ok, Err}
 
 module _ (d : Directory) (log : List ℕ) (at : ℕ) where
   opened-read : {s : Stepped} → at < s.reader.position → s.reader.position ≤ length log → Read d log (reader_at at true) s → Opened log at s.reader
@@ -40,8 +39,12 @@ module _ (d : Directory) (log : List ℕ) (at : ℕ) where
         sum = ap (λ (x : LogReader). x.crc32) p ∙ ap (λ (n : ℕ). updated all_ones (take (n - at) (drop at log))) (sym e);
       }
 
+  -- what `open` answers is the step there
+  pub opens_at : (r : LogReader) (st : Result Stepped Refusal) → r ≡ reader_at at true → st ≡ opening_of log r → st ≡ step_of d log (reader_at at true)
+  opens_at r st e f = f ∙ ap (opening_of log) e ∙ sym (step-opens d log (reader_at at true) refl)
+
   -- behind its opening the reader is inside the record, its checksum begun
-  pub opening : (s : Stepped) → step_of d log (reader_at at true) ≡ Took s → Opened log at s.reader
+  pub opening : (s : Stepped) → step_of d log (reader_at at true) ≡ Ok s → Opened log at s.reader
   opening s e =
       let o = step-on d log (reader_at at true) s e in
       opened-read o.forward o.inside (taken d log (reader_at at true) s e).read
@@ -49,7 +52,7 @@ module _ (d : Directory) (log : List ℕ) (at : ℕ) where
 -- what a whole record is: an opening with the expected id, and the rest behind it
 pub record Whole (d : Directory) (log : List ℕ) (at expected : ℕ) (ws : List Written) (end : ℕ) : Type 0 where
   pub s : Stepped
-  pub opens : step_of d log (reader_at at true) ≡ Took s
+  pub opens : step_of d log (reader_at at true) ≡ Ok s
   pub id : eqb s.reader.record_id expected ≡ true
   pub rest : rest_of (suc (length log)) d log s.reader ≡ walked ws end
 
@@ -57,14 +60,14 @@ pub whole_record : (d : Directory) (log : List ℕ) (at expected : ℕ) (ws : Li
 unfolding record_at
 whole_record d log at expected ws end e = go (step_of d log (reader_at at true)) refl e
   where
-    by : (s : Stepped) → step_of d log (reader_at at true) ≡ Took s → (b : Bool) → eqb s.reader.record_id expected ≡ b
-        → by_opening at expected (rest_of (suc (length log)) d log) (Took s) ≡ walked ws end → Whole d log at expected ws end
+    by : (s : Stepped) → step_of d log (reader_at at true) ≡ Ok s → (b : Bool) → eqb s.reader.record_id expected ≡ b
+        → by_opening at expected (rest_of (suc (length log)) d log) (Ok s) ≡ walked ws end → Whole d log at expected ws end
     by s q true b f = record { s = s; opens = q; id = b; rest = sym (if_true (eqb s.reader.record_id expected) _ _ b) ∙ f }
     by s q false b f = let z : ◌≡◌ {A = ℕ} 0 1 = cc (sym (if_false (eqb s.reader.record_id expected) _ _ b) ∙ f) in absurd (omega arith)
 
-    go : (st : Step) → step_of d log (reader_at at true) ≡ st → by_opening at expected (rest_of (suc (length log)) d log) st ≡ walked ws end → Whole d log at expected ws end
-    go (Refused x) q f = let z : ◌≡◌ {A = ℕ} 0 1 = cc in absurd (omega arith)
-    go (Took s) q f = by s q (eqb s.reader.record_id expected) refl f
+    go : (st : Result Stepped Refusal) → step_of d log (reader_at at true) ≡ st → by_opening at expected (rest_of (suc (length log)) d log) st ≡ walked ws end → Whole d log at expected ws end
+    go (Err x) q f = let z : ◌≡◌ {A = ℕ} 0 1 = cc in absurd (omega arith)
+    go (Ok s) q f = by s q (eqb s.reader.record_id expected) refl f
 
 pub record_whole : (d : Directory) (log : List ℕ) (at expected : ℕ) (ws : List Written) (end : ℕ) → Whole d log at expected ws end → record_at d log at expected ≡ walked ws end
 unfolding record_at
@@ -86,15 +89,15 @@ record_on d log at expected ws end e =
 -- ---- a record by its opening
 
 module _ (d : Directory) (log : List ℕ) (at expected : ℕ) where
-  pub record_refused : (x : Refusal) → step_of d log (reader_at at true) ≡ Refused x → record_at d log at expected ≡ fault x
+  pub record_refused : (x : Refusal) → step_of d log (reader_at at true) ≡ Err x → record_at d log at expected ≡ fault x
   unfolding record_at
   record_refused x e = ap (by_opening at expected (rest_of (suc (length log)) d log)) e
 
-  pub record_wrong : (s : Stepped) → step_of d log (reader_at at true) ≡ Took s → eqb s.reader.record_id expected ≡ false → record_at d log at expected ≡ fault (refusal WrongId at)
+  pub record_wrong : (s : Stepped) → step_of d log (reader_at at true) ≡ Ok s → eqb s.reader.record_id expected ≡ false → record_at d log at expected ≡ fault (refusal WrongId at)
   unfolding record_at
   record_wrong s e b = ap (by_opening at expected (rest_of (suc (length log)) d log)) e ∙ if_false (eqb s.reader.record_id expected) _ _ b
 
-  pub record_opened : (s : Stepped) → step_of d log (reader_at at true) ≡ Took s → eqb s.reader.record_id expected ≡ true
+  pub record_opened : (s : Stepped) → step_of d log (reader_at at true) ≡ Ok s → eqb s.reader.record_id expected ≡ true
       → record_at d log at expected ≡ rest_of (suc (length log)) d log s.reader
   unfolding record_at
   record_opened s e b = ap (by_opening at expected (rest_of (suc (length log)) d log)) e ∙ if_true (eqb s.reader.record_id expected) _ _ b

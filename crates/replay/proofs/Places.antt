@@ -12,12 +12,12 @@ use Rattle.record.specs.Next.{is_end, forward_to, reader_after, step_of}
 use Rattle.record.specs.Record.{inside}
 use Rattle.record.specs.declared.reader.LogReader.{LogReader}
 use Rattle.record.specs.declared.reader.Stepped.{Stepped}
-use Rattle.record.specs.declared.reader.Step.{Step}
-use Rattle.record.specs.declared.reader.Step.TheVariants.{Took, Refused}
 use Rattle.record.proofs.Steps.{Read, within_record, at-opening, taken, step-on}
 use Rattle.effect.specs.Effect.{Written}
 use Rattle.replay.specs.Replay.{Walked, fault, walked, written_in, add_first, by_step, rest_of}
 use Rattle.replay.proofs.Ends.{EndTag, end_read}
+use Rattle.std.specs.Prelude.{Result, Ok, Err}
+use Rattle.answer.specs.declared.answer.Refusal.{Refusal}
 
 -- a step inside a record: the end tag takes 5 bytes, and behind any other action the reader is inside still
 pub record Going (r : LogReader) (s : Stepped) : Type 0 where
@@ -42,7 +42,7 @@ going-read {d} {log} {r} {s} b (within_record c i end q f) =
           ap (λ (x : LogReader). x.inside) (m ∙ if_false (is_end i.action) _ _ g) ∙ b;
     }
 
-pub going : (d : Directory) (log : List ℕ) (r : LogReader) (s : Stepped) → r.inside ≡ true → step_of d log r ≡ Took s → Going r s
+pub going : (d : Directory) (log : List ℕ) (r : LogReader) (s : Stepped) → r.inside ≡ true → step_of d log r ≡ Ok s → Going r s
 going d log r s b e = going-read b (taken d log r s e).read
 
 -- one action less in front
@@ -60,7 +60,7 @@ unfolding rest_of
 ends_in d log zero r ws end b e = let z : ◌≡◌ {A = ℕ} 0 1 = cc in absurd (omega arith)
 ends_in d log (suc n) r ws end b e = go (step_of d log r) refl e (λ k vs. ends_in d log n k vs end)
   where
-    on : (s : Stepped) → step_of d log r ≡ Took s → (t : Bool) → is_end s.action ≡ t → by_step log (rest_of n d log) (Took s) ≡ walked ws end
+    on : (s : Stepped) → step_of d log r ≡ Ok s → (t : Bool) → is_end s.action ≡ t → by_step log (rest_of n d log) (Ok s) ≡ walked ws end
         → ((vs : List Written) → s.reader.inside ≡ true → rest_of n d log s.reader ≡ walked vs end → EndsIn log s.reader end) → EndsIn log r end
     on s q true t f ih =
         let o = step-on d log r s q in
@@ -72,7 +72,7 @@ ends_in d log (suc n) r ws end b e = go (step_of d log r) refl e (λ k vs. ends_
         let k : EndsIn log s.reader end = ih l.0 ((going d log r s b q).stays t) l.1 in
         record { five = omega (arith, o.forward, k.five); inside = k.inside }
 
-    go : (st : Step) → step_of d log r ≡ st → by_step log (rest_of n d log) st ≡ walked ws end
+    go : (st : Result Stepped Refusal) → step_of d log r ≡ st → by_step log (rest_of n d log) st ≡ walked ws end
         → ((k : LogReader) (vs : List Written) → k.inside ≡ true → rest_of n d log k ≡ walked vs end → EndsIn log k end) → EndsIn log r end
-    go (Refused x) q f ih = let z : ◌≡◌ {A = ℕ} 0 1 = cc in absurd (omega arith)
-    go (Took s) q f ih = on s q (is_end s.action) refl f (ih s.reader)
+    go (Err x) q f ih = let z : ◌≡◌ {A = ℕ} 0 1 = cc in absurd (omega arith)
+    go (Ok s) q f ih = on s q (is_end s.action) refl f (ih s.reader)

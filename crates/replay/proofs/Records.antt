@@ -14,10 +14,10 @@ use Rattle.effect.specs.Effect.{Written, apply}
 use Rattle.answer.specs.Answer.{refusal, last_record_id}
 use Rattle.answer.specs.declared.answer.Refusal.{Refusal}
 use Rattle.replay.specs.Replay.{Walked, fault, walked, record_at, tables_kept, image_after, end_in}
-use Rattle.replay.specs.declared.check.EndAnswer.TheVariants.{Ended, NotEnded}
 use Rattle.replay.specs.Run.{Outcome, stops, by_record, run_from, run_of}
 use Rattle.replay.proofs.Checked.{ended-walked, not_ended_lem}
 use Rattle.replay.proofs.Opening.{RecordOn, record_on}
+use Rattle.std.specs.Prelude.{Ok, Err}
 
 module _ (d : Directory) (log : List ℕ) where
   record_same : (f g : ℕ → ℕ → ℕ → List ℕ → Outcome) (at expected count : ℕ) (image : List ℕ) (r : Walked (List Written))
@@ -63,23 +63,23 @@ module _ (d : Directory) (log : List ℕ) where
 -- ---- one turn, from what `replay_kept` answers and leaves
 
 module _ (d : Directory) (log : List ℕ) (at expected count : ℕ) (image after : List ℕ) (left : after ≡ image_after d image (record_at d log at expected)) where
-  pub turn-stop : (a : Refusal) → NotEnded a ≡ end_in (record_at d log at expected) → running d log at expected count image ≡ stops a at count after
+  pub turn-stop : (a : Refusal) → Err a ≡ end_in (record_at d log at expected) → running d log at expected count image ≡ stops a at count after
   turn-stop a e =
       let g : record_at d log at expected ≡ fault a = not_ended_lem (record_at d log at expected) a e in
       run-stop d log at expected count image a g ∙ ap (stops a at count) (sym (left ∙ ap (image_after d image) g))
 
-  pub turn_last : (end : ℕ) → Ended end ≡ end_in (record_at d log at expected) → eqb expected last_record_id ≡ true → running d log at expected count image ≡ stops (refusal UsedUp end) end (count + 1) after
+  pub turn_last : (end : ℕ) → Ok end ≡ end_in (record_at d log at expected) → eqb expected last_record_id ≡ true → running d log at expected count image ≡ stops (refusal UsedUp end) end (count + 1) after
   turn_last end e t =
       let g = ended-walked (record_at d log at expected) end e in
       run-last d log at expected count image g.0 end g.1 t ∙ ap (stops (refusal UsedUp end) end (count + 1)) (sym (left ∙ ap (image_after d image) g.1))
 
-  pub turn_more : (end : ℕ) → Ended end ≡ end_in (record_at d log at expected) → eqb expected last_record_id ≡ false
+  pub turn_more : (end : ℕ) → Ok end ≡ end_in (record_at d log at expected) → eqb expected last_record_id ≡ false
       → running d log at expected count image ≡ running d log end (expected + 1) (count + 1) after
   turn_more end e t =
       let g = ended-walked (record_at d log at expected) end e in
       run_more d log at expected count image g.0 end g.1 t ∙ ap (running d log end (expected + 1) (count + 1)) (sym (left ∙ ap (image_after d image) g.1))
 
-  pub turn_on : (end : ℕ) → Ended end ≡ end_in (record_at d log at expected) → RecordOn log at end
+  pub turn_on : (end : ℕ) → Ok end ≡ end_in (record_at d log at expected) → RecordOn log at end
   turn_on end e = let g = ended-walked (record_at d log at expected) end e in record_on d log at expected g.0 end g.1
 
 -- ---- 13 first

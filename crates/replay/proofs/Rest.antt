@@ -12,18 +12,17 @@ use Rattle.record.specs.Next.{is_end, step_of}
 use Rattle.answer.specs.declared.answer.Refusal.{Refusal}
 use Rattle.record.specs.declared.reader.LogReader.{LogReader}
 use Rattle.record.specs.declared.reader.Stepped.{Stepped}
-use Rattle.record.specs.declared.reader.Step.{Step}
-use Rattle.record.specs.declared.reader.Step.TheVariants.{Took, Refused}
 use Rattle.record.proofs.Steps.{step-on}
 use Rattle.effect.specs.Effect.{Written, done, apply}
 use Rattle.replay.specs.Inner.{is_walked}
 use Rattle.replay.specs.Replay.{Walked, fault, walked, written_in, add_first, by_step, rest_of, image_after, end_in}
+use Rattle.std.specs.Prelude.{Result, Ok, Err}
 
 module _ (d : Directory) (log : List ℕ) where
   -- what comes after a step is the same where the two ways on agree behind it
-  after_same : (f g : LogReader → Walked (List Written)) (st : Step) → ((s : Stepped) → st ≡ Took s → f s.reader ≡ g s.reader) → by_step log f st ≡ by_step log g st
-  after_same f g (Refused x) e = refl
-  after_same f g (Took s) e =
+  after_same : (f g : LogReader → Walked (List Written)) (st : Result Stepped Refusal) → ((s : Stepped) → st ≡ Ok s → f s.reader ≡ g s.reader) → by_step log f st ≡ by_step log g st
+  after_same f g (Err x) e = refl
+  after_same f g (Ok s) e =
       ap (λ (x : Walked (List Written)). if is_end s.action then walked [] s.reader.position else add_first (written_in log s) x) (e s refl)
 
   -- more steps than the log has bytes left change nothing
@@ -39,15 +38,15 @@ module _ (d : Directory) (log : List ℕ) where
   whole r = rest_of (suc (length log)) d log r
 
   module _ (r : LogReader) where
-    pub stop : (x : Refusal) → step_of d log r ≡ Refused x → whole r ≡ fault x
+    pub stop : (x : Refusal) → step_of d log r ≡ Err x → whole r ≡ fault x
     unfolding rest_of
     stop x e = rw e
 
-    pub last : (s : Stepped) → step_of d log r ≡ Took s → is_end s.action ≡ true → whole r ≡ walked [] s.reader.position
+    pub last : (s : Stepped) → step_of d log r ≡ Ok s → is_end s.action ≡ true → whole r ≡ walked [] s.reader.position
     unfolding rest_of
     last s e t = ap (by_step log (rest_of (length log) d log)) e ∙ if_true (is_end s.action) _ _ t
 
-    pub more : (s : Stepped) → step_of d log r ≡ Took s → is_end s.action ≡ false → whole r ≡ add_first (written_in log s) (whole s.reader)
+    pub more : (s : Stepped) → step_of d log r ≡ Ok s → is_end s.action ≡ false → whole r ≡ add_first (written_in log s) (whole s.reader)
     unfolding rest_of
     more s e t =
         let o = step-on d log r s e in
@@ -59,7 +58,7 @@ ends_same : (w : Written) (g : Walked (List Written)) → end_in (add_first w g)
 ends_same w (fault x) = refl
 ends_same w (walked ws end) = refl
 
-pub more-ends : (d : Directory) (log : List ℕ) (r : LogReader) (s : Stepped) → step_of d log r ≡ Took s → is_end s.action ≡ false
+pub more-ends : (d : Directory) (log : List ℕ) (r : LogReader) (s : Stepped) → step_of d log r ≡ Ok s → is_end s.action ≡ false
     → end_in (whole d log r) ≡ end_in (whole d log s.reader)
 more-ends d log r s e t = ap end_in (more d log r s e t) ∙ ends_same (written_in log s) (whole d log s.reader)
 
@@ -70,10 +69,10 @@ module _ (d : Directory) (log : List ℕ) (r : LogReader) where
   no-refusal g a e q = let f : false ≡ true = sym (ap is_walked q) ∙ e in false≢true f
 
   -- a walk that reaches its end meets no refusal
-  pub unstopped : (x : Refusal) → is_walked (whole d log r) ≡ true → step_of d log r ≡ Refused x → ⊥
+  pub unstopped : (x : Refusal) → is_walked (whole d log r) ≡ true → step_of d log r ≡ Err x → ⊥
   unstopped x g e = no-refusal (whole d log r) x g (stop d log r x e)
 
-  pub last_applied : (s : Stepped) (image : List ℕ) → step_of d log r ≡ Took s → is_end s.action ≡ true → image ≡ image_after d image (whole d log r)
+  pub last_applied : (s : Stepped) (image : List ℕ) → step_of d log r ≡ Ok s → is_end s.action ≡ true → image ≡ image_after d image (whole d log r)
   unfolding apply
   last_applied s image e t = sym (ap (image_after d image) (last d log r s e t))
 
@@ -84,7 +83,7 @@ module _ (d : Directory) (log : List ℕ) (r : LogReader) where
   first w image (walked ws end) e = (refl, refl)
 
   -- one action applied, and the walk goes on behind it
-  pub more_applied : (s : Stepped) (image : List ℕ) → step_of d log r ≡ Took s → is_end s.action ≡ false → is_walked (whole d log r) ≡ true
+  pub more_applied : (s : Stepped) (image : List ℕ) → step_of d log r ≡ Ok s → is_end s.action ≡ false → is_walked (whole d log r) ≡ true
       → (is_walked (whole d log s.reader) ≡ true) × (image_after d image (whole d log r) ≡ image_after d (done d (written_in log s) image) (whole d log s.reader))
   more_applied s image e t g =
       let m = more d log r s e t in

@@ -19,7 +19,6 @@ use Rattle.record.specs.Next.{plain, is_end, forward_to, reader_after, stepped, 
 use Rattle.record.specs.Record.{Item, inside}
 use Rattle.answer.specs.declared.answer.Answer.TheVariants.{WrongSum}
 use Rattle.record.specs.declared.reader.LogReader.{LogReader}
-use Rattle.record.specs.declared.reader.Step.{Step}
 use Rattle.record.proofs.Formats.{within}
 use Rattle.record.proofs.Parts.{tested}
 use Rattle.effect.specs.Effect.{Written}
@@ -28,6 +27,9 @@ use Rattle.replay.specs.Inner.{Opened}
 use Rattle.replay.specs.Replay.{Walked, fault, walked, add_first, by_step, rest_of}
 use Rattle.replay.specs.Sum.{sum_held, sum_tested}
 use Rattle.replay.proofs.Ends.{EndTag, end_read, summing, inside-sum}
+use Rattle.std.specs.Prelude.{Result}
+use Rattle.record.specs.declared.reader.Stepped.{Stepped}
+use Rattle.answer.specs.declared.answer.Refusal.{Refusal}
 
 -- a step inside a record
 pub inside-step : (d : Directory) (log : List ℕ) (r : LogReader) → r.inside ≡ true → r.position ≤ length log
@@ -138,7 +140,7 @@ module _ (d : Directory) (log : List ℕ) (at : ℕ) where
       ∙ ap (λ (v : Bool). stepped log r (read_at (inside d v r.crc32) r.position log)) o.validates
       ∙ ap (stepped log r) (inside-sum d r.crc32 all_ones r.position log))
       ∙ both n (sum-rest n) r o (read_at (inside d false all_ones) r.position log) refl
-      ∙ ap (λ (x : Step). sum_tested at log (by_step log (rest_of n d log) x)) (sym (inside-step d log (plain r) o.inside o.within))
+      ∙ ap (λ (x : Result Stepped Refusal). sum_tested at log (by_step log (rest_of n d log) x)) (sym (inside-step d log (plain r) o.inside o.within))
 
 -- what the validating walk reads, the plain one reads
 pub plain-walked : (d : Directory) (log : List ℕ) (at n : ℕ) (r : LogReader) (ws : List Written) (end : ℕ) → Opened log at r → rest_of n d log r ≡ walked ws end

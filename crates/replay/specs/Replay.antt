@@ -1,23 +1,18 @@
 -- A record replayed (document 01, "Replay": "A record is checked to its end before any table byte is written. Then actions apply as they
 -- stand in the bytes"). Added: in parity-db the caller of log.rs does this.
-use Rattle.std.specs.Prelude.{Bool, true, ◌&&◌, List, [], ◌∷◌, ℕ, zero, suc, eqb, length, take, drop}
+use Rattle.std.specs.Prelude.{Bool, true, ◌&&◌, List, [], ◌∷◌, ℕ, zero, suc, eqb, length, take, drop, Result, Ok, Err}
 use Rattle.std.specs.Prelude.{if◌then◌else◌}
 use Rattle.directory.specs.Directory.{directory_kept, image_length}
 use Rattle.directory.specs.declared.directory.Directory.{Directory}
 use Rattle.record.specs.Next.{is_end, reader_at, step_of}
 use Rattle.answer.specs.Answer.{refusal}
+use Rattle.answer.specs.declared.answer.Answer.{Answer}
 use Rattle.answer.specs.declared.answer.Answer.TheVariants.{Done, Cut, WrongId, BadState}
 use Rattle.answer.specs.declared.answer.Refusal.{Refusal}
 use Rattle.record.specs.declared.reader.LogReader.{LogReader}
 use Rattle.record.specs.declared.reader.Stepped.{Stepped}
-use Rattle.record.specs.declared.reader.Step.{Step}
-use Rattle.record.specs.declared.reader.Step.TheVariants.{Took, Refused}
 use Rattle.effect.specs.Effect.{Written, apply}
-use Rattle.replay.specs.declared.check.EndAnswer.{EndAnswer}
-use Rattle.replay.specs.declared.check.EndAnswer.TheVariants.{Ended, NotEnded}
-use Rattle.replay.specs.declared.one_record.Replayed.{Replayed}
-use Rattle.replay.specs.declared.whole.WholeAnswer.{WholeAnswer}
-use Rattle.replay.specs.declared.whole.WholeAnswer.TheVariants.{Whole, NotWhole}
+use Rattle.replay.specs.declared.whole.WholeRecord.{WholeRecord}
 
 -- what a walk through a record comes to: the refusal that it met, or what it read and the position behind the record
 pub data Walked (A : Type 0) : Type 0 where
@@ -34,9 +29,9 @@ add_first w (fault x) = fault x
 add_first w (walked ws end) = walked (w ∷ ws) end
 
 -- after a step: the refusal; at the end tag the place behind it; else the action, and on from behind it
-abbrev pub by_step : List ℕ → (LogReader → Walked (List Written)) → Step → Walked (List Written)
-by_step log rest (Refused x) = fault x
-by_step log rest (Took s) = if is_end s.action then walked [] s.reader.position else add_first (written_in log s) (rest s.reader)
+abbrev pub by_step : List ℕ → (LogReader → Walked (List Written)) → Result Stepped Refusal → Walked (List Written)
+by_step log rest (Err x) = fault x
+by_step log rest (Ok s) = if is_end s.action then walked [] s.reader.position else add_first (written_in log s) (rest s.reader)
 
 -- the actions from inside a record to its end, in written order, and the place behind it; or the first fault. At most n steps
 unfoldable pub rest_of : ℕ → Directory → List ℕ → LogReader → Walked (List Written)
@@ -48,9 +43,9 @@ abbrev pub rest_in : Directory → List ℕ → LogReader → Walked (List Writt
 rest_in d log r = rest_of (suc (length log)) d log r
 
 -- "Expected id is tested, in replay only, right after the opening"; "For 5 that is the begin tag", where the record starts
-abbrev pub by_opening : ℕ → ℕ → (LogReader → Walked (List Written)) → Step → Walked (List Written)
-by_opening at expected rest (Refused x) = fault x
-by_opening at expected rest (Took s) = if eqb s.reader.record_id expected then rest s.reader else fault (refusal WrongId at)  -- 5
+abbrev pub by_opening : ℕ → ℕ → (LogReader → Walked (List Written)) → Result Stepped Refusal → Walked (List Written)
+by_opening at expected rest (Err x) = fault x
+by_opening at expected rest (Ok s) = if eqb s.reader.record_id expected then rest s.reader else fault (refusal WrongId at)  -- 5
 
 -- a whole record: "then for reading 14, then faults in byte order"; "replay always validates"
 unfoldable pub record_at : Directory → List ℕ → ℕ → ℕ → Walked (List Written)
@@ -64,30 +59,37 @@ tables_kept d image = directory_kept d && eqb (length image) (image_length d)
 unfoldable pub judged : Directory → List ℕ → ℕ → ℕ → List ℕ → Walked (List Written)
 judged d log at expected image = if tables_kept d image then record_at d log at expected else fault (refusal BadState at)
 
--- what `replay` answers: the position behind the record, or the one handed in; and where the fault is, the position behind the record if
+-- what `replay` answers: where the record ends, or the refusal
+abbrev pub end_in : Walked (List Written) → Result ℕ Refusal
+end_in (fault x) = Err x
+end_in (walked ws end) = Ok end
+
+-- what that says: the answer; the position behind the record, or the one handed in; and where the fault is, the position behind the record if
 -- there is none
+pub record Replayed : Type 0 where
+  pub answer : Answer
+  pub position : ℕ
+  pub fault_at : ℕ
+
+abbrev pub replayed_by : ℕ → Result ℕ Refusal → Replayed
+replayed_by at (Err x) = record { answer = x.answer; position = at; fault_at = x.position }
+replayed_by at (Ok end) = record { answer = Done; position = end; fault_at = end }
+
+-- the same of a walk
 abbrev pub replayed_as : ℕ → Walked (List Written) → Replayed
-replayed_as at (fault x) = record { answer = x.answer; position = at; fault_at = x.position }
-replayed_as at (walked ws end) = record { answer = Done; position = end; fault_at = end }
+replayed_as at g = replayed_by at (end_in g)
 
 -- and the image: the record's effect, or as it was
 abbrev pub image_after : Directory → List ℕ → Walked (List Written) → List ℕ
 image_after d image (fault x) = image
 image_after d image (walked ws end) = apply d ws image
 
--- ---- the same where directory and image were tested already
-
--- what `replay_kept` answers: where the record ends
-abbrev pub end_in : Walked (List Written) → EndAnswer
-end_in (fault x) = NotEnded x
-end_in (walked ws end) = Ended end
-
 -- what `check_record_in` answers, whatever the record's id: the reader behind its opening, and the place behind its end
-abbrev pub whole_by : LogReader → Walked (List Written) → WholeAnswer
-whole_by r (fault x) = NotWhole x
-whole_by r (walked ws end) = Whole (record { opened = r; end = end })
+abbrev pub whole_by : LogReader → Walked (List Written) → Result WholeRecord Refusal
+whole_by r (fault x) = Err x
+whole_by r (walked ws end) = Ok (record { opened = r; end = end })
 
 -- the same from the step at its opening on
-abbrev pub whole_of : (LogReader → Walked (List Written)) → Step → WholeAnswer
-whole_of rest (Refused x) = NotWhole x
-whole_of rest (Took s) = whole_by s.reader (rest s.reader)
+abbrev pub whole_of : (LogReader → Walked (List Written)) → Result Stepped Refusal → Result WholeRecord Refusal
+whole_of rest (Err x) = Err x
+whole_of rest (Ok s) = whole_by s.reader (rest s.reader)

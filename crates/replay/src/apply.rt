@@ -4,7 +4,7 @@ ghost use Rattle.directory.specs.Inner.{directory_in};
 ghost use Rattle.replay.specs.Inner.{is_walked, Walker, FlatFor};
 ghost use Rattle.replay.specs.Replay.{rest_in, image_after};
 
-use record::{ItemAnswer, LogReader};
+use record::LogReader;
 
 // It meets no refusal, since the first pass met none.
 pub fn apply_rest(t: &[u64; 81], log: &[u8], r: LogReader, image: &mut [u8])
@@ -15,8 +15,8 @@ pub fn apply_rest(t: &[u64; 81], log: &[u8], r: LogReader, image: &mut [u8])
     loop {
         let f = record::sought_in(t, log, at);
         match record::item_at(f, log, at, r.validate, r.crc32) {
-            ItemAnswer::NoItem(_) => return,
-            ItemAnswer::Read(i) => {
+            Err(_) => return,
+            Ok(i) => {
                 let action = i.action();
                 if action.is_end() {
                     return;

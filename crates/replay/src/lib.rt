@@ -7,7 +7,6 @@ mod many_records;
 mod one_record;
 mod whole;
 
-pub use check::EndAnswer;
 pub use many_records::{Ran, run, run_kept};
-pub use one_record::{Replayed, replay, replay_kept};
-pub use whole::{WholeAnswer, WholeRecord, check_record_in};
+pub use one_record::{replay, replay_kept};
+pub use whole::{WholeRecord, check_record_in};

@@ -5,7 +5,6 @@ ghost use Rattle.replay.specs.Inner.{FlatFor};
 ghost use Rattle.replay.specs.Replay.{tables_kept};
 ghost use Rattle.replay.specs.Run.{run_in, run_of};
 
-use super::check::EndAnswer;
 use super::one_record::{replay_in, tables_kept};
 use answer::Answer;
 use directory::Directory;
@@ -29,23 +28,22 @@ fn run_in(t: &[u64; 81], log: &[u8], at: usize, expected: u64, image: &mut [u8])
     let mut count = 0;
     loop {
         match replay_in(t, log, position, id, image) {
-            EndAnswer::NotEnded(x) => {
-                let a = x.answer;
+            Err(x) => {
                 return Ran {
-                    answer: a,
-                    position: position,
-                    count: count,
+                    answer: x.answer,
+                    position,
+                    count,
                     fault_at: x.position,
                 };
             }
-            EndAnswer::Ended(end) => {
+            Ok(end) => {
                 position = end;
                 count += 1;
                 if id == answer::LAST_RECORD_ID {
                     return Ran {
                         answer: Answer::UsedUp,
-                        position: position,
-                        count: count,
+                        position,
+                        count,
                         fault_at: position,
                     };
                 }

@@ -2,21 +2,13 @@
 ghost use Rattle.std.specs.Prelude.{◌≡◌, true};
 ghost use Rattle.directory.specs.Inner.{directory_in};
 ghost use Rattle.replay.specs.Inner.{Opened, FlatFor};
-ghost use Rattle.replay.specs.Replay.{rest_in, record_at, tables_kept, judged, replayed_as, image_after, end_in};
+ghost use Rattle.replay.specs.Replay.{rest_in, record_at, tables_kept, judged, image_after, end_in};
 
 use super::apply::apply_rest;
-use super::check::{EndAnswer, checked_rest};
+use super::check::checked_rest;
 use answer::{Answer, Refusal};
 use directory::Directory;
-use record::{LogReader, Step};
-
-// `position` is behind the record, or the one handed in. `fault_at` is where the action at fault begins; beside answer 0 it is `position`.
-#[derive(Clone, Copy)]
-pub struct Replayed {
-    pub answer: Answer,
-    pub position: usize,
-    pub fault_at: usize,
-}
+use record::LogReader;
 
 // The record behind its opening: checked to its end, then applied. The second pass leaves the checksum out: it was found right.
 fn replay_opened(
@@ -25,34 +17,31 @@ fn replay_opened(
     at: usize,
     opened: LogReader,
     image: &mut [u8],
-) -> EndAnswer
+) -> Result<usize, Refusal>
     requires { FlatFor t.now image.old × Opened log.now at opened }
     ensures { (result ≡ end_in (rest_in (directory_in t.now) log.now opened)) × (image.new ≡ image_after (directory_in t.now) image.old (rest_in (directory_in t.now) log.now opened)) }
 {
-    match checked_rest(t, log, at, opened) {
-        EndAnswer::NotEnded(x) => EndAnswer::NotEnded(x),
-        EndAnswer::Ended(end) => {
-            apply_rest(t, log, opened.unvalidated(), image);
-            EndAnswer::Ended(end)
-        }
-    }
+    let end = checked_rest(t, log, at, opened)?;
+    apply_rest(t, log, opened.unvalidated(), image);
+    Ok(end)
 }
 
 // A record under a directory in numbers: a run writes it once.
-pub fn replay_in(t: &[u64; 81], log: &[u8], at: usize, expected: u64, image: &mut [u8]) -> EndAnswer
+pub fn replay_in(
+    t: &[u64; 81],
+    log: &[u8],
+    at: usize,
+    expected: u64,
+    image: &mut [u8],
+) -> Result<usize, Refusal>
     requires { FlatFor t.now image.old }
     ensures { (result ≡ end_in (record_at (directory_in t.now) log.now at expected)) × (image.new ≡ image_after (directory_in t.now) image.old (record_at (directory_in t.now) log.now at expected)) }
 {
-    match LogReader::new(at, true).open(log) {
-        Step::Refused(x) => EndAnswer::NotEnded(x),
-        Step::Took(s) => {
-            let opened = s.reader;
-            if opened.record_id == expected {
-                replay_opened(t, log, at, opened, image)
-            } else {
-                EndAnswer::NotEnded(Refusal::new(Answer::WrongId, at))
-            }
-        }
+    let opened = LogReader::new(at, true).open(log)?.reader;
+    if opened.record_id == expected {
+        replay_opened(t, log, at, opened, image)
+    } else {
+        Err(Refusal::new(Answer::WrongId, at))
     }
 }
 
@@ -63,7 +52,7 @@ pub fn replay_kept(
     at: usize,
     expected: u64,
     image: &mut [u8],
-) -> EndAnswer
+) -> Result<usize, Refusal>
     requires { tables_kept d image.old ≡ true }
     ensures { (result ≡ end_in (record_at d log.now at expected)) × (image.new ≡ image_after d image.old (record_at d log.now at expected)) }
 {
@@ -72,40 +61,26 @@ pub fn replay_kept(
 }
 
 // Whether the directory keeps its rules and the image is its.
+#[tactic(auto, unfolding(crate::specs::Replay::tables_kept))]
 pub fn tables_kept(d: Directory, image: &[u8]) -> bool
     ensures { result ≡ tables_kept d image.now }
 {
-    if d.kept() {
-        image.len() == d.image_length()
-    } else {
-        false
-    }
+    d.kept() && image.len() == d.image_length()
 }
 
-// Replays the record at a position, if it is whole and acceptable and has the expected id.
-pub fn replay(d: Directory, log: &[u8], at: usize, expected: u64, image: &mut [u8]) -> Replayed
-    ensures { (result ≡ replayed_as at (judged d log.now at expected image.old)) × (image.new ≡ image_after d image.old (judged d log.now at expected image.old)) }
+// Replays the record at a position, if it is whole and acceptable and has the expected id: the place behind it. A refusal moves nothing.
+pub fn replay(
+    d: Directory,
+    log: &[u8],
+    at: usize,
+    expected: u64,
+    image: &mut [u8],
+) -> Result<usize, Refusal>
+    ensures { (result ≡ end_in (judged d log.now at expected image.old)) × (image.new ≡ image_after d image.old (judged d log.now at expected image.old)) }
 {
-    if !tables_kept(d, image) {
-        return Replayed {
-            answer: Answer::BadState,
-            position: at,
-            fault_at: at,
-        };
-    }
-    match replay_kept(d, log, at, expected, image) {
-        EndAnswer::NotEnded(x) => {
-            let a = x.answer;
-            Replayed {
-                answer: a,
-                position: at,
-                fault_at: x.position,
-            }
-        }
-        EndAnswer::Ended(end) => Replayed {
-            answer: Answer::Done,
-            position: end,
-            fault_at: end,
-        },
+    if tables_kept(d, image) {
+        replay_kept(d, log, at, expected, image)
+    } else {
+        Err(Refusal::new(Answer::BadState, at))
     }
 }

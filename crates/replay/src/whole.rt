@@ -4,9 +4,9 @@ ghost use Rattle.directory.specs.Inner.{directory_in, Flat};
 ghost use Rattle.record.specs.Next.{reader_at, step_of};
 ghost use Rattle.replay.specs.Replay.{rest_in, whole_of};
 
-use super::check::{EndAnswer, checked_rest};
+use super::check::checked_rest;
 use answer::Refusal;
-use record::{LogReader, Step};
+use record::LogReader;
 
 // The reader behind the opening, and the place behind the record.
 #[derive(Clone, Copy)]
@@ -15,25 +15,12 @@ pub struct WholeRecord {
     pub end: usize,
 }
 
-#[derive(Clone, Copy)]
-pub enum WholeAnswer {
-    Whole(WholeRecord),
-    NotWhole(Refusal),
-}
-
 // Under a directory in numbers.
-pub fn check_record_in(t: &[u64; 81], log: &[u8], at: usize) -> WholeAnswer
+pub fn check_record_in(t: &[u64; 81], log: &[u8], at: usize) -> Result<WholeRecord, Refusal>
     requires { Flat t.now }
     ensures { result ≡ whole_of (rest_in (directory_in t.now) log.now) (step_of (directory_in t.now) log.now (reader_at at true)) }
 {
-    match LogReader::new(at, true).open(log) {
-        Step::Refused(x) => WholeAnswer::NotWhole(x),
-        Step::Took(s) => {
-            let opened = s.reader;
-            match checked_rest(t, log, at, opened) {
-                EndAnswer::NotEnded(x) => WholeAnswer::NotWhole(x),
-                EndAnswer::Ended(end) => WholeAnswer::Whole(WholeRecord { opened, end }),
-            }
-        }
-    }
+    let opened = LogReader::new(at, true).open(log)?.reader;
+    let end = checked_rest(t, log, at, opened)?;
+    Ok(WholeRecord { opened, end })
 }

@@ -10,7 +10,6 @@ use Rattle.directory.specs.Inner.{directory_in}
 use Rattle.record.specs.Format.{read_at}
 use Rattle.record.specs.Inner.{got_item}
 use Rattle.record.specs.Record.{inside}
-use Rattle.record.specs.declared.item.ItemAnswer.TheVariants.{Read}
 use Rattle.record.specs.declared.reader.LogReader.{LogReader}
 use Rattle.effect.proofs.Sized.{payload-sized}
 use Rattle.replay.specs.Inner.{is_walked, moved_to}
@@ -18,6 +17,7 @@ use Rattle.replay.specs.Replay.{rest_of, image_after}
 use Rattle.replay.proofs.Items.{item_refused, item_taken, item_place, item_next}
 use Rattle.replay.proofs.Rest.{unstopped, last_applied, more_applied}
 use Rattle.replay.proofs.apply.apply_rest.Goals as goal
+use Rattle.std.specs.Prelude.{Ok}
 
 pub loop-i-init : goal.loop-i-init
 loop-i-init c = (c.requires.1.within, refl, c.requires.2, refl)
@@ -28,18 +28,18 @@ sought_in-f-requires c = (c.requires.0.flat, c.loop-i.invariant.0)
 pub item_at-requires : goal.item_at-requires
 item_at-requires c = (c.loop-i.invariant.0, record { directory = directory_in c.args.t.now; same = c.sought_in-f.ensures })
 
-pub shape_of-image-in-NoItem : goal.shape_of-image-in-NoItem
-shape_of-image-in-NoItem c = c.loop-i.invariant.1
+pub shape_of-image-in-Err : goal.shape_of-image-in-Err
+shape_of-image-in-Err c = c.loop-i.invariant.1
 
-pub returns-in-NoItem : goal.returns-in-NoItem
-returns-in-NoItem c =
+pub returns-in-Err : goal.returns-in-Err
+returns-in-Err c =
     let read : got_item c.item_at.result
     ≡ read_at (inside (directory_in c.args.t.now) c.args.r.validate c.args.r.crc32)
     c.loop-i.at c.args.log.now = c.item_at.ensures (directory_in c.args.t.now) c.sought_in-f.ensures in
     let a = c.args in
     let d = directory_in a.t.now in
     absurd (unstopped d a.log.now (moved_to a.r c.loop-i.at) _ c.loop-i.invariant.2
-    (item_refused d a.log.now a.r c.requires.1 c.loop-i.at c.loop-i.invariant.0 _ (sym (ap got_item c.in-NoItem.is) ∙ read)))
+    (item_refused d a.log.now a.r c.requires.1 c.loop-i.at c.loop-i.invariant.0 _ (sym (ap got_item c.in-Err.is) ∙ read)))
 
 pub shape_of-image-then-is_end : goal.shape_of-image-then-is_end
 shape_of-image-then-is_end c = c.loop-i.invariant.1
@@ -49,9 +49,9 @@ returns-then-is_end c =
     let read : got_item c.item_at.result
     ≡ read_at (inside (directory_in c.args.t.now) c.args.r.validate c.args.r.crc32)
     c.loop-i.at c.args.log.now = c.item_at.ensures (directory_in c.args.t.now) c.sought_in-f.ensures in
-    let taken : got_item (Read c.in-Read.i)
+    let taken : got_item (Ok c.in-Ok.i)
     ≡ read_at (inside (directory_in c.args.t.now) c.args.r.validate c.args.r.crc32)
-    c.loop-i.at c.args.log.now = sym (ap got_item c.in-Read.is) ∙ read in
+    c.loop-i.at c.args.log.now = sym (ap got_item c.in-Ok.is) ∙ read in
     let a = c.args in
     let d = directory_in a.t.now in
     last_applied d a.log.now (moved_to a.r c.loop-i.at) _ c.loop-i.image (item_taken d a.log.now a.r c.requires.1 c.loop-i.at c.loop-i.invariant.0 _ _ c.action-action.ensures taken) (sym c.is_end.ensures ∙ c.if-is_end.true)
@@ -62,9 +62,9 @@ apply_action-requires c =
     let read : got_item c.item_at.result
     ≡ read_at (inside (directory_in c.args.t.now) c.args.r.validate c.args.r.crc32)
     c.loop-i.at c.args.log.now = c.item_at.ensures (directory_in c.args.t.now) c.sought_in-f.ensures in
-    let taken : got_item (Read c.in-Read.i)
+    let taken : got_item (Ok c.in-Ok.i)
     ≡ read_at (inside (directory_in c.args.t.now) c.args.r.validate c.args.r.crc32)
-    c.loop-i.at c.args.log.now = sym (ap got_item c.in-Read.is) ∙ read in
+    c.loop-i.at c.args.log.now = sym (ap got_item c.in-Ok.is) ∙ read in
     let a = c.args in
     let d = directory_in a.t.now in
     let p = payload-sized d a.log.now (moved_to a.r c.loop-i.at) _ (item_taken d a.log.now a.r c.requires.1 c.loop-i.at c.loop-i.invariant.0 _ _ c.action-action.ensures taken) in
@@ -79,9 +79,9 @@ overflow_add-at c =
     let read : got_item c.item_at.result
     ≡ read_at (inside (directory_in c.args.t.now) c.args.r.validate c.args.r.crc32)
     c.loop-i.at c.args.log.now = c.item_at.ensures (directory_in c.args.t.now) c.sought_in-f.ensures in
-    let taken : got_item (Read c.in-Read.i)
+    let taken : got_item (Ok c.in-Ok.i)
     ≡ read_at (inside (directory_in c.args.t.now) c.args.r.validate c.args.r.crc32)
-    c.loop-i.at c.args.log.now = sym (ap got_item c.in-Read.is) ∙ read in
+    c.loop-i.at c.args.log.now = sym (ap got_item c.in-Ok.is) ∙ read in
     let a = c.args in
     omega (arith, (item_place (directory_in a.t.now) a.log.now a.r c.requires.1 c.loop-i.at c.loop-i.invariant.0 _ _ c.action-action.ensures taken).1)
 
@@ -90,9 +90,9 @@ loop-i-smaller c =
     let read : got_item c.item_at.result
     ≡ read_at (inside (directory_in c.args.t.now) c.args.r.validate c.args.r.crc32)
     c.loop-i.at c.args.log.now = c.item_at.ensures (directory_in c.args.t.now) c.sought_in-f.ensures in
-    let taken : got_item (Read c.in-Read.i)
+    let taken : got_item (Ok c.in-Ok.i)
     ≡ read_at (inside (directory_in c.args.t.now) c.args.r.validate c.args.r.crc32)
-    c.loop-i.at c.args.log.now = sym (ap got_item c.in-Read.is) ∙ read in
+    c.loop-i.at c.args.log.now = sym (ap got_item c.in-Ok.is) ∙ read in
     let a = c.args in
     let p = item_place (directory_in a.t.now) a.log.now a.r c.requires.1 c.loop-i.at c.loop-i.invariant.0 _ _ c.action-action.ensures taken in
     omega (arith, p.0, p.1)
@@ -102,9 +102,9 @@ loop-i-preserved c =
     let read : got_item c.item_at.result
     ≡ read_at (inside (directory_in c.args.t.now) c.args.r.validate c.args.r.crc32)
     c.loop-i.at c.args.log.now = c.item_at.ensures (directory_in c.args.t.now) c.sought_in-f.ensures in
-    let taken : got_item (Read c.in-Read.i)
+    let taken : got_item (Ok c.in-Ok.i)
     ≡ read_at (inside (directory_in c.args.t.now) c.args.r.validate c.args.r.crc32)
-    c.loop-i.at c.args.log.now = sym (ap got_item c.in-Read.is) ∙ read in
+    c.loop-i.at c.args.log.now = sym (ap got_item c.in-Ok.is) ∙ read in
     let a = c.args in
     let d = directory_in a.t.now in
     let log = a.log.now in

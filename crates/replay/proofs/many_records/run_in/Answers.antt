@@ -17,21 +17,21 @@ replay_in-requires c =
     let p = c.requires in
     record { flat = p.flat; long = c.loop-x.invariant.0 ∙ p.long }
 
-pub shape_of-image-in-NotEnded : goal.shape_of-image-in-NotEnded
-shape_of-image-in-NotEnded c = c.replay_in.auto.image ∙ c.loop-x.invariant.0
+pub shape_of-image-in-Err : goal.shape_of-image-in-Err
+shape_of-image-in-Err c = c.replay_in.auto.image ∙ c.loop-x.invariant.0
 
-pub returns-in-NotEnded : goal.returns-in-NotEnded
-returns-in-NotEnded c =
+pub returns-in-Err : goal.returns-in-Err
+returns-in-Err c =
     let l = c.loop-x in
     let a = c.args in
-    let e = sym (turn-stop (directory_in a.t.now) a.log.now l.position l.id l.count l.image _ c.replay_in.ensures.1 _ (sym c.in-NotEnded.is ∙ c.replay_in.ensures.0)) ∙ l.invariant.3 in
+    let e = sym (turn-stop (directory_in a.t.now) a.log.now l.position l.id l.count l.image _ c.replay_in.ensures.1 _ (sym c.in-Err.is ∙ c.replay_in.ensures.0)) ∙ l.invariant.3 in
     (ap (λ (o : Outcome). o.ran) e, ap (λ (o : Outcome). o.image) e)
 
 pub overflow_add-count : goal.overflow_add-count
 overflow_add-count c =
     let l = c.loop-x in
     let a = c.args in
-    let o = turn_on (directory_in a.t.now) a.log.now l.position l.id l.count l.image _ c.replay_in.ensures.1 _ (sym c.in-Ended.is ∙ c.replay_in.ensures.0) in
+    let o = turn_on (directory_in a.t.now) a.log.now l.position l.id l.count l.image _ c.replay_in.ensures.1 _ (sym c.in-Ok.is ∙ c.replay_in.ensures.0) in
     omega (arith, o.forward, o.inside, l.invariant.1)
 
 pub shape_of-image-then-id : goal.shape_of-image-then-id
@@ -41,7 +41,7 @@ pub returns-then-id : goal.returns-then-id
 returns-then-id c =
     let l = c.loop-x in
     let a = c.args in
-    let e = sym (turn_last (directory_in a.t.now) a.log.now l.position l.id l.count l.image _ c.replay_in.ensures.1 _ (sym c.in-Ended.is ∙ c.replay_in.ensures.0) (eq-eqb _ _ c.if-id.true)) ∙ l.invariant.3 in
+    let e = sym (turn_last (directory_in a.t.now) a.log.now l.position l.id l.count l.image _ c.replay_in.ensures.1 _ (sym c.in-Ok.is ∙ c.replay_in.ensures.0) (eq-eqb _ _ c.if-id.true)) ∙ l.invariant.3 in
     (ap (λ (o : Outcome). o.ran) e, ap (λ (o : Outcome). o.image) e)
 
 pub overflow_add-id : goal.overflow_add-id
@@ -51,16 +51,16 @@ pub loop-x-smaller : goal.loop-x-smaller
 loop-x-smaller c =
     let l = c.loop-x in
     let a = c.args in
-    let o = turn_on (directory_in a.t.now) a.log.now l.position l.id l.count l.image _ c.replay_in.ensures.1 _ (sym c.in-Ended.is ∙ c.replay_in.ensures.0) in
+    let o = turn_on (directory_in a.t.now) a.log.now l.position l.id l.count l.image _ c.replay_in.ensures.1 _ (sym c.in-Ok.is ∙ c.replay_in.ensures.0) in
     omega (arith, o.forward, o.inside)
 
 pub loop-x-preserved : goal.loop-x-preserved
 loop-x-preserved c =
     let l = c.loop-x in
     let a = c.args in
-    let o = turn_on (directory_in a.t.now) a.log.now l.position l.id l.count l.image _ c.replay_in.ensures.1 _ (sym c.in-Ended.is ∙ c.replay_in.ensures.0) in (
+    let o = turn_on (directory_in a.t.now) a.log.now l.position l.id l.count l.image _ c.replay_in.ensures.1 _ (sym c.in-Ok.is ∙ c.replay_in.ensures.0) in (
       c.replay_in.auto.image ∙ l.invariant.0,
       omega (arith, o.forward, l.invariant.1),
       omega (arith, l.invariant.2),
-      sym (turn_more (directory_in a.t.now) a.log.now l.position l.id l.count l.image _ c.replay_in.ensures.1 _ (sym c.in-Ended.is ∙ c.replay_in.ensures.0) (ne_eqb _ _ c.if-id.false)) ∙ l.invariant.3,
+      sym (turn_more (directory_in a.t.now) a.log.now l.position l.id l.count l.image _ c.replay_in.ensures.1 _ (sym c.in-Ok.is ∙ c.replay_in.ensures.0) (ne_eqb _ _ c.if-id.false)) ∙ l.invariant.3,
     )
