@@ -1,5 +1,5 @@
 -- "Numbered answers" (document 01): the number of each answer. A refusal of reading, and the last id of a record.
-use Rattle.std.specs.Prelude.{ℕ}
+use Rattle.std.specs.Prelude.{ℕ, Result, Ok, Err}
 use Rattle.answer.specs.declared.answer.Answer.{Answer}
 use Rattle.answer.specs.declared.answer.Answer.TheVariants.{Done, EndOfLog, Cut, UnknownTag, OutOfPlace, WrongId, NoTable, NoIndex, WrongSum, NoRoom, ShortOutput, NotNext, UsedUp, BadState, BadArgument}
 use Rattle.answer.specs.declared.answer.Refusal.{Refusal}
@@ -21,6 +21,11 @@ number_of NotNext = 11  -- "list's id plus 1 isn't the next id"
 number_of UsedUp = 12  -- "record ids, file numbers or a file's size used up"
 number_of BadState = 13  -- "a directory, list, overlay, queue or other state handed in breaks a rule of this paper, .."
 number_of BadArgument = 14  -- "slot above 63, chunk or value of the wrong length, position beyond the log's end"
+
+-- the answer of a call that hands something back with `Done` alone
+abbrev pub answer_in : {A : Type 0} → Result A Answer → Answer
+answer_in (Ok x) = Done
+answer_in (Err a) = a
 
 -- a refusal of reading, with its answer in it and "the byte position of the first byte of the action at fault" (document 02, "Five. Where is
 -- it broken?")

@@ -104,6 +104,26 @@ lowest (suc k) n p h = go (n % 2) refl (λ q. lowest k (n / 2) q (omega (arith, 
         }
     go (suc d) e rest = record { within = omega arith; clear = omega arith; odd = omega arith }
 
+-- the set bits below the lowest clear one are counted as the clear ones of the next number
+pub ones-next : (k n : ℕ) → n < 2 ^ k → count_trailing_zeros k (2 ^ k - 1 - n) ≡ count_trailing_zeros k (n + 1)
+unfolding count_trailing_zeros
+ones-next zero n h = refl
+ones-next (suc k) n h = go ((n + 1) % 2) refl (ones-next k (n / 2) (omega (arith, pow-suc 2 k)))
+  where
+    m : ℕ
+    m = 2 ^ suc k - 1 - n
+
+    same : m % 2 ≡ (n + 1) % 2
+    same = omega (arith, pow-suc 2 k)
+
+    go : (d : ℕ) → (n + 1) % 2 ≡ d → count_trailing_zeros k (2 ^ k - 1 - n / 2) ≡ count_trailing_zeros k (n / 2 + 1)
+        → under (m % 2) (count_trailing_zeros k (m / 2)) ≡ under ((n + 1) % 2) (count_trailing_zeros k ((n + 1) / 2))
+    go zero e rest =
+        let a : m / 2 ≡ 2 ^ k - 1 - n / 2 = omega (arith, pow-suc 2 k) in
+        let b : (n + 1) / 2 ≡ n / 2 + 1 = omega arith in
+        rw (same, a, b) (ap (under ((n + 1) % 2)) rest)
+    go (suc d) e rest = rw (same, e) refl
+
 -- t set bits lie below the lowest clear bit of n, which is the lowest set one of n + 1
 above : (n t : ℕ) → (n + 1) / 2 ^ t * 2 ^ t ≡ n + 1 → n / 2 ^ t * 2 ^ t + (2 ^ t - 1) ≡ n
 above n t e = go ((n + 1) / 2 ^ t) e

@@ -1,7 +1,18 @@
--- Two halves as one number.
+-- Four bytes as one number, the lowest first.
 use Rattle.std.proofs.Common.{arith}
-use Rattle.words.proofs.Little.{join}
+use Rattle.words.proofs.Little.{first, more}
+use Rattle.words.specs.Words.{little}
 use Rattle.words.proofs.u32_at.Goals as goal
 
 pub returns : goal.returns
-returns c = omega (arith, join c.args.s.now c.args.at 2 2 (omega arith))
+unfolding little
+returns c =
+    let s = c.args.s.now in
+    let at = c.args.at in
+    omega (
+      arith,
+      first s 3 at (omega arith),
+      more s 2 at 1 (omega arith),
+      more s 1 at 2 (omega arith),
+      more s 0 at 3 (omega arith),
+    )
