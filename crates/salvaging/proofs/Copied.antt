@@ -1,109 +1,85 @@
--- Lines read back from words, and the records that they keep. Assumes nothing.
-use mathlib.Core.Path.{◌≡◌, refl, sym, ap, ◌∙◌}
-use mathlib.Core.List.{List, [], ◌∷◌, ◌++◌, append_assoc}
+-- The records that lines keep, and the lines in words, a line at a time. Assumes nothing.
+use mathlib.Core.Path.{◌≡◌, refl, ap, ◌∙◌}
+use mathlib.Core.List.{List, [], ◌∷◌, ◌++◌}
 use Prim.Native.Nat.{ℕ, suc, ◌+◌, ◌*◌, ◌-◌, ◌≤◌, ◌<◌}
-use native.Mathlib.Nat.{add-zero}
+use native.Mathlib.Numerals.{add-one}
 use native.Mathlib.Omega.{arith}
-use lib.Dec.{eqb}
-use lib.ListN.{length, take, drop, get_or, take-append-drop}
-use lib.Seq.{get_or-drop, drop-drop, length-take-le, paste}
-use borrow.Author.Tests.{eq-eqb, ne_eqb}
-use Rattle.words.proofs.Choices.{if_true, if_false}
+use lib.ListN.{length, take, drop, get_or, drop_of_length-le}
+use lib.Seq.{drop-cons, take_all}
+use borrow.Rule.Slice.PartMut.{put_mid}
+use Rattle.std.proofs.lemmas.Slice.{put_mid-paste}
 use Rattle.output.specs.Put.{put, Wrote}
 use Rattle.output.proofs.Laws.{rest, room, none_left}
-use Rattle.salvaging.specs.Salvage.{Line, kept, lost, words_of, words_of_lines, line_bytes, kept_bytes}
-use Rattle.salvaging.specs.Inner.{line_of, lines_in, AllWithin}
+use Rattle.salvaging.specs.declared.lines.Line.{Line}
+use Rattle.salvaging.specs.declared.lines.Line.TheVariants.{Kept, Lost}
+use Rattle.salvaging.specs.Salvage.{words_of, words_of_lines, kept_bytes}
+use Rattle.salvaging.specs.Inner.{AllWithin}
 
--- what was put down as words is read back
-line-back : (x : Line) (ws : List ℕ) → (line_of (words_of x ++ ws) ≡ x) × (drop 4 (words_of x ++ ws) ≡ ws)
-line-back (kept p n id) ws = (refl, refl)
-line-back (lost p n) ws = (refl, refl)
+module _ (ls : List Line) (i : ℕ) (h : i < length ls) where
+  turn : (x : Line) → get_or ls i (Kept 0 0 0) ≡ x → drop i ls ≡ x ∷ drop (i + 1) ls
+  turn x q = rw add-one (drop-cons ls i (Kept 0 0 0) h ∙ ap (λ (y : Line). y ∷ drop (suc i) ls) q)
 
-lines-back : (ls : List Line) (ws : List ℕ) → lines_in (length ls) (words_of_lines ls ++ ws) ≡ ls
-unfolding lines_in words_of_lines
-lines-back [] ws = refl
-lines-back (x ∷ ls) ws =
-    let b = line-back x (words_of_lines ls ++ ws) in
-    rw (append_assoc (words_of x) (words_of_lines ls) ws, b.0, b.1) (ap (λ (l : List Line). x ∷ l) (lines-back ls ws))
+  -- ---- the bytes of the records kept
 
--- the words behind a list's own don't matter
-pub lines-read : (ls : List Line) (ws : List ℕ) (n : ℕ) → take n ws ≡ words_of_lines ls → lines_in (length ls) ws ≡ ls
-lines-read ls ws n e = ap (lines_in (length ls)) (sym (take-append-drop n ws) ∙ ap (λ (x : List ℕ). x ++ drop n ws) e) ∙ lines-back ls (drop n ws)
+  module _ (log : List ℕ) (p n id : ℕ) (q : get_or ls i (Kept 0 0 0) ≡ Kept p n id) where
+    pub within-behind : AllWithin (length log) (drop i ls) → AllWithin (length log) (drop (i + 1) ls)
+    within-behind w = (rw (turn (Kept p n id) q) at w).1
 
--- words copied to a front
-pub words-put : (l ws : List ℕ) (n : ℕ) → n ≤ length ws → paste l 0 (drop 0 ws) n ≡ put l 0 (take n ws)
-unfolding put
-words-put l ws n h = rw (length-take-le n ws h)
-
--- ---- one line, by its words
-
-module _ (ws log : List ℕ) (at : ℕ) where
-  mark : get_or (drop at ws) 0 0 ≡ get_or ws at 0
-  mark = rw (get_or-drop, add-zero)
-
-  pub lost-bytes : get_or ws at 0 ≡ 0 → line_bytes log (line_of (drop at ws)) ≡ []
-  lost-bytes e = ap (line_bytes log) (if_true (eqb (get_or (drop at ws) 0 0) 0) _ _ (eq-eqb (get_or (drop at ws) 0 0) 0 (mark ∙ e)))
-
-  module _ (h : get_or ws at 0 ≡ 0 → ⊥) where
-    is-kept : line_of (drop at ws) ≡ kept (get_or ws (at + 1) 0) (get_or ws (at + 2) 0) (get_or ws (at + 3) 0)
-    is-kept =
-        if_false (eqb (get_or (drop at ws) 0 0) 0) _ _ (ne_eqb (get_or (drop at ws) 0 0) 0 (λ e. h (sym mark ∙ e)))
-        ∙ rw (get_or-drop at ws 1 0, get_or-drop at ws 2 0, get_or-drop at ws 3 0)
-
-    pub kept-within : (room : ℕ) → AllWithin room (line_of (drop at ws) ∷ []) → get_or ws (at + 1) 0 + get_or ws (at + 2) 0 ≤ room
-    kept-within room w = (rw is-kept at w).0
-
-    pub kept-bytes : line_bytes log (line_of (drop at ws)) ≡ take (get_or ws (at + 1) 0 + get_or ws (at + 2) 0 - get_or ws (at + 1) 0) (drop (get_or ws (at + 1) 0) log)
-    kept-bytes =
-        let e : get_or ws (at + 2) 0 ≡ get_or ws (at + 1) 0 + get_or ws (at + 2) 0 - get_or ws (at + 1) 0 = omega arith in
-        ap (line_bytes log) is-kept ∙ ap (λ (n : ℕ). take n (drop (get_or ws (at + 1) 0) log)) e
-
--- ---- a turn of the copying
-
--- what is left of the lines behind the first i
-abbrev pub lines_left : List ℕ → ℕ → ℕ → List Line
-lines_left ws count i = lines_in (count - i) (drop (4 * i) ws)
-
-pub none_passed : (ws : List ℕ) (count : ℕ) → lines_left ws count 0 ≡ lines_in count ws
-none_passed ws count =
-    let k : count - 0 ≡ count = omega arith in
-    rw k
-
-module _ (ws : List ℕ) (count i : ℕ) where
-  lines-turn : i < count → lines_left ws count i ≡ line_of (drop (4 * i) ws) ∷ lines_left ws count (i + 1)
-  unfolding lines_in
-  lines-turn h =
-      let k : count - i ≡ suc (count - (i + 1)) = omega arith in
-      let e : 4 * i + 4 ≡ 4 * (i + 1) = omega arith in
-      rw (k, drop-drop 4 (4 * i) ws, e)
-
-  within-turn : (room : ℕ) (x : Line) (ls : List Line) → AllWithin room (x ∷ ls) → AllWithin room (x ∷ []) × AllWithin room ls
-  within-turn room (kept p n id) ls w = ((w.0, tt), w.1)
-  within-turn room (lost p n) ls w = (tt, w)
-
-  module _ (log : List ℕ) (h : i < count) (w : AllWithin (length log) (lines_left ws count i)) where
-    turns : AllWithin (length log) (line_of (drop (4 * i) ws) ∷ []) × AllWithin (length log) (lines_left ws count (i + 1))
-    turns = within-turn (length log) (line_of (drop (4 * i) ws)) (lines_left ws count (i + 1)) (rw (lines-turn h) at w)
-
-    pub line-within : AllWithin (length log) (line_of (drop (4 * i) ws) ∷ [])
-    line-within = turns.0
-
-    pub rest-within : AllWithin (length log) (lines_left ws count (i + 1))
-    rest-within = turns.1
-
-  module _ (log : List ℕ) (h : i < count) {o : List ℕ} {at : ℕ} {z : List ℕ} {e : ℕ} (w : Wrote o at (kept_bytes log (lines_left ws count i)) z e) where
-    bytes-turn : kept_bytes log (lines_left ws count i) ≡ line_bytes log (line_of (drop (4 * i) ws)) ++ kept_bytes log (lines_left ws count (i + 1))
+    bytes-behind : kept_bytes log (drop i ls) ≡ take (p + n - p) (drop p log) ++ kept_bytes log (drop (i + 1) ls)
     unfolding kept_bytes
-    bytes-turn = ap (kept_bytes log) (lines-turn h)
+    bytes-behind =
+        let e : n ≡ p + n - p = omega arith in
+        ap (kept_bytes log) (turn (Kept p n id) q) ∙ ap (λ (k : ℕ). take k (drop p log) ++ kept_bytes log (drop (i + 1) ls)) e
 
-    pub line-room : at + length (line_bytes log (line_of (drop (4 * i) ws))) ≤ e
-    line-room = room (line_bytes log (line_of (drop (4 * i) ws))) (kept_bytes log (lines_left ws count (i + 1))) (rw bytes-turn at w)
+    module _ {o : List ℕ} {at : ℕ} {z : List ℕ} {e : ℕ} (w : Wrote o at (kept_bytes log (drop i ls)) z e) where
+      pub record-room : at + length (take (p + n - p) (drop p log)) ≤ e
+      record-room = room (take (p + n - p) (drop p log)) (kept_bytes log (drop (i + 1) ls)) (rw bytes-behind at w)
 
-    pub line-rest : {m : List ℕ} {r : ℕ} → Wrote o at (line_bytes log (line_of (drop (4 * i) ws))) m r → Wrote m r (kept_bytes log (lines_left ws count (i + 1))) z e
-    line-rest x = rest (rw bytes-turn at w) x
+      pub record-rest : {m : List ℕ} {r : ℕ} → Wrote o at (take (p + n - p) (drop p log)) m r → Wrote m r (kept_bytes log (drop (i + 1) ls)) z e
+      record-rest x = rest (rw bytes-behind at w) x
 
-  pub lines-done : (log : List ℕ) → count ≤ i → {l : List ℕ} {at : ℕ} {bs m : List ℕ} {r : ℕ} → Wrote m r (kept_bytes log (lines_left ws count i)) (put l at bs) (at + length bs) → Wrote l at bs m r
-  unfolding lines_in kept_bytes
-  lines-done log h w =
-      let k : count - i ≡ 0 = omega arith in
-      none_left (rw k at w)
+  -- what is left out has none
+  module _ (log : List ℕ) (q : (p n id : ℕ) → get_or ls i (Kept 0 0 0) ≡ Kept p n id → ⊥) where
+    pub lost-passed : (AllWithin (length log) (drop i ls) → AllWithin (length log) (drop (i + 1) ls)) × (kept_bytes log (drop i ls) ≡ kept_bytes log (drop (i + 1) ls))
+    unfolding kept_bytes
+    lost-passed = by (get_or ls i (Kept 0 0 0)) refl
+      where
+        by : (x : Line) → get_or ls i (Kept 0 0 0) ≡ x
+            → (AllWithin (length log) (drop i ls) → AllWithin (length log) (drop (i + 1) ls)) × (kept_bytes log (drop i ls) ≡ kept_bytes log (drop (i + 1) ls))
+        by (Kept p n id) e = absurd (q p n id e)
+        by (Lost p n) e = (λ w. rw (turn (Lost p n) e) at w, ap (kept_bytes log) (turn (Lost p n) e))
+
+  -- ---- the lines in words
+
+  four : (x : Line) → length (words_of x) ≡ 4
+  four (Kept p n id) = refl
+  four (Lost p n) = refl
+
+  part-put : (old ys : List ℕ) (at n : ℕ) → length ys ≡ n → put_mid at (at + n - at) old ys ≡ put old at ys
+  unfolding put
+  part-put old ys at n e =
+      put_mid-paste at (at + n - at) old ys ys (length ys) refl (omega arith) refl
+      ∙ ap (λ (l : List ℕ). take at old ++ l ++ drop (at + length ys) old) (take_all (length ys) ys (omega arith))
+
+  pub line-rest : {o z : List ℕ} {e : ℕ} → Wrote o (4 * i) (words_of_lines (drop i ls)) z e
+      → (ys : List ℕ) → ys ≡ words_of (get_or ls i (Kept 0 0 0)) → Wrote (put_mid (4 * i) (4 * i + 4 - 4 * i) o ys) (4 * (i + 1)) (words_of_lines (drop (i + 1) ls)) z e
+  unfolding words_of_lines
+  line-rest {o} {z} {e} w ys q =
+      let x : Line = get_or ls i (Kept 0 0 0) in
+      let n : length ys ≡ 4 = ap length q ∙ four x in
+      let t : words_of_lines (drop i ls) ≡ words_of x ++ words_of_lines (drop (i + 1) ls) = ap words_of_lines (turn x refl) in
+      rest (rw t at w) (record { next = omega (arith, four x); bytes = part-put o ys (4 * i) 4 n ∙ ap (put o (4 * i)) q })
+
+-- ---- where nothing is left, all is written
+
+module _ (ls : List Line) (i : ℕ) (h : length ls ≤ i) where
+  none : drop i ls ≡ []
+  none = drop_of_length-le ls {i = i} h
+
+  pub records-done : (log l bs : List ℕ) {m : List ℕ} {r : ℕ} → Wrote m r (kept_bytes log (drop i ls)) (put l 0 bs) (0 + length bs) → m ≡ put l 0 bs
+  unfolding kept_bytes
+  records-done log l bs w = (none_left (rw none at w)).bytes
+
+  pub lines-done : (l bs : List ℕ) {m : List ℕ} {r : ℕ} → Wrote m r (words_of_lines (drop i ls)) (put l 0 bs) (0 + length bs) → m ≡ put l 0 bs
+  unfolding words_of_lines
+  lines-done l bs w = (none_left (rw none at w)).bytes

@@ -1,174 +1,116 @@
 -- Lines by value, as they are added one by one: what they hold, and what of a list is still left to add. Assumes nothing.
 use mathlib.Core.Path.{◌≡◌, refl, sym, ap, ◌∙◌}
 use mathlib.Core.Bool.{Bool, true, false}
-use mathlib.Core.Logic.{◌⊎◌, inl, inr, ⊎_elim}
 use mathlib.Core.List.{List, [], ◌∷◌, ◌++◌, append_assoc, append-nil}
-use Prim.Native.Nat.{ℕ, ◌+◌, ◌*◌, ◌-◌, ◌≤◌, ◌<◌}
+use Prim.Native.Nat.{ℕ, ◌+◌, ◌-◌, ◌≤◌, ◌<◌}
 use native.Mathlib.Omega.{arith}
-use lib.Dec.{ltb}
-use lib.ListN.{length, take, drop, set, length-append, length-set, length-drop}
-use lib.Seq.{take_at, length-take-le}
-use borrow.Author.Tests.{ltb-true, ltb-false, lt-ltb, le-ltb}
-use Rattle.std.specs.Prelude.{if◌then◌else◌}
-use Rattle.words.proofs.Choices.{if_true, if_false}
-use Rattle.output.specs.Put.{put}
-use Rattle.output.proofs.Laws.{stored, ◌⨾◌}
-use Rattle.salvaging.specs.Salvage.{Line, kept, lost, left_out, words_of, words_of_lines, kept_bytes}
-use Rattle.salvaging.specs.Inner.{with_words, up_to, covering, with_record, Lists}
+use lib.Dec.{ltb, leb}
+use lib.ListN.{length, take, set, length-append, length-set}
+use lib.Seq.{length-take-le}
+use Rattle.std.proofs.lemmas.List.{take_more_set}
+use borrow.Author.Tests.{leb-true, leb-false}
+use Rattle.std.specs.Prelude.{Result, Ok, Err}
+use Rattle.salvaging.specs.declared.lines.Line.{Line}
+use Rattle.salvaging.specs.declared.lines.Line.TheVariants.{Kept, Lost}
 use Rattle.salvaging.specs.declared.lines.Lines.{Lines}
+use Rattle.salvaging.specs.Salvage.{left_out, kept_bytes}
+use Rattle.salvaging.specs.Inner.{with_line, up_to, if_room, covering, with_record, Holds}
 
--- ---- four words stored
+-- ---- where they end, and how many bytes they keep
 
-pub four-words : (w : List ℕ) (at a p n i : ℕ) → at + 4 ≤ length w
-    → set (set (set (set w at a) (at + 1) p) (at + 1 + 1) n) (at + 1 + 1 + 1) i ≡ put w at (a ∷ p ∷ n ∷ i ∷ [])
-four-words w at a p n i h =
-    (stored w at a (omega arith)
-    ⨾ stored (set w at a) (at + 1) p (simp length-set (omega arith))
-    ⨾ stored (set (set w at a) (at + 1) p) (at + 1 + 1) n (simp length-set (omega arith))
-    ⨾ stored (set (set (set w at a) (at + 1) p) (at + 1 + 1) n) (at + 1 + 1 + 1) i (simp length-set (omega arith))).bytes
-
-module _ (l : Lines) (ws : List ℕ) where
-  pub with_room : (w : List ℕ) → l.count < 64 → w ≡ put l.words (4 * l.count) ws → record { words = w; count = l.count + 1; end = l.end; bytes = l.bytes } ≡ with_words l ws
-  with_room w h e =
-      ap (λ (x : List ℕ). record { words = x; count = l.count + 1; end = l.end; bytes = l.bytes }) e
-      ∙ sym (if_true (ltb l.count 64) _ _ (lt-ltb l.count 64 h))
-
-  pub with_none : 64 ≤ l.count → record { words = l.words; count = 65; end = l.end; bytes = l.bytes } ≡ with_words l ws
-  with_none h = sym (if_false (ltb l.count 64) _ _ (le-ltb l.count 64 h))
-
-  with_bytes : (with_words l ws).bytes ≡ l.bytes
-  with_bytes = by (ltb l.count 64) refl
-    where
-      by : (b : Bool) → ltb l.count 64 ≡ b → (with_words l ws).bytes ≡ l.bytes
-      by true q = rw q
-      by false q = rw q
-
-pub up-bytes : (l : Lines) (to : ℕ) → (up_to l to).bytes ≡ l.bytes
-up-bytes l to = by (ltb l.end to) refl
+with_same : (l : Lines) (x : Line) (m : Lines) → Ok m ≡ with_line l x → (m.end ≡ l.end) × (m.bytes ≡ l.bytes)
+with_same l x m e = by (leb 64 l.count) refl
   where
-    by : (b : Bool) → ltb l.end to ≡ b → (up_to l to).bytes ≡ l.bytes
-    by true q = ap (λ (x : Lines). x.bytes) (if_true (ltb l.end to) _ _ q) ∙ with_bytes l (0 ∷ l.end ∷ (to - l.end) ∷ 0 ∷ [])
-    by false q = ap (λ (x : Lines). x.bytes) (if_false (ltb l.end to) _ _ q)
+    by : (b : Bool) → leb 64 l.count ≡ b → (m.end ≡ l.end) × (m.bytes ≡ l.bytes)
+    by true q = let z : ◌≡◌ {A = ℕ} 0 1 = cc (rw q at e) in absurd (omega arith)
+    by false q =
+        let s : m ≡ record { lines = set l.lines l.count x; count = l.count + 1; end = l.end; bytes = l.bytes } = cc (rw q at e) in
+        (ap (λ (y : Lines). y.end) s, ap (λ (y : Lines). y.bytes) s)
 
-up-end : (l : Lines) (to : ℕ) → (up_to l to).end ≡ l.end
-up-end l to = by (ltb l.end to) refl (ltb l.count 64) refl
+-- what is left out changes neither
+pub up-same : (l : Lines) (to : ℕ) (m : Lines) → Ok m ≡ up_to l to → (m.end ≡ l.end) × (m.bytes ≡ l.bytes)
+up-same l to m e = by (ltb l.end to) refl
   where
-    by : (b : Bool) → ltb l.end to ≡ b → (c : Bool) → ltb l.count 64 ≡ c → (up_to l to).end ≡ l.end
-    by true q true r = rw (q, r)
-    by true q false r = rw (q, r)
-    by false q c r = rw q
-
--- what is passed over changes neither
-pub up_same : (l r : Lines) (to : ℕ) → r ≡ up_to l to → (r ≡ up_to l to) × (r.end ≡ l.end) × (r.bytes ≡ l.bytes)
-up_same l r to e = (e, ap (λ (x : Lines). x.end) e ∙ up-end l to, ap (λ (x : Lines). x.bytes) e ∙ up-bytes l to)
+    by : (b : Bool) → ltb l.end to ≡ b → (m.end ≡ l.end) × (m.bytes ≡ l.bytes)
+    by true q = with_same l (Lost l.end (to - l.end)) m (rw q at e)
+    by false q =
+        let s : m ≡ l = cc (rw q at e) in
+        (ap (λ (y : Lines). y.end) s, ap (λ (y : Lines). y.bytes) s)
 
 -- the bytes of a record are added to those before it
-pub record_bytes : (l : Lines) (from end id : ℕ) → (with_record l from end id).bytes ≡ l.bytes + (end - from)
-record_bytes l from end id =
-    ap (λ (n : ℕ). n + (end - from)) (with_bytes (up_to l from) (1 ∷ from ∷ (end - from) ∷ id ∷ []) ∙ up-bytes l from)
+pub record_adds : (l : Lines) (from end id : ℕ) (m : Lines) → Ok m ≡ with_record l from end id → (m.end ≡ end) × (m.bytes ≡ l.bytes + (end - from))
+record_adds l from end id m e = by (up_to l from) refl e
+  where
+    covered : (k : Lines) (r : Result Lines ℕ) → r ≡ with_line k (Kept from (end - from) id) → Ok m ≡ if_room (covering end (end - from)) r → (m.end ≡ end) × (m.bytes ≡ k.bytes + (end - from))
+    covered k (Ok n) p h =
+        let s : m ≡ record { lines = n.lines; count = n.count; end = end; bytes = n.bytes + (end - from) } = cc in
+        (ap (λ (y : Lines). y.end) s, ap (λ (y : Lines). y.bytes) s ∙ ap (λ (b : ℕ). b + (end - from)) (with_same k (Kept from (end - from) id) n p).1)
+    covered k (Err place) p h = let z : ◌≡◌ {A = ℕ} 0 1 = cc in absurd (omega arith)
+
+    by : (r : Result Lines ℕ) → up_to l from ≡ r → Ok m ≡ if_room (λ k. if_room (covering end (end - from)) (with_line k (Kept from (end - from) id))) r → (m.end ≡ end) × (m.bytes ≡ l.bytes + (end - from))
+    by (Ok k) q h =
+        let c = covered k (with_line k (Kept from (end - from) id)) refl h in
+        (c.0, c.1 ∙ ap (λ (b : ℕ). b + (end - from)) (up-same l from k (sym q)).1)
+    by (Err place) q h = let z : ◌≡◌ {A = ℕ} 0 1 = cc in absurd (omega arith)
 
 -- ---- what is held of a list, and what is left of it
 
 pub record Going (l : Lines) (left all : List Line) : Type 0 where
+  pub long : length l.lines ≡ 64
   pub room : l.count ≤ 64
-  pub counts : l.count + length left ≡ length all
-  pub words : take (4 * l.count) l.words ++ words_of_lines left ≡ words_of_lines all
+  pub lines : take l.count l.lines ++ left ≡ all
 
-pub record Over (l : Lines) (all : List Line) : Type 0 where
-  pub count : l.count ≡ 65
-  pub longer : 64 < length all
+-- or it is longer than there is room for
+abbrev pub Held : Result Lines ℕ → List Line → List Line → Type 0
+Held (Ok l) left all = Going l left all
+Held (Err place) left all = 64 < length all
 
-pub record Held (l : Lines) (left all : List Line) : Type 0 where
-  pub long : length l.words ≡ 256
-  pub state : Going l left all ⊎ Over l all
+-- a line more is held, or there are more than 64
+line-held : (l : Lines) (x : Line) (left all : List Line) → Going l (x ∷ left) all → Held (with_line l x) left all
+line-held l x left all g = by (leb 64 l.count) refl
+  where
+    long : 64 ≤ l.count → 64 < length all
+    long h =
+        let n : length (take l.count l.lines) ≡ l.count = length-take-le l.count l.lines (omega (arith, g.long, g.room)) in
+        omega (arith, ap length g.lines, length-append (take l.count l.lines) (x ∷ left))
 
-four : (x : Line) → length (words_of x) ≡ 4
-four (kept p n id) = refl
-four (lost p n) = refl
+    more : l.count < 64 → Going (record { lines = set l.lines l.count x; count = l.count + 1; end = l.end; bytes = l.bytes }) left all
+    more h = record {
+      long = length-set l.lines l.count x ∙ g.long;
+      room = omega arith;
+      lines =
+          ap (λ (y : List Line). y ++ left) (take_more_set l.lines l.count x (omega (arith, g.long)))
+          ∙ append_assoc (take l.count l.lines) (x ∷ []) left ∙ g.lines;
+    }
 
-length-put : (w : List ℕ) (at : ℕ) (bs : List ℕ) → at + length bs ≤ length w → length (put w at bs) ≡ length w
-unfolding put
-length-put w at bs h = simp (length-append, length-drop) (omega (arith, length-take-le at w (omega arith)))
+    by : (b : Bool) → leb 64 l.count ≡ b → Held (with_line l x) left all
+    by true q = rw q (long (leb-true 64 l.count q))
+    by false q = rw q (more (omega (arith, leb-false 64 l.count q)))
 
-take_put : (w : List ℕ) (at n : ℕ) (bs : List ℕ) → at + length bs ≡ n → n ≤ length w → take n (put w at bs) ≡ take at w ++ bs
-unfolding put
-take_put w at n bs e h =
-    take_at (take at w ++ bs) (drop (at + length bs) w) n (simp length-append (omega (arith, length-take-le at w (omega arith))))
+-- a stretch left out too
+pub stretch-held : (l : Lines) (ls all : List Line) (to : ℕ) → Going l (left_out l.end to ls) all → Held (up_to l to) ls all
+stretch-held l ls all to h = by (ltb l.end to) refl h
+  where
+    by : (b : Bool) → ltb l.end to ≡ b → Going l (left_out l.end to ls) all → Held (up_to l to) ls all
+    by true q k = rw q (line-held l (Lost l.end (to - l.end)) ls all (rw q at k))
+    by false q k = rw q (rw q at k)
 
-module _ (l : Lines) (x : Line) (left all : List Line) where
-  -- a line more is held, or there are more than 64
-  pub line-held : Held l (x ∷ left) all → Held (with_words l (words_of x)) left all
-  unfolding words_of_lines
-  line-held h = by (ltb l.count 64) refl h.state
-    where
-      next : Lines
-      next = record { words = put l.words (4 * l.count) (words_of x); count = l.count + 1; end = l.end; bytes = l.bytes }
+-- and a record behind it
+pub record_held : (l : Lines) (from end id : ℕ) (ls all : List Line) → Going l (left_out l.end from (Kept from (end - from) id ∷ ls)) all → Held (with_record l from end id) ls all
+record_held l from end id ls all h = by (up_to l from) (stretch-held l (Kept from (end - from) id ∷ ls) all from h)
+  where
+    covered : (r : Result Lines ℕ) → Held r ls all → Held (if_room (covering end (end - from)) r) ls all
+    covered (Ok m) g = record { long = g.long; room = g.room; lines = g.lines }
+    covered (Err place) g = g
 
-      full : Lines
-      full = record { words = l.words; count = 65; end = l.end; bytes = l.bytes }
-
-      room : l.count < 64 → Going l (x ∷ left) all → Held next left all
-      room k g = record {
-        long = length-put l.words (4 * l.count) (words_of x) (omega (arith, four x, h.long)) ∙ h.long;
-        state = inl (record {
-          room = omega arith;
-          counts = omega (arith, g.counts);
-          words =
-              ap (λ (y : List ℕ). y ++ words_of_lines left) (take_put l.words (4 * l.count) (4 * (l.count + 1)) (words_of x) (omega (arith, four x)) (omega (arith, h.long)))
-              ∙ append_assoc (take (4 * l.count) l.words) (words_of x) (words_of_lines left) ∙ g.words;
-        });
-      }
-
-      by : (b : Bool) → ltb l.count 64 ≡ b → Going l (x ∷ left) all ⊎ Over l all → Held (with_words l (words_of x)) left all
-      by true q (inl g) = rw q (room (ltb-true l.count 64 q) g)
-      by true q (inr o) = absurd (omega (arith, ltb-true l.count 64 q, o.count))
-      by false q (inl g) = rw q (record { long = h.long; state = inr (record { count = refl; longer = omega (arith, g.counts, ltb-false l.count 64 q) }) })
-      by false q (inr o) = rw q (record { long = h.long; state = inr (record { count = refl; longer = o.longer }) })
-
-module _ (l : Lines) (ls all : List Line) where
-  pub stretch-held : (to : ℕ) → Held l (left_out l.end to ls) all → Held (up_to l to) ls all
-  stretch-held to h = by (ltb l.end to) refl h
-    where
-      by : (b : Bool) → ltb l.end to ≡ b → Held l (left_out l.end to ls) all → Held (up_to l to) ls all
-      by true q k = rw q (line-held l (lost l.end (to - l.end)) ls all (rw q at k))
-      by false q k = rw q (rw q at k)
-
-pub record_held : (l : Lines) (from end id : ℕ) (ls all : List Line) → Held l (left_out l.end from (kept from (end - from) id ∷ ls)) all → Held (with_record l from end id) ls all
-record_held l from end id ls all h =
-    let k = line-held (up_to l from) (kept from (end - from) id) ls all (stretch-held l (kept from (end - from) id ∷ ls) all from h) in
-    record { long = k.long; state = ⊎_elim (λ g. inl (record { room = g.room; counts = g.counts; words = g.words })) (λ o. inr (record { count = o.count; longer = o.longer })) k.state }
+    by : (r : Result Lines ℕ) → Held r (Kept from (end - from) id ∷ ls) all
+        → Held (if_room (λ m. if_room (covering end (end - from)) (with_line m (Kept from (end - from) id))) r) ls all
+    by (Ok m) g = covered (with_line m (Kept from (end - from) id)) (line-held m (Kept from (end - from) id) ls all g)
+    by (Err place) g = g
 
 -- ---- all of a list is held
 
-pub held_all : (log : List ℕ) (l : Lines) (all : List Line) → Held l [] all → (length all ≤ 64 → l.bytes ≡ length (kept_bytes log all)) → Lists log l all
-unfolding words_of_lines
-held_all log l all h b = by h.state
-  where
-    by : Going l [] all ⊎ Over l all → Lists log l all
-    by (inl g) =
-        let c : l.count ≡ length all = omega (arith, g.counts) in
-        record {
-          over = λ k. omega (arith, g.room);
-          all = λ k. c;
-          words = λ k. ap (λ (n : ℕ). take (4 * n) l.words) (sym c) ∙ sym (append-nil (take (4 * l.count) l.words)) ∙ g.words;
-          bytes = b;
-        }
-    by (inr o) = record {
-      over = λ k. omega (arith, o.count);
-      all = λ k. absurd (omega (arith, o.longer));
-      words = λ k. absurd (omega (arith, o.longer));
-      bytes = λ k. absurd (omega (arith, o.longer));
-    }
-
--- a count above 64 says that the list is longer
-pub held-over : (log : List ℕ) (l : Lines) (left all : List Line) → Held l left all → 64 < l.count → Lists log l all
-held-over log l left all h k = by h.state
-  where
-    by : Going l left all ⊎ Over l all → Lists log l all
-    by (inl g) = absurd (omega (arith, g.room))
-    by (inr o) = record {
-      over = λ m. k;
-      all = λ m. absurd (omega (arith, o.longer));
-      words = λ m. absurd (omega (arith, o.longer));
-      bytes = λ m. absurd (omega (arith, o.longer));
-    }
+pub held_all : (log : List ℕ) (l : Lines) (all : List Line) → Going l [] all → l.bytes ≡ length (kept_bytes log all) → Holds log l all
+held_all log l all g b =
+    let e : take l.count l.lines ≡ all = sym (append-nil (take l.count l.lines)) ∙ g.lines in
+    record { room = g.room; lines = e; count = sym (length-take-le l.count l.lines (omega (arith, g.long, g.room))) ∙ ap length e; bytes = b }

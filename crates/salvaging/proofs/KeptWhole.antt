@@ -1,23 +1,24 @@
 -- A log that a run accepts whole is kept whole: no line is lost, there are as many as the run counts, and the bytes kept are the log's.
 -- Assumes nothing.
 use mathlib.Core.Path.{◌≡◌, refl, sym, ap, ◌∙◌}
-use mathlib.Core.Bool.{true, false}
+use mathlib.Core.Bool.{true}
 use mathlib.Core.List.{List, [], ◌∷◌, ◌++◌}
-use Prim.Native.Nat.{ℕ, suc, ◌+◌, ◌-◌, ◌≤◌, ◌<◌}
+use Prim.Native.Nat.{ℕ, suc, ◌+◌, ◌-◌}
 use native.Mathlib.Omega.{arith}
 use lib.Dec.{ltb}
 use lib.ListN.{length, take, drop, take-append-drop}
 use lib.Seq.{drop-drop, drop-length}
 use borrow.Author.Tests.{le-ltb}
-use Rattle.std.specs.Prelude.{if◌then◌else◌}
 use Rattle.words.proofs.Choices.{if_false}
 use Rattle.directory.specs.declared.directory.Directory.{Directory}
 use Rattle.effect.specs.Effect.{Written}
-use Rattle.replay.specs.Replay.{walked, record_at, tables_kept}
-use Rattle.replay.specs.Run.{run_of, Chain, chain_end, chain_more, whole_records, Leaves}
+use Rattle.replay.specs.Replay.{tables_kept}
+use Rattle.replay.specs.Run.{run_of, Chain, chain_end, chain_more}
 use Rattle.replay.proofs.CutLog.{run-exactly}
 use Rattle.replay.proofs.Opening.{record_on}
-use Rattle.salvaging.specs.Salvage.{found_on, Line, kept, lost, left_out, lines_between, lines_of, kept_bytes}
+use Rattle.salvaging.specs.declared.lines.Line.{Line}
+use Rattle.salvaging.specs.declared.lines.Line.TheVariants.{Kept}
+use Rattle.salvaging.specs.Salvage.{found_on, left_out, lines_between, lines_of, kept_bytes}
 use Rattle.salvaging.specs.Meaning.{AllKept}
 use Rattle.salvaging.specs.declared.search.Found.{Found}
 use Rattle.salvaging.proofs.Accepted.{accepted-found}
@@ -43,7 +44,7 @@ module _ (d : Directory) (log : List ℕ) where
   chain_kept {at} {expected} (chain_more {ws = ws} {mid = mid} {rs = rs} r c) e =
       let o = record_on d log at expected ws mid r in
       let f : Found = record { position = at; id = expected; end = mid } in
-      let z : lines_between at (found_on d log at) (length log) ≡ kept at (mid - at) expected ∷ lines_between mid (found_on d log mid) (length log) =
+      let z : lines_between at (found_on d log at) (length log) ≡ Kept at (mid - at) expected ∷ lines_between mid (found_on d log mid) (length log) =
       ap (λ (fs : List Found). lines_between at fs (length log)) (records_take d log at f (accepted-found d log at expected ws mid r)) ∙ no_gap at _ in
       let k : Keeps mid (length rs) (lines_between mid (found_on d log mid) (length log)) = chain_kept c e in
       let s : at + (mid - at) ≡ mid = omega (arith, o.forward) in

@@ -1,6 +1,6 @@
 -- The list of a log covers it once and in order, none of its lines empty and no two stretches left out adjoining; each record kept is one that
 -- replay takes, and in what is left out none begins (document 02, "Eight"). Assumes nothing.
-use mathlib.Core.Path.{◌≡◌, refl, sym, ap, ◌∙◌, subst}
+use mathlib.Core.Path.{◌≡◌, refl}
 use mathlib.Core.Bool.{Bool, true, false}
 use mathlib.Core.List.{List, [], ◌∷◌}
 use mathlib.Core.Option.{Option, none, some}
@@ -9,12 +9,10 @@ use native.Mathlib.Omega.{arith}
 use lib.Dec.{ltb}
 use lib.ListN.{length}
 use borrow.Author.Tests.{ltb-true, ltb-false}
-use Rattle.std.specs.Prelude.{if◌then◌else◌}
-use Rattle.words.proofs.Choices.{if_true, if_false}
 use Rattle.directory.specs.declared.directory.Directory.{Directory}
-use Rattle.effect.specs.Effect.{Written}
-use Rattle.replay.specs.Replay.{walked, record_at}
-use Rattle.salvaging.specs.Salvage.{found_at, by_found, found_from, found_on, Line, kept, lost, left_out, lines_between, lines_of}
+use Rattle.salvaging.specs.declared.lines.Line.{Line}
+use Rattle.salvaging.specs.declared.lines.Line.TheVariants.{Kept}
+use Rattle.salvaging.specs.Salvage.{found_at, by_found, found_from, left_out, lines_between, lines_of}
 use Rattle.salvaging.specs.Meaning.{NoneBegins, NotLost, Covers, covers_end, covers_kept, covers_lost}
 use Rattle.salvaging.specs.declared.search.Found.{Found}
 use Rattle.salvaging.proofs.Accepted.{Accepted, found-accepted, none-accepted}
@@ -76,7 +74,7 @@ module _ (d : Directory) (log : List ℕ) where
           let r : Covers d log f.end (lines_between f.end (found_from n d log f.end) (length log)) =
           ih₂ f.end (omega arith) a.inside (omega (arith, a.forward, a.inside)) (λ p id ws end l k r. omega arith) in
           rw a.here
-          (passed from at (kept at (f.end - at) f.id ∷ lines_between f.end (found_from n d log f.end) (length log)) l h tt
+          (passed from at (Kept at (f.end - at) f.id ∷ lines_between f.end (found_from n d log f.end) (length log)) l h tt
           (covers_kept {n = f.end - at} a.actions (omega (arith, a.forward)) (rw s a.taken) (rw s r)))
 
   -- THE LIST

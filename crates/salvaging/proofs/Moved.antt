@@ -10,7 +10,6 @@ use lib.Dec.{eqb, ltb}
 use lib.ListN.{length, take, drop, length-append, length-drop}
 use lib.Seq.{drop-drop, drop_at, length-take-le}
 use borrow.Author.Tests.{ltb-true, ltb-false, lt-ltb, le-ltb}
-use Rattle.std.specs.Prelude.{if◌then◌else◌}
 use Rattle.words.proofs.Choices.{if_true, if_false}
 use Rattle.directory.specs.declared.directory.Directory.{Directory}
 use Rattle.record.specs.Format.{Got, stopped, got, read_at}
@@ -27,7 +26,7 @@ use Rattle.record.proofs.Steps.{step-on, step_local}
 use Rattle.answer.specs.declared.answer.Refusal.{Refusal}
 use Rattle.effect.specs.Effect.{Written}
 use Rattle.effect.proofs.Sized.{payload-sized}
-use Rattle.replay.specs.Replay.{Walked, fault, walked, written_in, add_first, by_step, rest_of, record_at}
+use Rattle.replay.specs.Replay.{Walked, fault, walked, add_first, by_step, rest_of, record_at}
 use Rattle.replay.proofs.Opening.{Whole, whole_record, record_whole, record_on}
 use Rattle.replay.proofs.Cut.{rest_any, record_cut}
 

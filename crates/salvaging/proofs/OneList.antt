@@ -1,9 +1,8 @@
 -- There is one list of a log: any two lists of lines that cover it as 02 says are equal. Assumes nothing.
 use mathlib.Core.Path.{◌≡◌, refl, sym, ap, ◌∙◌, subst}
 use mathlib.Core.Bool.{Bool, true, false}
-use mathlib.Core.List.{List, [], ◌∷◌}
-use mathlib.Core.Option.{some}
-use Prim.Native.Nat.{ℕ, ◌+◌, ◌-◌, ◌≤◌, ◌<◌}
+use mathlib.Core.List.{List, ◌∷◌}
+use Prim.Native.Nat.{ℕ, ◌+◌, ◌≤◌, ◌<◌}
 use native.Mathlib.Omega.{arith}
 use lib.Dec.{ltb}
 use lib.ListN.{length}
@@ -11,8 +10,9 @@ use borrow.Author.Tests.{ltb-true, ltb-false}
 use Rattle.directory.specs.declared.directory.Directory.{Directory}
 use Rattle.effect.specs.Effect.{Written}
 use Rattle.replay.specs.Replay.{walked, record_at}
-use Rattle.replay.proofs.Opening.{record_on}
-use Rattle.salvaging.specs.Salvage.{Line, kept, lost, lines_of}
+use Rattle.salvaging.specs.declared.lines.Line.{Line}
+use Rattle.salvaging.specs.declared.lines.Line.TheVariants.{Kept, Lost}
+use Rattle.salvaging.specs.Salvage.{lines_of}
 use Rattle.salvaging.specs.Meaning.{NoneBegins, NotLost, Covers, covers_end, covers_kept, covers_lost}
 use Rattle.salvaging.specs.declared.search.Found.{Found}
 use Rattle.salvaging.proofs.Accepted.{accepted-found}
@@ -58,14 +58,14 @@ module _ (d : Directory) (log : List ℕ) where
   same (covers_kept {at = at} {n = n} {id = i} {ls = ls} ws h e c) (covers_kept {n = m} {id = j} {ls = ms} vs k f b) =
       let o = one_record at n m i j ws vs e f in
       let s : ls ≡ ms = same c (subst (λ (x : ℕ). Covers d log (at + x) ms) (sym o.1) b) in
-      rw (o.0, o.1) (ap (λ (l : List Line). kept at m j ∷ l) s)
+      rw (o.0, o.1) (ap (λ (l : List Line). Kept at m j ∷ l) s)
   same (covers_kept {at = at} {n = n} {id = i} ws h e c) (covers_lost {n = m} k t u b) = absurd (t at i ws (at + n) (omega arith) (omega arith) e)
   same (covers_lost h k t c) (covers_end e) = absurd (omega (arith, covered c))
   same (covers_lost {n = m} k t u b) (covers_kept {at = at} {n = n} {id = i} ws h e c) = absurd (t at i ws (at + n) (omega arith) (omega arith) e)
   same (covers_lost {at = at} {n = n} {ls = ls} h k t c) (covers_lost {n = m} {ls = ms} j l u b) =
       let o : n ≡ m = one-stretch at n m ls ms k l t u c b in
       let s : ls ≡ ms = same c (subst (λ (x : ℕ). Covers d log (at + x) ms) (sym o) b) in
-      rw o (ap (λ (x : List Line). lost at m ∷ x) s)
+      rw o (ap (λ (x : List Line). Lost at m ∷ x) s)
 
   -- THE ONE LIST
   pub one_list : (ls : List Line) → Covers d log 0 ls → ls ≡ lines_of d log

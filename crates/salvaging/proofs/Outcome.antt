@@ -3,7 +3,7 @@
 use mathlib.Core.Path.{◌≡◌, refl, sym, ap, ◌∙◌}
 use mathlib.Core.Bool.{Bool, true, false, ◌&&◌}
 use mathlib.Core.List.{List, [], ◌∷◌, ◌++◌, append_assoc}
-use Prim.Native.Nat.{ℕ, ◌+◌, ◌*◌, ◌≤◌, ◌<◌}
+use Prim.Native.Nat.{ℕ, ◌+◌, ◌*◌, ◌<◌}
 use native.Mathlib.Nat.{zero-add, add-zero}
 use native.Mathlib.Omega.{arith}
 use lib.Dec.{eqb, ltb}
@@ -17,7 +17,9 @@ use Rattle.directory.specs.Directory.{directory_kept}
 use Rattle.directory.specs.declared.directory.Directory.{Directory}
 use Rattle.output.specs.Put.{put}
 use Rattle.replay.proofs.Opening.{record_on}
-use Rattle.salvaging.specs.Salvage.{Line, kept, lost, lines_of, words_of_lines, kept_bytes, Left, untouched, salvaged, salvage_by, salvage_of}
+use Rattle.salvaging.specs.declared.lines.Line.{Line}
+use Rattle.salvaging.specs.declared.lines.Line.TheVariants.{Kept, Lost}
+use Rattle.salvaging.specs.Salvage.{lines_of, words_of_lines, kept_bytes, Left, untouched, salvaged, salvage_by, salvage_of}
 use Rattle.salvaging.specs.Meaning.{Covers, covers_end, covers_kept, covers_lost, InTurn, turn_end, turn-lost, turn-kept, Salvages}
 use Rattle.salvaging.proofs.Listed.{lines_cover}
 use Rattle.salvaging.proofs.Moved.{record_stands}
@@ -48,8 +50,8 @@ ends_at e t = rw e at t
 four-each : (ls : List Line) → length (words_of_lines ls) ≡ 4 * length ls
 unfolding words_of_lines
 four-each [] = refl
-four-each (kept p n id ∷ ls) = omega (arith, four-each ls)
-four-each (lost p n ∷ ls) = omega (arith, four-each ls)
+four-each (Kept p n id ∷ ls) = omega (arith, four-each ls)
+four-each (Lost p n ∷ ls) = omega (arith, four-each ls)
 
 put_front : (old bs : List ℕ) (n : ℕ) → length bs ≡ n → (take n (put old 0 bs) ≡ bs) × (drop n (put old 0 bs) ≡ drop n old)
 unfolding put

@@ -4,11 +4,10 @@ use mathlib.Core.Bool.{Bool, true, false}
 use mathlib.Core.List.{List, [], ◌∷◌}
 use mathlib.Core.Option.{Option, none, some}
 use Prim.Native.Nat.{ℕ, zero, suc, ◌+◌, ◌-◌, ◌≤◌, ◌<◌}
-use native.Mathlib.Nat.{add-zero}
 use native.Mathlib.Omega.{arith}
 use lib.Dec.{eqb, ltb}
 use lib.ListN.{length, get_or, get_or-eq_default}
-use borrow.Author.Tests.{ltb-true, ltb-false, eq-eqb, ne_eqb, eqb-true, eqb-false}
+use borrow.Author.Tests.{ltb-true, ltb-false, eq-eqb, ne_eqb, eqb-false}
 use Rattle.std.specs.Prelude.{if◌then◌else◌}
 use Rattle.words.proofs.Choices.{if_true, if_false}
 use Rattle.answer.specs.declared.answer.Refusal.{Refusal}
@@ -19,7 +18,7 @@ use Rattle.replay.specs.declared.whole.WholeRecord.{WholeRecord}
 use Rattle.replay.specs.declared.whole.WholeAnswer.{WholeAnswer}
 use Rattle.replay.specs.declared.whole.WholeAnswer.TheVariants.{Whole, NotWhole}
 use Rattle.salvaging.specs.Salvage.{found_by, found_at, by_found, found_from, found_on}
-use Rattle.salvaging.specs.Inner.{NextBegin, undecided, seen, search_from, search_in, first_found_of, Inside}
+use Rattle.salvaging.specs.Inner.{undecided, seen, search_from, search_in, first_found_of, Inside}
 use Rattle.salvaging.specs.declared.search.Found.{Found}
 use Rattle.salvaging.specs.declared.search.Search.{Search}
 use Rattle.salvaging.specs.declared.search.Search.TheVariants.{Record, Open, Nothing}
@@ -70,18 +69,9 @@ module _ (more : Bool) (d : Directory) (log : List ℕ) where
           let l : length log ≤ at + 1 = omega (arith, ltb-false at (length log) h) in
           seek_past (length log) (at + 1) l ∙ sym (seek_past (suc (length log)) (at + 1) l)
 
-  -- positions without a begin tag's byte are passed
-  seek_run : (k at : ℕ) → ((j : ℕ) → at ≤ j → j < at + k → get_or log j 0 ≡ 1 → ⊥) → search_in more d log at ≡ search_in more d log (at + k)
-  seek_run zero at h = ap (search_in more d log) (sym (add-zero at))
-  seek_run (suc k) at h =
-      let e : at + 1 + k ≡ at + suc k = omega arith in
-      untagged at (h at (omega arith) (omega arith)) (length log) ∙ seek_next at
-      ∙ seek_run k (at + 1) (λ j a b. h j (omega arith) (omega arith)) ∙ ap (search_in more d log) e
-
-  seek_to : (at r : ℕ) → NextBegin log at r → search_in more d log at ≡ search_in more d log r
-  seek_to at r n =
-      let e : at + (r - at) ≡ r = omega (arith, n.behind) in
-      seek_run (r - at) at (λ j a b. n.none j a (omega arith)) ∙ ap (search_in more d log) e
+  -- a position without a begin tag's byte is passed
+  seek_past_one : (at : ℕ) → (get_or log at 0 ≡ 1 → ⊥) → search_in more d log at ≡ search_in more d log (at + 1)
+  seek_past_one at h = untagged at h (length log) ∙ seek_next at
 
   seek_nothing : (at : ℕ) → length log ≤ at → Nothing ≡ search_in more d log at
   seek_nothing at l = sym (seek_past (suc (length log)) at l)
@@ -125,38 +115,30 @@ module _ (d : Directory) (log : List ℕ) (at : ℕ) where
 -- ---- a turn of the search
 
 module _ (more : Bool) (d : Directory) (log : List ℕ) (from : ℕ) where
-  -- what is seen from a place on is what is seen from the first on
-  pub record Seeks (at : ℕ) : Type 0 where
-    pub behind : from ≤ at
-    pub tag : at < length log → get_or log at 0 ≡ 1
-    pub same : search_in more d log from ≡ search_in more d log at
-
   -- what is answered
   abbrev Answers : Search → Type 0
   Answers r = (r ≡ search_in more d log from) × Inside r from (length log)
 
-  pub seeks_first : (r : ℕ) → NextBegin log from r → Seeks r
-  seeks_first r n = record { behind = n.behind; tag = n.tag; same = seek_to more d log from r n }
+  -- what is seen from a place on is what is seen from the first on
+  module _ (at : ℕ) (s : search_in more d log from ≡ search_in more d log at) where
+    pub seeks_nothing : length log ≤ at → Answers Nothing
+    seeks_nothing l = (seek_nothing more d log at l ∙ sym s, tt)
 
-  pub seeks_nothing : (at : ℕ) → Seeks at → length log ≤ at → Answers Nothing
-  seeks_nothing at s l = (seek_nothing more d log at l ∙ sym s.same, tt)
+    pub seeks_past : (get_or log at 0 ≡ 1 → ⊥) → search_in more d log from ≡ search_in more d log (at + 1)
+    seeks_past h = s ∙ seek_past_one more d log at h
 
-  module _ (at : ℕ) (s : Seeks at) (l : at < length log) where
-    pub seeks_record : (w : WholeRecord) → Whole w ≡ here d log at → Answers (Record (record { position = at; id = w.opened.record_id; end = w.end }))
-    seeks_record w e =
-        let i = whole-inside d log at w e in
-        (seek_record more d log at (s.tag l) w e ∙ sym s.same, (s.behind, i.0, i.1))
+    module _ (b : from ≤ at) (l : at < length log) (t : get_or log at 0 ≡ 1) where
+      pub seeks_record : (w : WholeRecord) → Whole w ≡ here d log at → Answers (Record (record { position = at; id = w.opened.record_id; end = w.end }))
+      seeks_record w e =
+          let i = whole-inside d log at w e in
+          (seek_record more d log at t w e ∙ sym s, (b, i.0, i.1))
 
-    module _ (x : Refusal) (e : NotWhole x ≡ here d log at) where
-      pub seeks_open : undecided more x ≡ true → Answers (Open at)
-      seeks_open b = (seek_open more d log at (s.tag l) x e b ∙ sym s.same, (s.behind, l))
+      module _ (x : Refusal) (e : NotWhole x ≡ here d log at) where
+        pub seeks_open : undecided more x ≡ true → Answers (Open at)
+        seeks_open u = (seek_open more d log at t x e u ∙ sym s, (b, l))
 
-      pub seeks_on : undecided more x ≡ false → (r : ℕ) → NextBegin log (at + 1) r → Seeks r
-      seeks_on b r n = record {
-        behind = omega (arith, s.behind, n.behind);
-        tag = n.tag;
-        same = s.same ∙ seek_on more d log at (s.tag l) x e b ∙ seek_to more d log (at + 1) r n;
-      }
+        pub seeks_on : undecided more x ≡ false → search_in more d log from ≡ search_in more d log (at + 1)
+        seeks_on u = s ∙ seek_on more d log at t x e u
 
 -- ---- the first of the records
 

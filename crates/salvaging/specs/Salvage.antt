@@ -1,5 +1,5 @@
 -- A damaged log salvaged (document 02, "Eight"). log.rs has no such thing: its reader stops at the first fault.
-use Rattle.std.specs.Prelude.{true, ◌&&◌, List, [], ◌∷◌, ◌++◌, ℕ, zero, suc, ◌+◌, ◌-◌, eqb, ltb, length, take, drop}
+use Rattle.std.specs.Prelude.{true, ◌&&◌, List, [], ◌∷◌, ◌++◌, ℕ, zero, suc, ◌+◌, ◌-◌, eqb, ltb, length, take, drop, Result, Ok, Err}
 use Rattle.std.proofs.Math.Option.{Option, none, some}
 use Rattle.std.specs.Prelude.{if◌then◌else◌}
 use Rattle.answer.specs.declared.answer.Answer.{Answer}
@@ -11,6 +11,8 @@ use Rattle.replay.specs.Replay.{rest_in, whole_of}
 use Rattle.replay.specs.declared.whole.WholeAnswer.{WholeAnswer}
 use Rattle.replay.specs.declared.whole.WholeAnswer.TheVariants.{Whole, NotWhole}
 use Rattle.output.specs.Put.{put}
+use Rattle.salvaging.specs.declared.lines.Line.{Line}
+use Rattle.salvaging.specs.declared.lines.Line.TheVariants.{Kept, Lost}
 use Rattle.salvaging.specs.declared.salvaged.Salvaged.{Salvaged}
 use Rattle.salvaging.specs.declared.search.Found.{Found}
 
@@ -42,19 +44,16 @@ found_on d log at = found_from (suc (length log)) d log at
 
 -- ---- the list
 
--- "position, length and id of each, and position and length of each stretch left out"
-pub data Line : Type 0 where
-  kept : (position length id : ℕ) → Line
-  lost : (position length : ℕ) → Line
+-- a line is the code's own (src/lines): "position, length and id of each, and position and length of each stretch left out"
 
 -- a stretch left out, from a position up to another: "none empty"
 abbrev pub left_out : ℕ → ℕ → List Line → List Line
-left_out at to ls = if ltb at to then lost at (to - at) ∷ ls else ls
+left_out at to ls = if ltb at to then Lost at (to - at) ∷ ls else ls
 
 -- the records from a position on, and what lies before each and behind the last, up to the log's end
 unfoldable pub lines_between : ℕ → List Found → ℕ → List Line
 lines_between at [] end = left_out at end []
-lines_between at (f ∷ fs) end = left_out at f.position (kept f.position (f.end - f.position) f.id ∷ lines_between f.end fs end)
+lines_between at (f ∷ fs) end = left_out at f.position (Kept f.position (f.end - f.position) f.id ∷ lines_between f.end fs end)
 
 -- the list of a log
 unfoldable pub lines_of : Directory → List ℕ → List Line
@@ -62,8 +61,8 @@ lines_of d log = lines_between 0 (found_on d log 0) (length log)
 
 -- a line in four words: 1 for kept, 0 for lost; position, length; the id, 0 where it is lost
 abbrev pub words_of : Line → List ℕ
-words_of (kept p n id) = 1 ∷ p ∷ n ∷ id ∷ []
-words_of (lost p n) = 0 ∷ p ∷ n ∷ 0 ∷ []
+words_of (Kept p n id) = 1 ∷ p ∷ n ∷ id ∷ []
+words_of (Lost p n) = 0 ∷ p ∷ n ∷ 0 ∷ []
 
 -- the list in words
 unfoldable pub words_of_lines : List Line → List ℕ
@@ -74,8 +73,8 @@ words_of_lines (l ∷ ls) = words_of l ++ words_of_lines ls
 
 -- the bytes of a record that is kept
 abbrev pub line_bytes : List ℕ → Line → List ℕ
-line_bytes log (kept p n id) = take n (drop p log)
-line_bytes log (lost p n) = []
+line_bytes log (Kept p n id) = take n (drop p log)
+line_bytes log (Lost p n) = []
 
 -- "It copies those records into an output in order"
 unfoldable pub kept_bytes : List ℕ → List Line → List ℕ
@@ -119,5 +118,6 @@ salvage_of d log out list =
     if directory_kept d && eqb (length list) 256 then salvage_by log (lines_of d log) out list else untouched BadState out list  -- 13
 
 -- the same from what the call hands back and the two memories as it leaves them
-unfoldable pub left_of : Salvaged → List ℕ → List ℕ → Left
-left_of r out list = record { answer = r.answer; lines = r.lines; written = r.written; out = out; list = list }
+unfoldable pub left_of : Result Salvaged Answer → List ℕ → List ℕ → Left
+left_of (Ok r) out list = record { answer = Done; lines = r.lines; written = r.written; out = out; list = list }
+left_of (Err answer) out list = record { answer = answer; lines = 0; written = 0; out = out; list = list }

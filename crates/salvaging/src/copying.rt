@@ -1,31 +1,37 @@
-// The records of a list, copied one behind the other.
-ghost use Rattle.std.specs.Prelude.{◌≡◌, [], ◌∷◌, ◌+◌, ◌*◌, ◌<◌, ◌≤◌, length, drop};
-ghost use Rattle.output.specs.Put.{put, Wrote};
-ghost use Rattle.salvaging.specs.Inner.{line_of, lines_in, AllWithin};
-ghost use Rattle.salvaging.specs.Salvage.{line_bytes, kept_bytes};
+// The records of a list, copied one behind the other, and its lines in words.
+ghost use Rattle.std.specs.Prelude.{◌≡◌, ◌*◌, ◌≤◌, length};
+ghost use Rattle.output.specs.Put.{put};
+ghost use Rattle.salvaging.specs.Inner.{AllWithin};
+ghost use Rattle.salvaging.specs.Salvage.{kept_bytes, words_of_lines};
 
-// The record of one line, if it has one, behind those before it.
-fn put_record(words: &[u64; 256], i: usize, log: &[u8], out: &mut [u8], at: usize) -> usize
-    requires { (i < 64) × (AllWithin (length log.now) (line_of (drop (4 * i) words.now) ∷ [])) × (at + length (line_bytes log.now (line_of (drop (4 * i) words.now))) ≤ length out.old) }
-    ensures { Wrote out.old at (line_bytes log.now (line_of (drop (4 * i) words.now))) out.new result }
-{
-    let row = 4 * i;
-    if words[row] == 0 {
-        return at;
-    }
-    let from = words[row + 1] as usize;
-    let to = from + words[row + 2] as usize;
-    output::copy_into(out, at, &log[from..to])
-}
+use super::lines::Line;
 
-pub fn put_records(words: &[u64; 256], count: usize, log: &[u8], out: &mut [u8])
-    requires { (count ≤ 64) × (AllWithin (length log.now) (lines_in count words.now)) × (length (kept_bytes log.now (lines_in count words.now)) ≤ length out.old) }
-    ensures { out.new ≡ put out.old 0 (kept_bytes log.now (lines_in count words.now)) }
+pub fn put_records(lines: &[Line], log: &[u8], out: &mut [u8])
+    requires within { AllWithin (length log.now) lines.now }
+    requires room { length (kept_bytes log.now lines.now) ≤ length out.old }
+    ensures { out.new ≡ put out.old 0 (kept_bytes log.now lines.now) }
 {
     let mut at = 0;
-    let mut i = 0;
-    while i < count {
-        at = put_record(words, i, log, out, at);
-        i += 1;
+    for line in lines {
+        if let Line::Kept {
+            position,
+            length,
+            ..
+        } = *line
+        {
+            let from = position as usize;
+            let to = from + length as usize;
+            at = output::copy_into(out, at, &log[from..to]);
+        }
+    }
+}
+
+pub fn put_lines(lines: &[Line], list: &mut [u64])
+    requires { 4 * length lines.now ≤ length list.old }
+    ensures { list.new ≡ put list.old 0 (words_of_lines lines.now) }
+{
+    for (i, line) in lines.iter().enumerate() {
+        let at = 4 * i;
+        list[at..at + 4].copy_from_slice(&line.words());
     }
 }

@@ -7,6 +7,6 @@ mod listing;
 mod salvaged;
 mod search;
 
-pub use lines::Lines;
+pub use lines::{Line, Lines};
 pub use salvaged::{Salvaged, salvage, salvage_kept};
 pub use search::{Found, Search, search_kept};

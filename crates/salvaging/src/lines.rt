@@ -1,11 +1,43 @@
-// The lines of a list by value, as the words of its memory.
-ghost use Rattle.std.specs.Prelude.{◌≡◌, [], ◌∷◌, ◌≤◌, replicate};
-ghost use Rattle.salvaging.specs.Inner.{no_lines, with_words, up_to, with_record, Ruled};
+// The lines of a list by value.
+ghost use Rattle.std.specs.Prelude.{◌≡◌, ◌≤◌, take, IfOk};
+ghost use Rattle.salvaging.specs.Inner.{no_lines, with_line, up_to, with_record, place_of, Ruled};
+ghost use Rattle.salvaging.specs.Salvage.{words_of};
 
-// How many lines there are, 65 where one found no room; where the last one ends; and how many bytes the records kept have.
+// A record that is kept, or a stretch that is left out.
+#[derive(Clone, Copy)]
+pub enum Line {
+    Kept { position: u64, length: u64, id: u64 },
+    Lost { position: u64, length: u64 },
+}
+
+impl Line {
+    pub fn position(self) -> u64
+        ensures { result ≡ place_of self }
+    {
+        match self {
+            Line::Kept { position, .. } | Line::Lost { position, .. } => position,
+        }
+    }
+
+    // As the list's memory has it.
+    pub fn words(self) -> [u64; 4]
+        ensures { result ≡ words_of self }
+    {
+        match self {
+            Line::Kept {
+                position,
+                length,
+                id,
+            } => [1, position, length, id],
+            Line::Lost { position, length } => [0, position, length, 0],
+        }
+    }
+}
+
+// The first `count` are there; where the last one ends, and how many bytes the records kept have.
 #[derive(Clone, Copy)]
 pub struct Lines {
-    pub words: [u64; 256],
+    pub lines: [Line; 64],
     pub count: usize,
     pub end: u64,
     pub bytes: u64,
@@ -14,57 +46,69 @@ pub struct Lines {
 impl Lines {
     // None, from the front of a log on.
     pub fn new() -> Lines
-        ensures { result ≡ no_lines 0 (replicate 256 0) }
+        ensures { result ≡ no_lines }
     {
         Lines {
-            words: [0u64; 256],
+            lines: [Line::Lost {
+                position: 0,
+                length: 0,
+            }; 64],
             count: 0,
             end: 0,
             bytes: 0,
         }
     }
 
-    fn with(self, mark: u64, position: u64, length: u64, id: u64) -> Lines
-        ensures { result ≡ with_words self (mark ∷ position ∷ length ∷ id ∷ []) }
+    pub fn all(&self) -> &[Line]
+        requires { self.now.count ≤ 64 }
+        ensures { result.now ≡ take self.now.count self.now.lines }
     {
-        let n = self.count;
-        let mut after = self;
-        if n < 64 {
-            let at = 4 * n;
-            let second = at + 1;
-            let third = second + 1;
-            let last = third + 1;
-            after.words[at] = mark;
-            after.words[second] = position;
-            after.words[third] = length;
-            after.words[last] = id;
-            after.count = n + 1;
-        } else {
-            after.count = 65;
+        &self.lines[..self.count]
+    }
+
+    // A line that finds no room is told by its position. So below.
+    fn with(self, line: Line) -> Result<Lines, u64>
+        ensures { result ≡ with_line self line }
+    {
+        if 64 <= self.count {
+            return Err(line.position());
         }
-        after
+        let mut after = self;
+        after.lines[self.count] = line;
+        after.count += 1;
+        Ok(after)
     }
 
     // What lies before a position and wasn't kept is lost.
-    pub fn up_to(self, position: u64) -> Lines
-        ensures { (result ≡ up_to self position) × (result.end ≡ self.end) × (result.bytes ≡ self.bytes) }
+    pub fn up_to(self, position: u64) -> Result<Lines, u64>
+        ensures is { result ≡ up_to self position }
+        ensures rest { IfOk result (λ l. (l.end ≡ self.end) × (l.bytes ≡ self.bytes) × (self.count ≤ 64 → l.count ≤ 64)) }
     {
         if self.end < position {
-            self.with(0, self.end, position - self.end, 0)
+            self.with(Line::Lost {
+                position: self.end,
+                length: position - self.end,
+            })
         } else {
-            self
+            Ok(self)
         }
     }
 
     // A record is kept.
-    pub fn with_record(self, position: u64, end: u64, id: u64) -> Lines
+    pub fn with_record(self, position: u64, end: u64, id: u64) -> Result<Lines, u64>
         requires { (Ruled self) × (self.end ≤ position) × (position ≤ end) }
-        ensures { (result ≡ with_record self position end id) × (result.end ≡ end) × Ruled result }
+        ensures is { result ≡ with_record self position end id }
+        ensures rest { IfOk result (λ l. (l.end ≡ end) × (l.count ≤ 64) × Ruled l) }
     {
         let length = end - position;
-        let mut after = self.up_to(position).with(1, position, length, id);
+        let kept = Line::Kept {
+            position,
+            length,
+            id,
+        };
+        let mut after = self.up_to(position)?.with(kept)?;
         after.end = end;
         after.bytes += length;
-        after
+        Ok(after)
     }
 }

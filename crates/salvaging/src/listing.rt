@@ -8,23 +8,15 @@ use super::lines::Lines;
 use super::search::{Search, search_in};
 
 // It stops at a line that finds no room: the rest can't change the answer.
-pub fn lines_of(t: &[u64; 81], log: &[u8]) -> Lines
+pub fn lines_of(t: &[u64; 81], log: &[u8]) -> Result<Lines, u64>
     requires { Flat t.now }
     ensures { Lists log.now result (lines_of (directory_in t.now) log.now) }
 {
     let mut lines = Lines::new();
     let mut at = 0;
-    loop {
-        match search_in(t, log, at, false) {
-            Search::Record(f) => {
-                at = f.end;
-                lines = lines.with_record(f.position as u64, f.end as u64, f.id);
-                if 64 < lines.count {
-                    return lines;
-                }
-            }
-            Search::Open(_) => return lines.up_to(log.len() as u64),
-            Search::Nothing => return lines.up_to(log.len() as u64),
-        }
+    while let Search::Record(f) = search_in(t, log, at, false) {
+        lines = lines.with_record(f.position as u64, f.end as u64, f.id)?;
+        at = f.end;
     }
+    lines.up_to(log.len() as u64)
 }

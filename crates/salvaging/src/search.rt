@@ -2,7 +2,7 @@
 ghost use Rattle.std.specs.Prelude.{◌≡◌, true, length};
 ghost use Rattle.directory.specs.Directory.{directory_kept};
 ghost use Rattle.directory.specs.Inner.{directory_in, Flat};
-ghost use Rattle.salvaging.specs.Inner.{NextBegin, undecided, search_in, Inside};
+ghost use Rattle.salvaging.specs.Inner.{undecided, search_in, Inside};
 
 use answer::Refusal;
 use directory::Directory;
@@ -24,40 +24,27 @@ pub enum Search {
     Nothing,
 }
 
-// No other byte opens a record, so that most positions cost no call of the reader.
-fn next_begin(log: &[u8], from: usize) -> usize
-    ensures { NextBegin log.now from result }
-{
-    let mut at = from;
-    while at < log.len() {
-        if log[at] == 1 {
-            return at;
-        }
-        at += 1;
-    }
-    at
-}
-
 fn is_open(more: bool, x: Refusal) -> bool
     ensures { result ≡ undecided more x }
 {
-    let answer = x.answer;
-    if more { answer.number() <= 2 } else { false }
+    more && x.answer.number() <= 2
 }
 
-// Where more bytes may follow, a record that they could make whole isn't passed over.
+// Where more bytes may follow, a record that they could make whole isn't passed over. No byte but 1 opens a record, so that most positions cost no
+// call of the reader.
 pub fn search_in(t: &[u64; 81], log: &[u8], from: usize, more: bool) -> Search
     requires { Flat t.now }
     ensures { (result ≡ search_in more (directory_in t.now) log.now from) × Inside result from (length log.now) }
 {
-    let mut at = next_begin(log, from);
-    while at < log.len() {
+    for at in from..log.len() {
+        if log[at] != 1 {
+            continue;
+        }
         match replay::check_record_in(t, log, at) {
             WholeAnswer::Whole(w) => {
-                let opened = w.opened;
                 return Search::Record(Found {
                     position: at,
-                    id: opened.record_id,
+                    id: w.opened.record_id,
                     end: w.end,
                 });
             }
@@ -67,7 +54,6 @@ pub fn search_in(t: &[u64; 81], log: &[u8], from: usize, more: bool) -> Search
                 }
             }
         }
-        at = next_begin(log, at + 1);
     }
     Search::Nothing
 }

@@ -1,40 +1,31 @@
--- `put_records` meets its contract. The invariant: the records of the lines from i on are left to write. Assumes nothing.
-use mathlib.Core.Path.{◌≡◌, refl}
-use Prim.Native.Nat.{◌-◌}
+-- `put_records` meets its contract. Assumes nothing.
 use native.Mathlib.Omega.{arith}
-use borrow.Author.Rules.{rules}
-use Rattle.output.proofs.Laws.{all_left}
-use Rattle.salvaging.specs.Inner.{lines_in}
-use Rattle.salvaging.proofs.Copied.{lines_left, none_passed, line-within, rest-within, line-room, line-rest, lines-done}
+use Rattle.salvaging.proofs.Copied.{within-behind, record-room, record-rest, lost-passed, records-done}
 use Rattle.salvaging.proofs.copying.put_records.Goals as goal
+use Rattle.salvaging.proofs.copying.put_records.Goals.{in-Kept, in_default}
 
-pub loop-i-init : goal.loop-i-init
-loop-i-init c =
-    let e : lines_left c.args.words.now c.args.count 0 ≡ lines_in c.args.count c.args.words.now = none_passed c.args.words.now c.args.count in
-    (search rules, refl, rw e c.requires.1, rw e (all_left _ _ _))
-
-pub put_record-at-requires : goal.put_record-at-requires
-put_record-at-requires c =
-    let l = c.loop-i in
+pub copy_into-at-requires : goal.copy_into-at-requires
+copy_into-at-requires c =
     let a = c.args in
-    let r = line-room a.words.now a.count l.i a.log.now c.loop-i-test.true l.invariant.3 in
-    (omega (arith, c.requires.0), line-within a.words.now a.count l.i a.log.now c.loop-i-test.true l.invariant.2, omega (arith, r, l.invariant.1, c.requires.2))
+    let k = c.in-Kept in
+    omega (arith, record-room a.lines.now c.loop-line.line-index c.loop-line-test.true a.log.now k.position k.length k.id k.is c.loop-line.invariant.left, c.requires.room)
 
-pub loop-i-preserved : goal.loop-i-preserved
-loop-i-preserved c =
-    let l = c.loop-i in
-    let t = c.loop-i-test.true in
-    let a = c.args in (
-      search rules,
-      search rules,
-      rest-within a.words.now a.count l.i a.log.now t l.invariant.2,
-      line-rest a.words.now a.count l.i a.log.now t l.invariant.3 c.put_record-at.ensures,
-    )
-
-pub shape_of-out : goal.shape_of-out
-shape_of-out c = c.loop-i.invariant.1
+pub loop-line-preserved : goal.loop-line-preserved
+loop-line-preserved c =
+    let a = c.args in
+    let l = c.loop-line in
+    let t = c.loop-line-test.true in
+    elim c.match-line.branch [
+      | in-Kept w ↦
+          let k = w.in-Kept in
+          record {
+            within = within-behind a.lines.now l.line-index t a.log.now k.position k.length k.id k.is l.invariant.within;
+            left = rw (w.out-is, w.at-is) (record-rest a.lines.now l.line-index t a.log.now k.position k.length k.id k.is l.invariant.left w.copy_into-at.ensures);
+          }
+      | in_default w ↦
+          let p = lost-passed a.lines.now l.line-index t a.log.now w.in_default.not-Kept in
+          record { within = p.0 l.invariant.within; left = rw (w.out-is, w.at-is, ← p.1) l.invariant.left }
+    ]
 
 pub returns : goal.returns
-returns c =
-    let a = c.args in
-    (lines-done a.words.now a.count c.loop-i.i a.log.now c.loop-i-test.false c.loop-i.invariant.3).bytes
+returns c = let a = c.args in records-done a.lines.now c.loop-line.line-index c.loop-line-test.false a.log.now _ _ c.loop-line.invariant.left
