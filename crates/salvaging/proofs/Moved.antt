@@ -19,8 +19,6 @@ use Rattle.record.specs.declared.action.LogAction.{LogAction}
 use Rattle.record.specs.declared.action.LogAction.TheVariants.{BeginRecord}
 use Rattle.record.specs.declared.reader.LogReader.{LogReader}
 use Rattle.record.specs.declared.reader.Stepped.{Stepped}
-use Rattle.record.specs.declared.reader.Step.{Step}
-use Rattle.record.specs.declared.reader.Step.TheVariants.{Took, Refused}
 use Rattle.record.proofs.Formats.{moved, from}
 use Rattle.record.proofs.Steps.{step-on, step_local}
 use Rattle.answer.specs.declared.answer.Refusal.{Refusal}
@@ -29,6 +27,7 @@ use Rattle.effect.proofs.Sized.{payload-sized}
 use Rattle.replay.specs.Replay.{Walked, fault, walked, add_first, by_step, rest_of, record_at}
 use Rattle.replay.proofs.Opening.{Whole, whole_record, record_whole, record_on}
 use Rattle.replay.proofs.Cut.{rest_any, record_cut}
+use Rattle.std.specs.Prelude.{Result, Ok, Err}
 
 -- a reader n bytes further on, and a step's answer
 abbrev moved_reader : ℕ → LogReader → LogReader
@@ -38,15 +37,15 @@ abbrev moved_took : ℕ → Stepped → Stepped
 moved_took n s = record { action = s.action; start = n + s.start; length = s.length; reader = moved_reader n s.reader }
 
 -- both refuse, or both take the same
-data SameStep (n : ℕ) : Step → Step → Type 0 where
-  both-refuse : (x y : Refusal) → SameStep n (Refused x) (Refused y)
-  both_take : (s : Stepped) → SameStep n (Took s) (Took (moved_took n s))
+data SameStep (n : ℕ) : Result Stepped Refusal → Result Stepped Refusal → Type 0 where
+  both-refuse : (x y : Refusal) → SameStep n (Err x) (Err y)
+  both_take : (s : Stepped) → SameStep n (Ok s) (Ok (moved_took n s))
 
 data SameWalk (n : ℕ) : Walked (List Written) → Walked (List Written) → Type 0 where
   both-fault : (x y : Refusal) → SameWalk n (fault x) (fault y)
   both-walk : (ws : List Written) (end : ℕ) → SameWalk n (walked ws end) (walked ws (n + end))
 
-same_at : (n : ℕ) (a b c e : Step) → a ≡ c → b ≡ e → SameStep n c e → SameStep n a b
+same_at : (n : ℕ) (a b c e : Result Stepped Refusal) → a ≡ c → b ≡ e → SameStep n c e → SameStep n a b
 same_at n a b c e p q h = rw (p, q) h
 
 after-ends : (log : List ℕ) (r : LogReader) (action : LogAction) (end : ℕ) → (reader_after log r action end).position ≡ end
@@ -74,7 +73,7 @@ module _ (n : ℕ) (log : List ℕ) where
 
   module _ (d : Directory) (r : LogReader) where
     -- a payload is part of the bytes that its step took
-    payload_in : (s : Stepped) → step_of d (drop n log) r ≡ Took s → s.start + s.length ≤ s.reader.position
+    payload_in : (s : Stepped) → step_of d (drop n log) r ≡ Ok s → s.start + s.length ≤ s.reader.position
     payload_in s e =
         let l : List ℕ = drop n log in
         let p : ℕ = s.reader.position in
@@ -83,7 +82,7 @@ module _ (n : ℕ) (log : List ℕ) where
         let k : length (take p l ++ []) ≡ p = simp length-append (omega (arith, length-take-le p l o.inside)) in
         omega arith
 
-    stepped_same : (g : Got Item) → ((s : Stepped) → stepped (drop n log) r g ≡ Took s → s.start + s.length ≤ s.reader.position)
+    stepped_same : (g : Got Item) → ((s : Stepped) → stepped (drop n log) r g ≡ Ok s → s.start + s.length ≤ s.reader.position)
         → SameStep n (stepped (drop n log) r g) (stepped log (moved_reader n r) (moved n g))
     stepped_same (stopped a) h = both-refuse _ _
     stepped_same (got i end) h =
@@ -137,11 +136,11 @@ module _ (n : ℕ) (log : List ℕ) where
       first w g h (both-walk ws end) = both-walk (w ∷ ws) end
 
       on : (s : Stepped) (b : Bool) → is_end s.action ≡ b → ((c : LogReader) → SameWalk n (rest_of k d (drop n log) c) (rest_of k d log (moved_reader n c)))
-          → SameWalk n (by_step (drop n log) (rest_of k d (drop n log)) (Took s)) (by_step log (rest_of k d log) (Took (moved_took n s)))
+          → SameWalk n (by_step (drop n log) (rest_of k d (drop n log)) (Ok s)) (by_step log (rest_of k d log) (Ok (moved_took n s)))
       on s true b ih = rw b (both-walk [] s.reader.position)
       on s false b ih = rw (b, drop-drop s.start n log) (first (record { action = s.action; payload = take s.length (drop (n + s.start) log) }) _ _ (ih s.reader))
 
-      by : (st su : Step) → SameStep n st su → ((c : LogReader) → SameWalk n (rest_of k d (drop n log) c) (rest_of k d log (moved_reader n c)))
+      by : (st su : Result Stepped Refusal) → SameStep n st su → ((c : LogReader) → SameWalk n (rest_of k d (drop n log) c) (rest_of k d log (moved_reader n c)))
           → SameWalk n (by_step (drop n log) (rest_of k d (drop n log)) st) (by_step log (rest_of k d log) su)
       by st su (both-refuse x y) ih = both-fault x y
       by st su (both_take s) ih = on s (is_end s.action) refl ih
@@ -163,7 +162,7 @@ module _ (d : Directory) (log : List ℕ) (p : ℕ) (k : p ≤ length log) (id :
       let w : Whole d log p id ws end = whole_record d log p id ws end e in
       opens w _ _ refl (sym w.opens ∙ ap (step_of d log) front) (step_same p log d (reader_at 0 true) k)
     where
-      rests : (w : Whole d log p id ws end) (s : Stepped) → step_of d (drop p log) (reader_at 0 true) ≡ Took s → w.s ≡ moved_took p s → (g h : Walked (List Written))
+      rests : (w : Whole d log p id ws end) (s : Stepped) → step_of d (drop p log) (reader_at 0 true) ≡ Ok s → w.s ≡ moved_took p s → (g h : Walked (List Written))
           → rest_of (suc (length log)) d (drop p log) s.reader ≡ g → walked ws end ≡ h → SameWalk p g h → Front end
       rests w s q m g h a b (both-fault x y) = let z : ◌≡◌ {A = ℕ} 0 1 = cc in absurd (omega arith)
       rests w s q m g h a b (both-walk vs n) =
@@ -182,7 +181,7 @@ module _ (d : Directory) (log : List ℕ) (p : ℕ) (k : p ≤ length log) (id :
                 });
           }
 
-      opens : (w : Whole d log p id ws end) (st su : Step) → step_of d (drop p log) (reader_at 0 true) ≡ st → Took w.s ≡ su → SameStep p st su → Front end
+      opens : (w : Whole d log p id ws end) (st su : Result Stepped Refusal) → step_of d (drop p log) (reader_at 0 true) ≡ st → Ok w.s ≡ su → SameStep p st su → Front end
       opens w st su q r (both-refuse x y) = let z : ◌≡◌ {A = ℕ} 0 1 = cc in absurd (omega arith)
       opens w st su q r (both_take s) =
           let m : w.s ≡ moved_took p s = cc in
@@ -197,14 +196,14 @@ module _ (d : Directory) (log : List ℕ) (p : ℕ) (k : p ≤ length log) (id :
       rests w g h a (both-fault x y) = let z : ◌≡◌ {A = ℕ} 0 1 = cc in absurd (omega arith)
       rests w g h a (both-walk vs m) = let x : vs ≡ ws = cc in let y : m ≡ n = cc in rw (x, y)
 
-      opens : (w : Whole d (drop p log) 0 id ws n) (st su : Step) → st ≡ Took w.s → step_of d log (reader_at p true) ≡ su → SameStep p st su → record_at d log p id ≡ walked ws (p + n)
+      opens : (w : Whole d (drop p log) 0 id ws n) (st su : Result Stepped Refusal) → st ≡ Ok w.s → step_of d log (reader_at p true) ≡ su → SameStep p st su → record_at d log p id ≡ walked ws (p + n)
       opens w st su q r (both-refuse x y) = let z : ◌≡◌ {A = ℕ} 0 1 = cc in absurd (omega arith)
       opens w st su q r (both_take s) =
           let m : s ≡ w.s = cc in
           record_whole d log p id ws (p + n)
           (record {
             s = moved_took p w.s;
-            opens = r ∙ ap (λ (t : Stepped). Took (moved_took p t)) m;
+            opens = r ∙ ap (λ (t : Stepped). Ok (moved_took p t)) m;
             id = w.id;
             rest = rest_any d log (suc (length (drop p log))) (moved_reader p w.s.reader) ws (p + n) (rests w _ _ w.rest (rest-same p log d k (suc (length (drop p log))) w.s.reader));
           })

@@ -15,8 +15,6 @@ use Rattle.directory.specs.declared.directory.Directory.{Directory}
 use Rattle.record.specs.Next.{reader_at, step_of}
 use Rattle.replay.specs.Replay.{rest_in, whole_of}
 use Rattle.replay.specs.declared.whole.WholeRecord.{WholeRecord}
-use Rattle.replay.specs.declared.whole.WholeAnswer.{WholeAnswer}
-use Rattle.replay.specs.declared.whole.WholeAnswer.TheVariants.{Whole, NotWhole}
 use Rattle.salvaging.specs.Salvage.{found_by, found_at, by_found, found_from, found_on}
 use Rattle.salvaging.specs.Inner.{undecided, seen, search_from, search_in, first_found_of, Inside}
 use Rattle.salvaging.specs.declared.search.Found.{Found}
@@ -25,9 +23,10 @@ use Rattle.salvaging.specs.declared.search.Search.TheVariants.{Record, Open, Not
 use Rattle.salvaging.proofs.Accepted.{found-accepted}
 use Rattle.salvaging.proofs.Begins.{untagged-none}
 use Rattle.salvaging.proofs.Records.{past, enough}
+use Rattle.std.specs.Prelude.{Result, Ok, Err}
 
 -- what the check of a position comes to
-abbrev pub here : Directory → List ℕ → ℕ → WholeAnswer
+abbrev pub here : Directory → List ℕ → ℕ → Result WholeRecord Refusal
 here d log at = whole_of (rest_in d log) (step_of d log (reader_at at true))
 
 module _ (more : Bool) (d : Directory) (log : List ℕ) where
@@ -83,10 +82,10 @@ module _ (more : Bool) (d : Directory) (log : List ℕ) where
         if_true (eqb (get_or log at 0) 1) _ _ (eq-eqb (get_or log at 0) 1 t)
         ∙ ap (λ (x : Search). seen more at x (here d log at)) (seek_next at)
 
-    seek_record : (w : WholeRecord) → Whole w ≡ here d log at → Record (record { position = at; id = w.opened.record_id; end = w.end }) ≡ search_in more d log at
+    seek_record : (w : WholeRecord) → Ok w ≡ here d log at → Record (record { position = at; id = w.opened.record_id; end = w.end }) ≡ search_in more d log at
     seek_record w e = sym (at_tag ∙ ap (seen more at (search_in more d log (at + 1))) (sym e))
 
-    module _ (x : Refusal) (e : NotWhole x ≡ here d log at) where
+    module _ (x : Refusal) (e : Err x ≡ here d log at) where
       refused : search_in more d log at ≡ (if undecided more x then Open at else search_in more d log (at + 1))
       refused = at_tag ∙ ap (seen more at (search_in more d log (at + 1))) (sym e)
 
@@ -106,7 +105,7 @@ module _ (s : Search) (at room : ℕ) (i : Inside s at room) where
 
 -- where a record that was found ends
 module _ (d : Directory) (log : List ℕ) (at : ℕ) where
-  whole-inside : (w : WholeRecord) → Whole w ≡ here d log at → (at < w.end) × (w.end ≤ length log)
+  whole-inside : (w : WholeRecord) → Ok w ≡ here d log at → (at < w.end) × (w.end ≤ length log)
   unfolding found_at
   whole-inside w e =
       let a = found-accepted d log at (record { position = at; id = w.opened.record_id; end = w.end }) (ap (found_by at) (sym e)) in
@@ -128,12 +127,12 @@ module _ (more : Bool) (d : Directory) (log : List ℕ) (from : ℕ) where
     seeks_past h = s ∙ seek_past_one more d log at h
 
     module _ (b : from ≤ at) (l : at < length log) (t : get_or log at 0 ≡ 1) where
-      pub seeks_record : (w : WholeRecord) → Whole w ≡ here d log at → Answers (Record (record { position = at; id = w.opened.record_id; end = w.end }))
+      pub seeks_record : (w : WholeRecord) → Ok w ≡ here d log at → Answers (Record (record { position = at; id = w.opened.record_id; end = w.end }))
       seeks_record w e =
           let i = whole-inside d log at w e in
           (seek_record more d log at t w e ∙ sym s, (b, i.0, i.1))
 
-      module _ (x : Refusal) (e : NotWhole x ≡ here d log at) where
+      module _ (x : Refusal) (e : Err x ≡ here d log at) where
         pub seeks_open : undecided more x ≡ true → Answers (Open at)
         seeks_open u = (seek_open more d log at t x e u ∙ sym s, (b, l))
 
@@ -152,10 +151,10 @@ module _ (d : Directory) (log : List ℕ) where
   first-from zero at = refl
   first-from (suc n) at = by (eqb (get_or log at 0) 1) refl (first-from n (at + 1))
     where
-      checked : (w : WholeAnswer) → search_from n false d log (at + 1) ≡ first_found_of (found_from n d log (at + 1))
+      checked : (w : Result WholeRecord Refusal) → search_from n false d log (at + 1) ≡ first_found_of (found_from n d log (at + 1))
           → seen false at (search_from n false d log (at + 1)) w ≡ first_found_of (by_found (found_from n d log) at (found_by at w))
-      checked (Whole w) ih = refl
-      checked (NotWhole x) ih = ih
+      checked (Ok w) ih = refl
+      checked (Err x) ih = ih
 
       tagged : search_from n false d log (at + 1) ≡ first_found_of (found_from n d log (at + 1))
           → seen false at (search_from n false d log (at + 1)) (here d log at) ≡ first_found_of (by_found (found_from n d log) at (found_at d log at))

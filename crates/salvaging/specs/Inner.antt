@@ -7,8 +7,6 @@ use Rattle.answer.specs.declared.answer.Refusal.{Refusal}
 use Rattle.directory.specs.declared.directory.Directory.{Directory}
 use Rattle.record.specs.Next.{reader_at, step_of}
 use Rattle.replay.specs.Replay.{rest_in, whole_of}
-use Rattle.replay.specs.declared.whole.WholeAnswer.{WholeAnswer}
-use Rattle.replay.specs.declared.whole.WholeAnswer.TheVariants.{Whole, NotWhole}
 use Rattle.salvaging.specs.Salvage.{kept_bytes}
 use Rattle.salvaging.specs.declared.lines.Line.{Line}
 use Rattle.salvaging.specs.declared.lines.Line.TheVariants.{Kept, Lost}
@@ -16,6 +14,7 @@ use Rattle.salvaging.specs.declared.lines.Lines.{Lines}
 use Rattle.salvaging.specs.declared.search.Found.{Found}
 use Rattle.salvaging.specs.declared.search.Search.{Search}
 use Rattle.salvaging.specs.declared.search.Search.TheVariants.{Record, Open, Nothing}
+use Rattle.replay.specs.declared.whole.WholeRecord.{WholeRecord}
 
 -- ---- the search
 
@@ -24,9 +23,9 @@ abbrev pub undecided : Bool → Refusal → Bool
 undecided more x = more && leb (number_of x.answer) 2
 
 -- at a begin tag's byte: the record; where more bytes may follow and could decide, that it is open; else what comes behind
-abbrev pub seen : Bool → ℕ → Search → WholeAnswer → Search
-seen more at rest (Whole w) = Record (record { position = at; id = w.opened.record_id; end = w.end })
-seen more at rest (NotWhole x) = if undecided more x then Open at else rest
+abbrev pub seen : Bool → ℕ → Search → Result WholeRecord Refusal → Search
+seen more at rest (Ok w) = Record (record { position = at; id = w.opened.record_id; end = w.end })
+seen more at rest (Err x) = if undecided more x then Open at else rest
 
 -- the first record from a position on; at most n positions are tried
 unfoldable pub search_from : ℕ → Bool → Directory → List ℕ → ℕ → Search

@@ -8,20 +8,20 @@ use Rattle.directory.specs.Directory.{directory_kept}
 use Rattle.directory.specs.declared.directory.Directory.{Directory}
 use Rattle.record.specs.Next.{reader_at, step_of}
 use Rattle.replay.specs.Replay.{rest_in, whole_of}
-use Rattle.replay.specs.declared.whole.WholeAnswer.{WholeAnswer}
-use Rattle.replay.specs.declared.whole.WholeAnswer.TheVariants.{Whole, NotWhole}
 use Rattle.output.specs.Put.{put}
 use Rattle.salvaging.specs.declared.lines.Line.{Line}
 use Rattle.salvaging.specs.declared.lines.Line.TheVariants.{Kept, Lost}
 use Rattle.salvaging.specs.declared.salvaged.Salvaged.{Salvaged}
 use Rattle.salvaging.specs.declared.search.Found.{Found}
+use Rattle.answer.specs.declared.answer.Refusal.{Refusal}
+use Rattle.replay.specs.declared.whole.WholeRecord.{WholeRecord}
 
 -- ---- the records
 
 -- what the check of a position found there: the record's id and the place behind it, or none
-abbrev pub found_by : ℕ → WholeAnswer → Option Found
-found_by at (NotWhole x) = none
-found_by at (Whole w) = some (record { position = at; id = w.opened.record_id; end = w.end })
+abbrev pub found_by : ℕ → Result WholeRecord Refusal → Option Found
+found_by at (Err x) = none
+found_by at (Ok w) = some (record { position = at; id = w.opened.record_id; end = w.end })
 
 -- "a whole record acceptable under the directory begins, with any id": as replay reads it, the test of the id left out. So it is what replay
 -- takes under some id (`found-accepted`, `accepted-found`, proofs/Accepted)

@@ -6,7 +6,6 @@ ghost use Rattle.salvaging.specs.Inner.{undecided, search_in, Inside};
 
 use answer::Refusal;
 use directory::Directory;
-use replay::WholeAnswer;
 
 // Where a record begins, its id, and the place behind it.
 #[derive(Clone, Copy)]
@@ -41,14 +40,14 @@ pub fn search_in(t: &[u64; 81], log: &[u8], from: usize, more: bool) -> Search
             continue;
         }
         match replay::check_record_in(t, log, at) {
-            WholeAnswer::Whole(w) => {
+            Ok(w) => {
                 return Search::Record(Found {
                     position: at,
                     id: w.opened.record_id,
                     end: w.end,
                 });
             }
-            WholeAnswer::NotWhole(x) => {
+            Err(x) => {
                 if is_open(more, x) {
                     return Search::Open(at);
                 }

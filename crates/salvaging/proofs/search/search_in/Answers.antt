@@ -9,23 +9,23 @@ loop-at-preserved-then-log-at-ne1 c =
     let a = c.args in
     seeks_past a.more (directory_in a.t.now) a.log.now a.from c.loop-at.at c.loop-at.invariant c.if-log-at-ne1.true
 
-pub returns-in-Whole : goal.returns-in-Whole
-returns-in-Whole c =
+pub returns-in-Ok : goal.returns-in-Ok
+returns-in-Ok c =
     let a = c.args in
     let l = c.loop-at in
-    seeks_record a.more (directory_in a.t.now) a.log.now a.from l.at l.invariant l.auto.at c.loop-at-test.true c.if-log-at-ne1.false _ c.in-Whole.ensures
+    seeks_record a.more (directory_in a.t.now) a.log.now a.from l.at l.invariant l.auto.at c.loop-at-test.true c.if-log-at-ne1.false _ c.in-Ok.ensures
 
 pub returns-then-is_open : goal.returns-then-is_open
 returns-then-is_open c =
     let a = c.args in
     let l = c.loop-at in
-    seeks_open a.more (directory_in a.t.now) a.log.now a.from l.at l.invariant l.auto.at c.loop-at-test.true c.if-log-at-ne1.false _ c.in-NotWhole.ensures (sym c.is_open.ensures ∙ c.if-is_open.true)
+    seeks_open a.more (directory_in a.t.now) a.log.now a.from l.at l.invariant l.auto.at c.loop-at-test.true c.if-log-at-ne1.false _ c.in-Err.ensures (sym c.is_open.ensures ∙ c.if-is_open.true)
 
 pub loop-at-preserved : goal.loop-at-preserved
 loop-at-preserved c =
     let a = c.args in
     let l = c.loop-at in
-    seeks_on a.more (directory_in a.t.now) a.log.now a.from l.at l.invariant l.auto.at c.loop-at-test.true c.if-log-at-ne1.false _ c.in-NotWhole.ensures (sym c.is_open.ensures ∙ c.if-is_open.false)
+    seeks_on a.more (directory_in a.t.now) a.log.now a.from l.at l.invariant l.auto.at c.loop-at-test.true c.if-log-at-ne1.false _ c.in-Err.ensures (sym c.is_open.ensures ∙ c.if-is_open.false)
 
 pub returns : goal.returns
 returns c =
