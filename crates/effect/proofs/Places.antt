@@ -1,5 +1,5 @@
 -- Where a table that is found lies: within the image, and apart from every other. Assumes nothing.
-use mathlib.Core.Path.{◌≡◌, refl, subst}
+use mathlib.Core.Path.{◌≡◌, refl, ap, subst}
 use mathlib.Core.Bool.{Bool, true, false, and-eq-true_iff}
 use mathlib.Core.List.{List, [], ◌∷◌}
 use mathlib.Core.Option.{Option, none, some}
@@ -16,8 +16,9 @@ use Rattle.directory.specs.declared.table.TableKind.{TableKind}
 use Rattle.directory.specs.declared.table.TableKind.TheVariants.{Index, Value, RefCount}
 use Rattle.directory.specs.declared.table.TableDescription.{TableDescription}
 use Rattle.directory.specs.declared.directory.Directory.{Directory}
-use Rattle.directory.specs.declared.directory.Found.{Found}
-use Rattle.directory.specs.declared.directory.Found.TheVariants.{At, Nothing}
+use Rattle.std.specs.Prelude as std
+use Rattle.std.specs.Prelude.{Some, None}
+use Rattle.std.proofs.lemmas.Option.{same_Some}
 use Rattle.record.specs.Record.{value_length}
 use Rattle.effect.specs.Effect.{Place, place_of}
 
@@ -45,17 +46,18 @@ record Nth (kind : TableKind) (number base : ℕ) (ts : List TableDescription) (
   homes : (p : ℕ) → base + sizes_of (take n ts) ≤ p → p < base + sizes_of (take n ts) + size_of t
       → home base ts p ≡ some (record { at = base + sizes_of (take n ts); table = t })
 
-nth : (kind : TableKind) (number from base : ℕ) (ts : List TableDescription) (row : ℕ) (u : TableDescription) → find_from from ts kind number ≡ At row u
+nth : (kind : TableKind) (number from base : ℕ) (ts : List TableDescription) (row : ℕ) (u : TableDescription) → find_from from ts kind number ≡ Some (row, u)
     → (n : ℕ) × (row ≡ from + n) × Nth kind number base ts n u
 unfolding find_from home sizes_of is_table
 nth kind number from base [] row u e = let z : ◌≡◌ {A = ℕ} 0 1 = cc in absurd (omega arith)
 nth kind number from base (t ∷ ts) row u e = go (nth kind number (from + 1) (base + size_of t) ts row u) (is_table t kind number) refl
   where
-    go : (find_from (from + 1) ts kind number ≡ At row u → (n : ℕ) × (row ≡ from + 1 + n) × Nth kind number (base + size_of t) ts n u)
+    go : (find_from (from + 1) ts kind number ≡ Some (row, u) → (n : ℕ) × (row ≡ from + 1 + n) × Nth kind number (base + size_of t) ts n u)
         → (b : Bool) → is_table t kind number ≡ b → (n : ℕ) × (row ≡ from + n) × Nth kind number base (t ∷ ts) n u
     go ih true q =
-        let s : t ≡ u = cc (rw q at e) in
-        let f : from ≡ row = cc (rw q at e) in
+        let x = same_Some (from, t) (row, u) (rw q at e) in
+        let s : t ≡ u = ap (λ (p : ℕ × TableDescription). p.1) x in
+        let f : from ≡ row = ap (λ (p : ℕ × TableDescription). p.0) x in
         let r = (and-eq-true_iff (same_kind_of t.kind kind) (eqb t.number number)).0 q in (
           0,
           omega arith,
@@ -91,9 +93,9 @@ pub stands : (d : Directory) (kind : TableKind) (number : ℕ) (P : Place) → p
 unfolding place_of find_table start_of image_length
 stands d kind number P e = go (find_table d kind number) refl
   where
-    go : (f : Found) → find_table d kind number ≡ f → Stands d kind number P
-    go Nothing q = let z : ◌≡◌ {A = ℕ} 0 1 = cc (rw q at e) in absurd (omega arith)
-    go (At row t) q =
+    go : (f : std.Option (ℕ × TableDescription)) → find_table d kind number ≡ f → Stands d kind number P
+    go None q = let z : ◌≡◌ {A = ℕ} 0 1 = cc (rw q at e) in absurd (omega arith)
+    go (Some (row, t)) q =
         let s : record { at = start_of d row; table = t } ≡ P = cc (rw q at e) in
         let r = nth kind number 0 0 (tables_of d) row t q in
         let f : r.0 ≡ row = omega (arith, r.1) in

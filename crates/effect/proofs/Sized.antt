@@ -18,9 +18,9 @@ use Rattle.directory.specs.declared.table.TableKind.{TableKind}
 use Rattle.directory.specs.declared.table.TableKind.TheVariants.{Index, Value, RefCount}
 use Rattle.directory.specs.declared.table.TableDescription.{TableDescription}
 use Rattle.directory.specs.declared.directory.Directory.{Directory}
-use Rattle.directory.specs.declared.directory.Found.{Found}
-use Rattle.directory.specs.declared.directory.Found.TheVariants.{At, Nothing}
-use Rattle.record.specs.Format.{Format, need, refuse, give, got, read_at, ◌>>=◌, ◌>>◌, test}
+use Rattle.std.specs.Prelude as std
+use Rattle.std.specs.Prelude.{Some, None, Ok}
+use Rattle.record.specs.Format.{Format, need, refuse, give, got, read_at, ◌>>=◌, test}
 use Rattle.record.specs.Record.{Item, insert_of, drop_index, drop_ref_count, known, key, chunk, masked_item, value_length, value, valued_item, table, dropped_item, sum_holds, ended_item, inside_by, inside, opening}
 use Rattle.record.specs.Next.{step_of}
 use Rattle.answer.specs.declared.answer.Answer.{Answer}
@@ -29,7 +29,6 @@ use Rattle.record.specs.declared.action.LogAction.TheVariants.{BeginRecord}
 use Rattle.record.specs.declared.item.Key.{Key}
 use Rattle.record.specs.declared.reader.LogReader.{LogReader}
 use Rattle.record.specs.declared.reader.Stepped.{Stepped}
-use Rattle.record.specs.declared.reader.Step.TheVariants.{Took}
 use Rattle.record.proofs.Formats.{Within, within}
 use Rattle.record.proofs.Steps.{Read, within_record, at-opening, Taken, taken}
 use Rattle.effect.specs.Effect.{Place, place_of}
@@ -87,16 +86,16 @@ module _ {B : Type 0} (Q : B → List ℕ → Type 0) (seen : List ℕ) where
   good-test true answer g h = h
   good-test false answer g h = tt
 
-  good-known : (f : Found) (g : TableDescription → Format B) → ((row : ℕ) (t : TableDescription) → f ≡ At row t → Good Q seen (g t)) → Good Q seen (known f >>= g)
-  good-known Nothing g h = tt
-  good-known (At row t) g h = h row t refl
+  good-known : (f : std.Option (ℕ × TableDescription)) (g : TableDescription → Format B) → ((row : ℕ) (t : TableDescription) → f ≡ Some (row, t) → Good Q seen (g t)) → Good Q seen (known f >>= g)
+  good-known None g h = tt
+  good-known (Some (row, t)) g h = h row t refl
 
 module _ (d : Directory) where
   -- of the key read: its table stands in the directory, and the description is that table's
   record Keyed (kind : TableKind) (k : Key) (seen : List ℕ) : Type 0 where
     row : ℕ
     t : TableDescription
-    found : find_table d kind k.table ≡ At row t
+    found : find_table d kind k.table ≡ Some (row, t)
     described : k.description ≡ t
 
   -- of the item read: its payload is the last of the bytes seen, and is sized
@@ -179,7 +178,7 @@ pub record Payload (d : Directory) (log : List ℕ) (s : Stepped) : Type 0 where
   pub sized : SizedBy d s.action (take s.length (drop s.start log))
 
 -- Each step that the reader takes, from any state of it, hands out a payload that lies in the log and is sized
-pub payload-sized : (d : Directory) (log : List ℕ) (r : LogReader) (s : Stepped) → step_of d log r ≡ Took s → Payload d log s
+pub payload-sized : (d : Directory) (log : List ℕ) (r : LogReader) (s : Stepped) → step_of d log r ≡ Ok s → Payload d log s
 unfolding SizedBy
 payload-sized d log r s e = let t : Taken d log r s = taken d log r s e in go t.fits t.read
   where

@@ -1,5 +1,5 @@
 -- What lies under an index of a table: the search in the code, and the place that it finds. Assumes nothing.
-use mathlib.Core.Path.{◌≡◌, refl, sym}
+use mathlib.Core.Path.{◌≡◌, refl, sym, ap}
 use mathlib.Core.Bool.{Bool, true, false}
 use mathlib.Core.List.{List, [], ◌∷◌}
 use mathlib.Core.Option.{Option, none, some}
@@ -16,10 +16,10 @@ use Rattle.directory.specs.Directory.{find_table, start_of, image_length}
 use Rattle.directory.specs.declared.table.TableKind.{TableKind}
 use Rattle.directory.specs.declared.table.TableDescription.{TableDescription}
 use Rattle.directory.specs.declared.directory.Directory.{Directory}
-use Rattle.directory.specs.declared.directory.Found.TheVariants.{At, Nothing}
+use Rattle.std.specs.Prelude.{Some, None}
+use Rattle.std.proofs.lemmas.Option.{same_Some}
 use Rattle.effect.specs.Effect.{mask_in, entries_in, Place, place_of, Stroke, stroke, slot_strokes, under_index, zeroed, puts}
 use Rattle.effect.specs.Inner.{spot_under}
-use Rattle.effect.specs.declared.place.Spot.TheVariants.{From, Nowhere}
 use Rattle.effect.proofs.Places.{stands}
 
 -- what lies under an index lies within its table
@@ -28,7 +28,7 @@ unfolding size_of
 under-room t i h = omega (arith, mul-le-mul_right (slot_length t) h)
 
 module _ (d : Directory) (kind : TableKind) (number : ℕ) where
-  module _ (row : ℕ) (t : TableDescription) (e : find_table d kind number ≡ At row t) where
+  module _ (row : ℕ) (t : TableDescription) (e : find_table d kind number ≡ Some (row, t)) where
     pub place_at : place_of d kind number ≡ some (record { at = start_of d row; table = t })
     unfolding place_of
     place_at = rw e
@@ -41,19 +41,19 @@ module _ (d : Directory) (kind : TableKind) (number : ℕ) where
       pub spot-room : start + i * u + u ≤ image_length d
       spot-room = rw (s, l) (omega (arith, row_room, under-room t i h))
 
-      pub spot-at : From (start + i * u) u ≡ spot_under (place_of d kind number) i
+      pub spot-at : Some (start + i * u, u) ≡ spot_under (place_of d kind number) i
       unfolding spot_under
       spot-at = rw (place_at, lt-ltb i t.count h, s, l)
 
-    pub spot_past : (i : ℕ) → t.count ≤ i → Nowhere ≡ spot_under (place_of d kind number) i
+    pub spot_past : (i : ℕ) → t.count ≤ i → None ≡ spot_under (place_of d kind number) i
     unfolding spot_under
     spot_past i h = rw (place_at, le-ltb i t.count h)
 
-  pub place_none : find_table d kind number ≡ Nothing → place_of d kind number ≡ none
+  pub place_none : find_table d kind number ≡ None → place_of d kind number ≡ none
   unfolding place_of
   place_none e = rw e
 
-  pub spot-none : (i : ℕ) → find_table d kind number ≡ Nothing → Nowhere ≡ spot_under (place_of d kind number) i
+  pub spot-none : (i : ℕ) → find_table d kind number ≡ None → None ≡ spot_under (place_of d kind number) i
   unfolding spot_under
   spot-none i e = rw (place_none e)
 
@@ -66,14 +66,15 @@ module _ (d : Directory) (kind : TableKind) (number : ℕ) where
     pub room : at + u ≤ image_length d
     pub strokes : (f : ℕ → ℕ → List Stroke) → under_index (place_of d kind number) i f ≡ f at u
 
-  pub spotted : (i at u : ℕ) → spot_under (place_of d kind number) i ≡ From at u → Spotted i at u
+  pub spotted : (i at u : ℕ) → spot_under (place_of d kind number) i ≡ Some (at, u) → Spotted i at u
   unfolding spot_under under_index
   spotted i at u e = go (place_of d kind number) refl
     where
       low : (P : Place) → place_of d kind number ≡ some P → (t : Bool) → ltb i P.table.count ≡ t → Spotted i at u
       low P q true c =
-          let a : P.at + i * slot_length P.table ≡ at = cc (rw (q, c) at e) in
-          let b : slot_length P.table ≡ u = cc (rw (q, c) at e) in
+          let x = same_Some (P.at + i * slot_length P.table, slot_length P.table) (at, u) (rw (q, c) at e) in
+          let a : P.at + i * slot_length P.table ≡ at = ap (λ (p : ℕ × ℕ). p.0) x in
+          let b : slot_length P.table ≡ u = ap (λ (p : ℕ × ℕ). p.1) x in
           let s = stands d kind number P q in
           record {
             place = P;
@@ -89,7 +90,7 @@ module _ (d : Directory) (kind : TableKind) (number : ℕ) where
       go none q = let z : ◌≡◌ {A = ℕ} 0 1 = cc (rw q at e) in absurd (omega arith)
       go (some P) q = low P q (ltb i P.table.count) refl
 
-  pub unspotted : (i : ℕ) (f : ℕ → ℕ → List Stroke) → spot_under (place_of d kind number) i ≡ Nowhere → under_index (place_of d kind number) i f ≡ []
+  pub unspotted : (i : ℕ) (f : ℕ → ℕ → List Stroke) → spot_under (place_of d kind number) i ≡ None → under_index (place_of d kind number) i f ≡ []
   unfolding spot_under under_index
   unspotted i f e = go (place_of d kind number) refl
     where
@@ -104,11 +105,11 @@ module _ (d : Directory) (kind : TableKind) (number : ℕ) where
 -- ---- what is put where a spot is, and where there is none
 
 module _ (d : Directory) (kind : TableKind) (number i : ℕ) (image : List ℕ) where
-  pub puts-nowhere : spot_under (place_of d kind number) i ≡ Nowhere → (f : ℕ → ℕ → List Stroke) → image ≡ puts (under_index (place_of d kind number) i f) image
+  pub puts-nowhere : spot_under (place_of d kind number) i ≡ None → (f : ℕ → ℕ → List Stroke) → image ≡ puts (under_index (place_of d kind number) i f) image
   unfolding puts
   puts-nowhere e f = rw (unspotted d kind number i f e)
 
-  module _ (at u : ℕ) (e : spot_under (place_of d kind number) i ≡ From at u) (payload : List ℕ) where
+  module _ (at u : ℕ) (e : spot_under (place_of d kind number) i ≡ Some (at, u)) (payload : List ℕ) where
     pub puts-chunk : (width mask : ℕ) → mask ≡ little_at 8 payload 0
         → puts (slot_strokes 64 width at mask (drop 8 payload)) image
         ≡ puts (under_index (place_of d kind number) i (λ at u. slot_strokes 64 width at (mask_in payload) (entries_in payload))) image
@@ -119,11 +120,11 @@ module _ (d : Directory) (kind : TableKind) (number i : ℕ) (image : List ℕ) 
     puts-value = rw ((spotted d kind number i at u e).strokes (λ at u. stroke at (take u payload) ∷ []))
 
 module _ (d : Directory) (kind : TableKind) (number : ℕ) (image : List ℕ) where
-  pub puts_undropped : find_table d kind number ≡ Nothing → image ≡ puts (zeroed (place_of d kind number)) image
+  pub puts_undropped : find_table d kind number ≡ None → image ≡ puts (zeroed (place_of d kind number)) image
   unfolding puts zeroed
   puts_undropped e = rw (place_none d kind number e)
 
-  pub puts-dropped : (row : ℕ) (t : TableDescription) → find_table d kind number ≡ At row t → (start n : ℕ) → start ≡ start_of d row → n ≡ size_of t
+  pub puts-dropped : (row : ℕ) (t : TableDescription) → find_table d kind number ≡ Some (row, t) → (start n : ℕ) → start ≡ start_of d row → n ≡ size_of t
       → sets image start (replicate n 0) ≡ puts (zeroed (place_of d kind number)) image
   unfolding puts zeroed
   puts-dropped row t e start n s l = rw (place_at d kind number row t e, s, l)

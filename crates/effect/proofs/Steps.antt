@@ -1,43 +1,22 @@
 -- One turn of each loop: what is left to store, applied to what is there, stays the same.
 -- Assumes nothing.
-use Prim.Native.Nat.{ℕ, zero, suc, ◌+◌, ◌-◌, ◌*◌, ◌^◌, ◌<◌, ◌≤◌}
+use Prim.Native.Nat.{ℕ, zero, suc, ◌+◌, ◌-◌, ◌*◌, ◌^◌, ◌≤◌}
 use mathlib.Core.Path.{◌≡◌, refl, sym}
-use mathlib.Core.List.{List, [], ◌∷◌}
+use mathlib.Core.List.{List, [], ◌∷◌, ◌++◌}
 use native.Mathlib.Nat.{zero-add, add-zero, sub-zero, suc-sub-suc, zero-mul, mul-one}
-use native.Mathlib.Numerals.{add-one}
 use native.Mathlib.Omega.{arith}
 use lib.Bits.{shifted_half, shifted_even}
-use lib.ListN.{length, take, drop, set, get_or, replicate}
-use lib.Seq.{sets, take-nil, drop-cons, drop-drop}
+use lib.ListN.{length, take, drop, set}
+use lib.Seq.{sets, sets-eq, take-nil, drop-drop}
+use Rattle.std.proofs.Common.{append_assoc}
 use Rattle.words.proofs.Runs.{set-half, set-odd}
 use Rattle.effect.specs.Effect.{slot_strokes, puts}
 
-pub zero_turn : (l : List ℕ) (p e : ℕ) → p < e → sets (set l p 0) (p + 1) (replicate (e - (p + 1)) 0) ≡ sets l p (replicate (e - p) 0)
-zero_turn l p e h =
-    let q : e - p ≡ suc (e - (p + 1)) = omega arith in
-    rw (q, add-one)
-
-pub copy-turn : (l log : List ℕ) (at from n j : ℕ) → j < n → from + j < length log
-    → sets (set l (at + j) (get_or log (from + j) 0)) (at + (j + 1)) (take (n - (j + 1)) (drop (from + (j + 1)) log))
-    ≡ sets l (at + j) (take (n - j) (drop (from + j) log))
-copy-turn l log at from n j h k =
-    let q : n - j ≡ suc (n - (j + 1)) = omega arith in
-    let a : at + (j + 1) ≡ suc (at + j) = omega arith in
-    let b : from + (j + 1) ≡ suc (from + j) = omega arith in
-    rw (q, a, b, drop-cons log (from + j) 0)
-
--- the first turn and the last
-pub zero-first : (l : List ℕ) (a n : ℕ) → sets l a (replicate (a + n - a) 0) ≡ sets l a (replicate n 0)
-zero-first l a n = let q : a + n - a ≡ n = omega arith in rw q
-
-pub zero-last : (l : List ℕ) (p e : ℕ) → e ≤ p → sets l p (replicate (e - p) 0) ≡ l
-zero-last l p e h = let q : e - p ≡ 0 = omega arith in rw q
-
-pub copy-first : (l log : List ℕ) (at from n : ℕ) → sets l (at + 0) (take (n - 0) (drop (from + 0) log)) ≡ sets l at (take n (drop from log))
-copy-first l log at from n = simp (add-zero, sub-zero)
-
-pub copy-last : (l log : List ℕ) (at from n j : ℕ) → n ≤ j → sets l (at + j) (take (n - j) (drop (from + j) log)) ≡ l
-copy-last l log at from n j h = let q : n - j ≡ 0 = omega arith in rw q
+-- bytes that are stored in a part
+pub stored : (l ys : List ℕ) (at n : ℕ) → at + n ≤ length l → length ys ≡ n → take at l ++ (ys ++ drop (at + n - at) (drop at l)) ≡ sets l at ys
+stored l ys at n h e =
+    let q : at + n - at ≡ n = omega arith in
+    rw (q, drop-drop, sets-eq ys l at (omega arith), append_assoc, e) refl
 
 -- ---- the slots of a mask
 
@@ -72,16 +51,16 @@ slots_set (suc o) (suc n) w at x es l h =
     (slots_set o n w (at + w) x (drop w es) (sets l at (take w es)) (omega arith))
 
 -- a turn of the walk
-pub slots-run : (l log : List ℕ) (w at f slot m z o x : ℕ) → m ≡ (x * 2 ^ o + (2 ^ o - 1)) * 2 ^ z → slot + z + o ≤ 64
-    → puts (slot_strokes (64 - (slot + z + o)) w (at + (slot + z + o) * w) x (drop (f + o * w) log)) (sets l (at + (slot + z) * w) (take (o * w) (drop f log)))
-    ≡ puts (slot_strokes (64 - slot) w (at + slot * w) m (drop f log)) l
-slots-run l log w at f slot m z o x e h =
+pub slots-run : (l es : List ℕ) (w at f slot m z o x : ℕ) → m ≡ (x * 2 ^ o + (2 ^ o - 1)) * 2 ^ z → slot + z + o ≤ 64
+    → puts (slot_strokes (64 - (slot + z + o)) w (at + (slot + z + o) * w) x (drop (f + o * w) es)) (sets l (at + (slot + z) * w) (take (o * w) (drop f es)))
+    ≡ puts (slot_strokes (64 - slot) w (at + slot * w) m (drop f es)) l
+slots-run l es w at f slot m z o x e h =
     let a : 64 - (slot + z + o) ≡ 64 - slot - z - o = omega arith in
     let b : at + (slot + z) * w ≡ at + slot * w + z * w = omega arith in
     let c : at + (slot + z + o) * w ≡ at + slot * w + z * w + o * w = omega arith in
-    let s = slots_set o (64 - slot - z) w (at + slot * w + z * w) x (drop f log) l (omega arith) in
-    let t = slots-clear z (64 - slot) w (at + slot * w) (x * 2 ^ o + (2 ^ o - 1)) (drop f log) (omega arith) in
-    rw (a, b, c, ← drop-drop (o * w) f log, e, t) (sym s)
+    let s = slots_set o (64 - slot - z) w (at + slot * w + z * w) x (drop f es) l (omega arith) in
+    let t = slots-clear z (64 - slot) w (at + slot * w) (x * 2 ^ o + (2 ^ o - 1)) (drop f es) (omega arith) in
+    rw (a, b, c, ← drop-drop (o * w) f es, e, t) (sym s)
 
 pub slots-none : (n w at : ℕ) (es : List ℕ) → slot_strokes n w at 0 es ≡ []
 unfolding slot_strokes
@@ -89,9 +68,9 @@ slots-none zero w at es = refl
 slots-none (suc n) w at es = slots-none n w (at + w) es
 
 -- the first and the last
-pub slots-first : (l log : List ℕ) (w at mask from : ℕ) → puts (slot_strokes (64 - 0) w (at + 0 * w) mask (drop from log)) l ≡ puts (slot_strokes 64 w at mask (drop from log)) l
-slots-first l log w at mask from = let a : at + 0 * w ≡ at = omega arith in rw a
+pub slots-first : (l es : List ℕ) (w at mask : ℕ) → puts (slot_strokes (64 - 0) w (at + 0 * w) mask es) l ≡ puts (slot_strokes 64 w at mask es) l
+slots-first l es w at mask = let a : at + 0 * w ≡ at = omega arith in rw a
 
-pub slots-last : (l log : List ℕ) (n w at m f : ℕ) → m ≤ 0 → puts (slot_strokes n w at m (drop f log)) l ≡ l
+pub slots-last : (l es : List ℕ) (n w at m f : ℕ) → m ≤ 0 → puts (slot_strokes n w at m (drop f es)) l ≡ l
 unfolding puts
-slots-last l log n w at m f h = let e : m ≡ 0 = omega arith in rw (e, slots-none n w at (drop f log))
+slots-last l es n w at m f h = let e : m ≡ 0 = omega arith in rw (e, slots-none n w at (drop f es))

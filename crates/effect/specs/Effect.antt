@@ -1,6 +1,7 @@
 -- What an action does to the image, and a record: its actions in written order (document 01, "Record bytes" and "Replay"; added: log.rs
 -- hands its actions out and knows no tables).
-use Rattle.std.specs.Prelude.{List, [], ◌∷◌, ℕ, zero, suc, ◌+◌, ◌*◌, ◌/◌, ◌%◌, eqb, ltb, take, drop, replicate}
+use Rattle.std.specs.Prelude.{List, [], ◌∷◌, ℕ, zero, suc, ◌+◌, ◌*◌, ◌/◌, ◌%◌, eqb, ltb, take, drop, replicate, Some, None}
+use Rattle.std.specs.Prelude as std
 use Rattle.std.proofs.Math.Option.{Option, none, some}
 use Rattle.std.proofs.lemmas.List.Edits.{sets}
 use Rattle.std.specs.Prelude.{if◌then◌else◌}
@@ -11,8 +12,6 @@ use Rattle.directory.specs.declared.table.TableKind.{TableKind}
 use Rattle.directory.specs.declared.table.TableKind.TheVariants.{Index, Value, RefCount}
 use Rattle.directory.specs.declared.table.TableDescription.{TableDescription}
 use Rattle.directory.specs.declared.directory.Directory.{Directory}
-use Rattle.directory.specs.declared.directory.Found.{Found}
-use Rattle.directory.specs.declared.directory.Found.TheVariants.{At, Nothing}
 use Rattle.record.specs.declared.action.LogAction.{LogAction}
 use Rattle.record.specs.declared.action.LogAction.TheVariants.{BeginRecord, InsertIndex, InsertValue, InsertRefCount, EndRecord, DropTable, DropRefCountTable}
 
@@ -39,9 +38,9 @@ pub record Place : Type 0 where
   pub table : TableDescription
 
 -- the place of a table that was found
-abbrev pub placed : Directory → Found → Option Place
-placed d Nothing = none
-placed d (At row t) = some (record { at = start_of d row; table = t })
+abbrev pub placed : Directory → std.Option (ℕ × TableDescription) → Option Place
+placed d None = none
+placed d (Some (row, t)) = some (record { at = start_of d row; table = t })
 
 -- the place of the table of a kind and a number
 unfoldable pub place_of : Directory → TableKind → ℕ → Option Place

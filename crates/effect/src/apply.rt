@@ -7,9 +7,9 @@ ghost use Rattle.effect.specs.Effect.{written, mask_in, entries_in, place_of, st
 ghost use Rattle.effect.specs.Meaning.{Entries, OneValue, SizedBy};
 ghost use Rattle.effect.specs.Inner.{Chunks};
 
-use super::place::{Spot, locate};
-use super::store::{copy, put_slots, zero};
-use directory::{Found, TableKind};
+use super::place::locate;
+use super::store::put_slots;
+use directory::TableKind;
 use record::LogAction;
 
 // The entries that a mask names, under an index of a table with chunks of 64 entries.
@@ -27,12 +27,8 @@ fn insert_chunk(
     requires entries { Entries width payload.now }
     ensures { image.new ≡ puts (under_index (place_of (directory_in t.now) kind number) index (λ at u. slot_strokes 64 width at (mask_in payload.now) (entries_in payload.now))) image.old }
 {
-    match locate(t, kind, number, index) {
-        Spot::Nowhere => {}
-        Spot::From(at, _) => {
-            let mask = words::u64_at(payload, 0);
-            put_slots(image, at, width, mask, payload, 8);
-        }
+    if let Some((at, _)) = locate(t, kind, number, index) {
+        put_slots(image, at, width, words::u64_at(payload, 0), &payload[8..]);
     }
 }
 
@@ -42,9 +38,8 @@ fn insert_value(t: &[u64; 81], number: u16, index: u64, payload: &[u8], image: &
     requires one_value { OneValue (place_of (directory_in t.now) Value number) payload.now }
     ensures { image.new ≡ puts (under_index (place_of (directory_in t.now) Value number) index (λ at u. stroke at (take u payload.now) ∷ [])) image.old }
 {
-    match locate(t, TableKind::Value, number, index) {
-        Spot::Nowhere => {}
-        Spot::From(at, unit) => copy(image, at, payload, 0, unit),
+    if let Some((at, unit)) = locate(t, TableKind::Value, number, index) {
+        image[at..at + unit].copy_from_slice(&payload[..unit]);
     }
 }
 
@@ -53,36 +48,35 @@ fn drop_table(t: &[u64; 81], kind: TableKind, number: u16, image: &mut [u8])
     requires { Flat t.now × (length image.old ≡ image_length (directory_in t.now)) }
     ensures { image.new ≡ puts (zeroed (place_of (directory_in t.now) kind number)) image.old }
 {
-    match directory::find_in(t, kind, number) {
-        Found::Nothing => {}
-        Found::At(row, x) => {
-            let at = directory::start_in(t, row);
-            let n = x.size();
-            zero(image, at, n);
-        }
+    if let Some((row, x)) = directory::find_in(t, kind, number) {
+        let at = directory::start_in(t, row);
+        image[at..at + x.size()].fill(0);
     }
 }
 
 // An action with its payload's bytes.
+#[tactic(auto, unfolding(crate::specs::Effect::done, crate::specs::Effect::strokes, crate::specs::Effect::puts, crate::specs::Meaning::SizedBy))]
 fn apply_written(t: &[u64; 81], action: LogAction, payload: &[u8], image: &mut [u8])
     requires flat { Flat t.now × (length image.old ≡ image_length (directory_in t.now)) }
     requires sized_by { SizedBy (directory_in t.now) action payload.now }
     ensures { image.new ≡ done (directory_in t.now) (written action payload.now) image.old }
 {
     match action {
-        LogAction::BeginRecord => {}
-        LogAction::EndRecord => {}
+        LogAction::BeginRecord | LogAction::EndRecord => {}
         LogAction::InsertIndex(a) => {
-            let table = a.table;
-            insert_chunk(t, TableKind::Index, 8, table.0, a.index, payload, image);
+            insert_chunk(t, TableKind::Index, 8, a.table.0, a.index, payload, image);
         }
-        LogAction::InsertValue(a) => {
-            let table = a.table;
-            insert_value(t, table.0, a.index, payload, image);
-        }
+        LogAction::InsertValue(a) => insert_value(t, a.table.0, a.index, payload, image),
         LogAction::InsertRefCount(a) => {
-            let table = a.table;
-            insert_chunk(t, TableKind::RefCount, 16, table.0, a.index, payload, image);
+            insert_chunk(
+                t,
+                TableKind::RefCount,
+                16,
+                a.table.0,
+                a.index,
+                payload,
+                image,
+            );
         }
         LogAction::DropTable(table) => drop_table(t, TableKind::Index, table.0, image),
         LogAction::DropRefCountTable(table) => drop_table(t, TableKind::RefCount, table.0, image),
@@ -103,6 +97,5 @@ pub fn apply_action(
     requires sized_by { SizedBy (directory_in t.now) action (take size (drop start log.now)) }
     ensures { image.new ≡ done (directory_in t.now) (written action (take size (drop start log.now))) image.old }
 {
-    let end = start + size;
-    apply_written(t, action, &log[start..end], image);
+    apply_written(t, action, &log[start..start + size], image);
 }
