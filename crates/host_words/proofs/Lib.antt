@@ -1,4 +1,7 @@
 -- The laws, for other crates to cite.
+pub mod Arrays
+pub mod Laid
+pub mod Parts
 pub mod Laws
 pub mod Broken
 pub mod Heads

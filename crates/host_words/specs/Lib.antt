@@ -4,3 +4,4 @@ pub mod Head
 pub mod Reader
 pub mod Change
 pub mod Overlays
+pub mod Inner

@@ -1,5 +1,6 @@
 -- A reader as five words: position, record id, the checksum's register, validate, inside (log.rs 212-219: `LogReader`).
-use Rattle.std.specs.Prelude.{Bool, ◌&&◌, List, [], ◌∷◌, ℕ, ltb, eqb, length, get_or}
+use Rattle.std.specs.Prelude.{Bool, ◌&&◌, List, [], ◌∷◌, ℕ, ltb, eqb, length, get_or, Option, Some, None}
+use Rattle.std.specs.Prelude.{if◌then◌else◌}
 use Rattle.numbers.specs.Numbers.{one_if}
 use Rattle.record.specs.declared.reader.LogReader.{LogReader}
 use Rattle.host_words.specs.Head.{flag_from}
@@ -21,6 +22,10 @@ reader_from w = record {
   validate = flag_from (get_or w 3 0);
   inside = flag_from (get_or w 4 0);
 }
+
+-- the reader that words are, if they are one
+abbrev pub reader_read : List ℕ → Option LogReader
+reader_read w = if reader_formed w then Some (reader_from w) else None
 
 -- and back
 abbrev pub reader_words : LogReader → List ℕ
