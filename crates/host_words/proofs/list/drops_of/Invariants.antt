@@ -7,5 +7,5 @@ abbrev pub invariant-loop-i : goal.invariant-loop-i
 invariant-loop-i l = record {
   long : length l.tables ≡ 16;
   tables : take l.i l.tables ≡ take l.i (drop 1 l.words);
-  left : all_below 65536 (drop l.i (drop 1 l.words)) ≡ all_below 65536 (drop 1 l.words)
+  left : all_below 65536 (drop l.i (drop 1 l.words)) ≡ all_below 65536 (drop 1 l.words);
 }

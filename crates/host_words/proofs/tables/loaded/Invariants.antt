@@ -8,5 +8,5 @@ abbrev pub invariant-loop-row : goal.invariant-loop-row
 invariant-loop-row l = record {
   six : l.row-iterator.size ≡ 6;
   whole : length l.row-iterator.rest.now % 6 ≡ 0;
-  left : rows_left l.row-iterator.rest.now l.d ≡ directory_from l.words
+  left : rows_left l.row-iterator.rest.now l.d ≡ directory_from l.words;
 }
