@@ -1,6 +1,6 @@
 pub mod Begins
 pub mod Faults
 pub mod Formats
-pub mod Naming
+pub mod Mapped
 pub mod Parts
 pub mod Steps

@@ -18,8 +18,8 @@ use Rattle.directory.specs.declared.table.TableKind.{TableKind}
 use Rattle.directory.specs.declared.table.TableKind.TheVariants.{Index, Value, RefCount}
 use Rattle.directory.specs.declared.directory.Directory.{Directory}
 use Rattle.directory.specs.declared.table.TableDescription.{TableDescription}
-use Rattle.record.specs.Format.{refuse, give, Got, stopped, got, read_at, ◌>>◌, test}
-use Rattle.record.specs.Record.{Item, insert_of, key, chunk, value_length, value, table, dropped_item, sum_holds, ended_item, inside_by, inside, early, begun_id, early_end, opening_by, opening}
+use Rattle.record.specs.Format.{Format, refuse, give, Got, stopped, got, read_at, ◌>>◌, test}
+use Rattle.record.specs.Record.{Item, insert_of, key, chunk, masked_item, value_length, value, valued_item, table, dropped_item, sum_holds, ended_item, inside_by, inside, early, begun_id, early_end, opening_by, opening}
 use Rattle.answer.specs.declared.answer.Answer.{Answer}
 use Rattle.answer.specs.declared.answer.Answer.TheVariants.{EndOfLog, Cut, UnknownTag, OutOfPlace, NoTable, NoIndex, WrongSum}
 use Rattle.record.specs.declared.action.LogAction.{LogAction}
@@ -28,7 +28,7 @@ use Rattle.record.specs.declared.item.Key.{Key}
 use Rattle.record.specs.declared.item.ReadItem.{ReadItem}
 use Rattle.record.specs.declared.reader.LogReader.{LogReader}
 use Rattle.record.specs.Next.{reader_after, stepped}
-use Rattle.record.specs.Inner.{tag_of_kind, action_by, action_in, got_item}
+use Rattle.record.specs.Inner.{tag_of_kind, action_by, action_in, got_item, inserted_item}
 use Rattle.record.proofs.Formats.{need-short, need_met, read-give, read-refuse, then_stop, then_got}
 use Rattle.std.specs.Prelude.{Ok, Option, Some, None}
 
@@ -47,6 +47,18 @@ module _ {A : Type 0} (answer : Answer) (at : ℕ) (log : List ℕ) where
   unfolding read_at
   test-refuse true other = refl
   test-refuse false other = refl
+
+-- the payload behind a key
+abbrev pub payload_of : TableKind → Key → Format Item
+payload_of Index k = chunk Index 8 k
+payload_of Value k = value k
+payload_of RefCount k = chunk RefCount 16 k
+
+pub payload_8 : (kind : TableKind) (k : Key) → kind ≡ Index → payload_of kind k ≡ chunk kind 8 k
+payload_8 kind k e = rw e
+
+pub payload_16 : (kind : TableKind) (k : Key) → kind ≡ RefCount → payload_of kind k ≡ chunk kind 16 k
+payload_16 kind k e = rw e
 
 module _ (at : ℕ) (log : List ℕ) where
   -- ---- table and index
@@ -94,6 +106,22 @@ module _ (at : ℕ) (log : List ℕ) where
       → read_at (value k) at log ≡ got (record { action = insert_of Value k.table k.index; payload = value_length k.description }) (at + value_length k.description)
   unfolding value
   value_met k h = need_met (value_length k.description) Cut _ at log h ∙ read-give _ (at + value_length k.description) log
+
+  -- ---- a key and its payload
+
+  module _ (d : Directory) where
+    pub inserted-stop : (kind : TableKind) (answer : Answer) → stopped answer ≡ read_at (key d kind) at log → stopped answer ≡ read_at (inserted_item d kind) at log
+    unfolding masked_item valued_item
+    inserted-stop Index answer e = then_stop (key d Index) (chunk Index 8) at log answer e
+    inserted-stop Value answer e = then_stop (key d Value) value at log answer e
+    inserted-stop RefCount answer e = then_stop (key d RefCount) (chunk RefCount 16) at log answer e
+
+    pub inserted_met : (kind : TableKind) (k : Key) (end : ℕ) (f : Format Item) → payload_of kind k ≡ f → got k end ≡ read_at (key d kind) at log
+        → read_at f end log ≡ read_at (inserted_item d kind) at log
+    unfolding masked_item valued_item
+    inserted_met Index k end f p e = ap (λ (x : Format Item). read_at x end log) (sym p) ∙ then_got (key d Index) (chunk Index 8) at log k end e
+    inserted_met Value k end f p e = ap (λ (x : Format Item). read_at x end log) (sym p) ∙ then_got (key d Value) value at log k end e
+    inserted_met RefCount k end f p e = ap (λ (x : Format Item). read_at x end log) (sym p) ∙ then_got (key d RefCount) (chunk RefCount 16) at log k end e
 
   -- ---- the table of a drop
 

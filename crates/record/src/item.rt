@@ -1,17 +1,13 @@
 // What stands inside a record, from a position on: the tag, and what the tag says is behind it.
-ghost use Rattle.std.specs.Prelude.{◌≡◌, ◌+◌, ◌≤◌, ◌<◌, length};
-ghost use Rattle.words.specs.Words.{little_at};
-ghost use Rattle.directory.specs.Directory.{find_table};
-ghost use Rattle.directory.specs.declared.directory.Directory.{Directory};
-ghost use Rattle.directory.specs.declared.table.TableKind.{TableKind};
-ghost use Rattle.directory.specs.declared.table.TableKind.TheVariants.{Index, Value, RefCount};
+ghost use Rattle.std.specs.Prelude.{◌≡◌, ◌+◌, ◌≤◌, length};
 ghost use Rattle.record.specs.Format.{read_at};
-ghost use Rattle.record.specs.Inner.{got_by, tag_of_kind, action_in, got_item, FoundBy, Sought, sought_in};
-ghost use Rattle.record.specs.Record.{key, chunk, masked_item, value_length, value, valued_item, table, dropped_item, drop_index, drop_ref_count, sum_holds, ended_item, inside};
+ghost use Rattle.record.specs.Inner.{got_by, tag_of_kind, action_by, action_in, got_item, inserted_item};
+ghost use Rattle.record.specs.Record.{key, chunk, value, table, dropped_item, sum_holds, ended_item, inside};
 
 use super::action::LogAction;
 use super::mask::entries_length;
-use answer::Answer;
+use super::tables::Tables;
+use answer::{Answer, Tag};
 use directory::{IndexTableId, RefCountTableId, TableDescription, TableKind};
 
 // A table's number and an index, both tested, with the table's description.
@@ -28,7 +24,7 @@ pub struct Key {
 pub struct ReadItem {
     pub index: u64,
     pub length: usize,
-    pub tag: u8,
+    pub tag: Tag,
     pub table: u16,
     pub start: usize,
 }
@@ -37,7 +33,7 @@ impl ReadItem {
     pub fn action(self) -> LogAction
         ensures { result ≡ action_in self }
     {
-        match self.tag {
+        match self.tag.0 {
             2 => LogAction::insert(TableKind::Index, self.table, self.index),
             3 => LogAction::insert(TableKind::Value, self.table, self.index),
             4 => LogAction::EndRecord,
@@ -49,17 +45,18 @@ impl ReadItem {
     }
 }
 
-// Table and index, behind the tag of an insertion. Here and below `f` is what the search for the table that is named there has found.
-fn key_at(f: Option<(usize, TableDescription)>, log: &[u8], body: usize) -> Result<Key, Answer>
-    requires { body ≤ length log.now }
-    ensures { (d : Directory) (kind : TableKind) → f ≡ find_table d kind (little_at 2 log.now body) → got_by result (body + 10) ≡ read_at (key d kind) body log.now }
+// Table and index, behind the tag of an insertion.
+fn key_at<T: Tables>(tables: &T, log: &[u8], body: usize, kind: TableKind) -> Result<Key, Answer>
+    requires formed { T.formed tables.now }
+    requires in_bounds { body ≤ length log.now }
+    ensures { got_by result (body + 10) ≡ read_at (key (T.directory tables.now) kind) body log.now }
 {
     if log.len() - body < 10 {
         return Err(Answer::Cut);
     }
     let table = words::u16_at(log, body);
     let index = words::u64_at(log, body + 2);
-    let Some((_, description)) = f else {
+    let Some((_, description)) = tables.find(kind, table) else {
         return Err(Answer::NoTable);
     };
     if index < u64::from(description.count) {
@@ -74,13 +71,13 @@ fn key_at(f: Option<(usize, TableDescription)>, log: &[u8], body: usize) -> Resu
 }
 
 // The tag of an insertion.
-fn insert_tag(kind: TableKind) -> u8
-    ensures { result ≡ tag_of_kind kind }
+fn insert_tag(kind: TableKind) -> Tag
+    ensures { result.0 ≡ tag_of_kind kind }
 {
     match kind {
-        TableKind::Index => 2,
-        TableKind::Value => 3,
-        TableKind::RefCount => 6,
+        TableKind::Index => Tag::INSERT_INDEX,
+        TableKind::Value => Tag::INSERT_VALUE,
+        TableKind::RefCount => Tag::INSERT_REF_COUNT,
     }
 }
 
@@ -112,67 +109,50 @@ fn chunk_at(
     })
 }
 
-// Tags 2 and 6.
-fn masked_at(
-    f: Option<(usize, TableDescription)>,
-    log: &[u8],
-    body: usize,
-    kind: TableKind,
-    width: usize,
-) -> Result<ReadItem, Answer>
-    requires { (width ≤ 16) × (body ≤ length log.now) × FoundBy f kind (little_at 2 log.now body) }
-    ensures { (d : Directory) → f ≡ find_table d kind (little_at 2 log.now body) → got_item result ≡ read_at (masked_item d kind width) body log.now }
-{
-    let k = key_at(f, log, body)?;
-    chunk_at(log, body + 10, kind, width, k)
-}
-
-// How many bytes a record has for a value of that table.
-fn value_length(t: TableDescription) -> usize
-    ensures { result ≡ value_length t }
-{
-    t.length as usize
-}
-
-// The value, behind a key.
+// The value, behind a key. A record has as many bytes for a value as its table says.
 fn value_at(log: &[u8], start: usize, k: Key) -> Result<ReadItem, Answer>
     requires { start ≤ length log.now }
     ensures { got_item result ≡ read_at (value k) start log.now }
 {
-    let length = value_length(k.description);
+    let length = usize::from(k.description.length);
     if log.len() - start < length {
         return Err(Answer::Cut);
     }
     Ok(ReadItem {
         index: k.index,
         length,
-        tag: 3,
+        tag: Tag::INSERT_VALUE,
         table: k.table,
         start,
     })
 }
 
-// Tag 3.
-fn valued_at(
-    f: Option<(usize, TableDescription)>,
+// Tags 2, 3 and 6: a key, and the payload behind it.
+fn inserted_at<T: Tables>(
+    tables: &T,
     log: &[u8],
     body: usize,
+    kind: TableKind,
 ) -> Result<ReadItem, Answer>
-    requires { (body ≤ length log.now) × FoundBy f Value (little_at 2 log.now body) }
-    ensures { (d : Directory) → f ≡ find_table d Value (little_at 2 log.now body) → got_item result ≡ read_at (valued_item d) body log.now }
+    requires formed { T.formed tables.now }
+    requires in_bounds { body ≤ length log.now }
+    ensures { got_item result ≡ read_at (inserted_item (T.directory tables.now) kind) body log.now }
 {
-    let k = key_at(f, log, body)?;
-    value_at(log, body + 10, k)
+    let k = key_at(tables, log, body, kind)?;
+    let start = body + 10;
+    match kind {
+        TableKind::Index => chunk_at(log, start, kind, 8, k),
+        TableKind::Value => value_at(log, start, k),
+        TableKind::RefCount => chunk_at(log, start, kind, 16, k),
+    }
 }
 
 // Whether the checksum over all up to the end tag is that number, or nobody asks.
+#[tactic(auto, unfolding(crate::specs::Record::sum_holds))]
 fn sum_holds(validate: bool, register: u32, sum: u32) -> bool
     ensures { result ≡ sum_holds validate register sum }
 {
-    if !validate {
-        return true;
-    }
-    sum == checksum::finish(checksum::update(register, b"\x04"))
+    !validate || sum == checksum::finish(checksum::update(register, &[Tag::END_RECORD.0]))
 }
 
 // Tag 4.
@@ -183,12 +163,11 @@ fn ended_at(log: &[u8], body: usize, validate: bool, register: u32) -> Result<Re
     if log.len() - body < 4 {
         return Err(Answer::Cut);
     }
-    let sum = words::u32_at(log, body);
-    if sum_holds(validate, register, sum) {
+    if sum_holds(validate, register, words::u32_at(log, body)) {
         Ok(ReadItem {
             index: 0,
             length: 0,
-            tag: 4,
+            tag: Tag::END_RECORD,
             table: 0,
             start: body + 4,
         })
@@ -198,68 +177,54 @@ fn ended_at(log: &[u8], body: usize, validate: bool, register: u32) -> Result<Re
 }
 
 // A table's number, behind the tag of a drop.
-fn table_at(f: Option<(usize, TableDescription)>, log: &[u8], body: usize) -> Result<u16, Answer>
-    requires { body ≤ length log.now }
-    ensures { (d : Directory) (kind : TableKind) → f ≡ find_table d kind (little_at 2 log.now body) → got_by result (body + 2) ≡ read_at (table d kind) body log.now }
+fn table_at<T: Tables>(tables: &T, log: &[u8], body: usize, kind: TableKind) -> Result<u16, Answer>
+    requires formed { T.formed tables.now }
+    requires in_bounds { body ≤ length log.now }
+    ensures { got_by result (body + 2) ≡ read_at (table (T.directory tables.now) kind) body log.now }
 {
     if log.len() - body < 2 {
         return Err(Answer::Cut);
     }
     let number = words::u16_at(log, body);
-    match f {
+    match tables.find(kind, number) {
         None => Err(Answer::NoTable),
         Some(_) => Ok(number),
     }
 }
 
-// Tag 5.
-fn dropped_index_at(
-    f: Option<(usize, TableDescription)>,
+// Tags 5 and 7.
+fn dropped_at<T: Tables>(
+    tables: &T,
     log: &[u8],
     body: usize,
+    kind: TableKind,
+    tag: Tag,
 ) -> Result<ReadItem, Answer>
-    requires { body ≤ length log.now }
-    ensures { (d : Directory) → f ≡ find_table d Index (little_at 2 log.now body) → got_item result ≡ read_at (dropped_item d Index drop_index) body log.now }
+    requires formed { T.formed tables.now }
+    requires in_bounds { body ≤ length log.now }
+    ensures { got_item result ≡ read_at (dropped_item (T.directory tables.now) kind (λ number. action_by tag.0 number 0)) body log.now }
 {
-    let table = table_at(f, log, body)?;
+    let table = table_at(tables, log, body, kind)?;
     Ok(ReadItem {
         index: 0,
         length: 0,
-        tag: 5,
-        table,
-        start: body + 2,
-    })
-}
-
-// Tag 7.
-fn dropped_ref_count_at(
-    f: Option<(usize, TableDescription)>,
-    log: &[u8],
-    body: usize,
-) -> Result<ReadItem, Answer>
-    requires { body ≤ length log.now }
-    ensures { (d : Directory) → f ≡ find_table d RefCount (little_at 2 log.now body) → got_item result ≡ read_at (dropped_item d RefCount drop_ref_count) body log.now }
-{
-    let table = table_at(f, log, body)?;
-    Ok(ReadItem {
-        index: 0,
-        length: 0,
-        tag: 7,
+        tag,
         table,
         start: body + 2,
     })
 }
 
 // The decision on the tag, inside a record.
-pub fn item_at(
-    f: Option<(usize, TableDescription)>,
+pub fn item_at<T: Tables>(
+    tables: &T,
     log: &[u8],
     at: usize,
     validate: bool,
     register: u32,
 ) -> Result<ReadItem, Answer>
-    requires { (at ≤ length log.now) × Sought f log.now at }
-    ensures { (d : Directory) → f ≡ sought_in d log.now at → got_item result ≡ read_at (inside d validate register) at log.now }
+    requires formed { T.formed tables.now }
+    requires in_bounds { at ≤ length log.now }
+    ensures { got_item result ≡ read_at (inside (T.directory tables.now) validate register) at log.now }
 {
     if log.len() - at < 1 {
         return Err(Answer::Cut);
@@ -268,12 +233,18 @@ pub fn item_at(
     let body = at + 1;
     match tag {
         1 => Err(Answer::OutOfPlace),
-        2 => masked_at(f, log, body, TableKind::Index, 8),
-        3 => valued_at(f, log, body),
+        2 => inserted_at(tables, log, body, TableKind::Index),
+        3 => inserted_at(tables, log, body, TableKind::Value),
         4 => ended_at(log, body, validate, register),
-        5 => dropped_index_at(f, log, body),
-        6 => masked_at(f, log, body, TableKind::RefCount, 16),
-        7 => dropped_ref_count_at(f, log, body),
+        5 => dropped_at(tables, log, body, TableKind::Index, Tag::DROP_TABLE),
+        6 => inserted_at(tables, log, body, TableKind::RefCount),
+        7 => dropped_at(
+            tables,
+            log,
+            body,
+            TableKind::RefCount,
+            Tag::DROP_REF_COUNT_TABLE,
+        ),
         0 | 8..=255 => Err(Answer::UnknownTag),
     }
 }

@@ -3,16 +3,15 @@ ghost use Rattle.std.specs.Prelude.{◌≡◌, true, false, ◌+◌, ◌≤◌, 
 ghost use Rattle.directory.specs.Directory.{directory_kept};
 ghost use Rattle.directory.specs.declared.directory.Directory.{Directory};
 ghost use Rattle.record.specs.Format.{read_at};
-ghost use Rattle.record.specs.Inner.{Sought, sought_in};
 ghost use Rattle.record.specs.Next.{refused, reader_at, plain, forward_to, reader_after, stepped, opened, opening_of, step_of, next_of};
 ghost use Rattle.record.specs.Record.{inside, opening};
 
 use super::action::LogAction;
 use super::item::item_at;
 use super::opening::opening_at;
-use super::search::sought;
+use super::tables::Tables;
 use answer::{Answer, Refusal};
-use directory::{Directory, TableDescription};
+use directory::Directory;
 
 // `inside` says whether a record was begun and not ended; then `record_id` is its id and, if validating, `crc32` the checksum's register
 // over its bytes so far.
@@ -104,28 +103,21 @@ impl LogReader {
     }
 
     // Inside a record.
-    fn step_inside(
-        self,
-        f: Option<(usize, TableDescription)>,
-        log: &[u8],
-    ) -> Result<Stepped, Refusal>
-        requires { (self.position ≤ length log.now) × Sought f log.now self.position }
-        ensures { (d : Directory) → f ≡ sought_in d log.now self.position
-            → result ≡ stepped log.now self (read_at (inside d self.validate self.crc32) self.position log.now) }
+    fn step_inside<T: Tables>(self, tables: &T, log: &[u8]) -> Result<Stepped, Refusal>
+        requires formed { T.formed tables.now }
+        requires in_bounds { self.position ≤ length log.now }
+        ensures { result ≡ stepped log.now self (read_at (inside (T.directory tables.now) self.validate self.crc32) self.position log.now) }
     {
-        match item_at(f, log, self.position, self.validate, self.crc32) {
-            Err(a) => refuse(a, self.position),
-            Ok(i) => {
-                let action = i.action();
-                let reader = self.after(log, action, i.start + i.length);
-                Ok(Stepped {
-                    action,
-                    start: i.start,
-                    length: i.length,
-                    reader,
-                })
-            }
-        }
+        let item = item_at(tables, log, self.position, self.validate, self.crc32).map_err(
+            |answer| Refusal::new(answer, self.position),
+        )?;
+        let action = item.action();
+        Ok(Stepped {
+            action,
+            start: item.start,
+            length: item.length,
+            reader: self.after(log, action, item.start + item.length),
+        })
     }
 
     // Between records.
@@ -174,8 +166,7 @@ impl LogReader {
             return refuse(Answer::BadArgument, self.position);
         }
         if self.inside {
-            let f = sought(directory, log, self.position);
-            self.step_inside(f, log)
+            self.step_inside(&directory, log)
         } else {
             self.step_opening(log)
         }

@@ -13,17 +13,14 @@ pub fn apply_rest(t: &[u64; 81], log: &[u8], r: LogReader, image: &mut [u8])
 {
     let mut at = r.position;
     loop {
-        let f = record::sought_in(t, log, at);
-        match record::item_at(f, log, at, r.validate, r.crc32) {
-            Err(_) => return,
-            Ok(i) => {
-                let action = i.action();
-                if action.is_end() {
-                    return;
-                }
-                effect::apply_action(t, log, action, i.start, i.length, image);
-                at = i.start + i.length;
-            }
+        let Ok(item) = record::item_at(t, log, at, r.validate, r.crc32) else {
+            return;
+        };
+        let action = item.action();
+        if action.is_end() {
+            return;
         }
+        effect::apply_action(t, log, action, item.start, item.length, image);
+        at = item.start + item.length;
     }
 }

@@ -14,16 +14,12 @@ fn end_of(t: &[u64; 81], log: &[u8], r: LogReader) -> Result<usize, Refusal>
 {
     let mut at = r.position;
     loop {
-        let f = record::sought_in(t, log, at);
-        match record::item_at(f, log, at, r.validate, r.crc32) {
-            Err(a) => return Err(Refusal::new(a, at)),
-            Ok(i) => {
-                let action = i.action();
-                at = i.start + i.length;
-                if action.is_end() {
-                    return Ok(at);
-                }
-            }
+        let item = record::item_at(t, log, at, r.validate, r.crc32).map_err(|answer| Refusal::new(
+            answer, at,
+        ))?;
+        at = item.start + item.length;
+        if item.action().is_end() {
+            return Ok(at);
         }
     }
 }

@@ -1,24 +1,21 @@
 -- `key_at` meets its contract. Assumes nothing.
-use mathlib.Core.Path.{sym, ap, ◌∙◌}
+use mathlib.Core.Path.{sym, ◌∙◌}
 use borrow.Author.Tests.{lt-ltb, le-ltb}
-use Rattle.directory.specs.Directory.{find_table}
 use Rattle.record.proofs.Parts.{key-short, key_met}
 use Rattle.record.proofs.item.key_at.Goals as goal
 
 pub returns-then-log-body-lt10 : goal.returns-then-log-body-lt10
-returns-then-log-body-lt10 c = λ d kind e. sym (key-short _ _ d kind c.if-log-body-lt10.true)
+returns-then-log-body-lt10 g c = sym (key-short _ _ _ _ c.if-log-body-lt10.true)
 
 pub returns-in_default : goal.returns-in_default
-returns-in_default c =
-    λ d kind e.
-    sym (key_met _ _ d kind _ _ _ c.if-log-body-lt10.false c.u16_at-table.ensures c.u64_at-index.ensures (sym c.in_default.is ∙ e ∙ ap (find_table d kind) (sym c.u16_at-table.ensures)))
+returns-in_default g c = sym (key_met _ _ _ _ _ _ _ c.if-log-body-lt10.false c.u16_at-table.ensures c.u64_at-index.ensures (sym c.in_default.is ∙ c.find.ensures))
 
 pub returns-then-index-from : goal.returns-then-index-from
-returns-then-index-from c =
-    λ d kind e.
-    sym (key_met _ _ d kind _ _ _ c.if-log-body-lt10.false c.u16_at-table.ensures c.u64_at-index.ensures (sym c.in-Some.is ∙ e ∙ ap (find_table d kind) (sym c.u16_at-table.ensures)) ∙ rw (lt-ltb _ _ (rw c.from.ensures at c.if-index-from.true)))
+returns-then-index-from g c =
+    sym (key_met _ _ _ _ _ _ _ c.if-log-body-lt10.false c.u16_at-table.ensures c.u64_at-index.ensures (sym c.in-Some.is ∙ c.find.ensures)
+    ∙ rw (lt-ltb _ _ (rw c.from.ensures at c.if-index-from.true)))
 
 pub returns-else-index-from : goal.returns-else-index-from
-returns-else-index-from c =
-    λ d kind e.
-    sym (key_met _ _ d kind _ _ _ c.if-log-body-lt10.false c.u16_at-table.ensures c.u64_at-index.ensures (sym c.in-Some.is ∙ e ∙ ap (find_table d kind) (sym c.u16_at-table.ensures)) ∙ rw (le-ltb _ _ (rw c.from.ensures at c.if-index-from.false)))
+returns-else-index-from g c =
+    sym (key_met _ _ _ _ _ _ _ c.if-log-body-lt10.false c.u16_at-table.ensures c.u64_at-index.ensures (sym c.in-Some.is ∙ c.find.ensures)
+    ∙ rw (le-ltb _ _ (rw c.from.ensures at c.if-index-from.false)))

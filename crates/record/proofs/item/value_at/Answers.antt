@@ -5,8 +5,8 @@ use Rattle.record.proofs.Parts.{value-short, value_met}
 use Rattle.record.proofs.item.value_at.Goals as goal
 
 pub returns-then-log-start : goal.returns-then-log-start
-returns-then-log-start c = sym (value-short _ _ _ (rw c.value_length-length.ensures at c.if-log-start.true))
+returns-then-log-start c = sym (value-short _ _ _ (rw c.from-length.ensures at c.if-log-start.true))
 
 pub returns : goal.returns
 unfolding action_by
-returns c = rw c.value_length-length.ensures (sym (value_met _ _ _ (rw c.value_length-length.ensures at c.if-log-start.false)))
+returns c = rw c.from-length.ensures (sym (value_met _ _ _ (rw c.from-length.ensures at c.if-log-start.false)))

@@ -8,9 +8,9 @@ use Rattle.replay.specs.Inner.{is_walked, moved_to}
 use Rattle.replay.specs.Replay.{rest_of, image_after}
 use Rattle.replay.proofs.apply.apply_rest.Given as goal
 
-abbrev pub invariant-loop-i : goal.invariant-loop-i
-invariant-loop-i l = (l.at ≤ length l.log) × (length l.image ≡ length l.initial.image) × (is_walked (rest_of (suc (length l.log)) (directory_in l.t) l.log (moved_to l.r l.at)) ≡ true)
+abbrev pub invariant-loop-item : goal.invariant-loop-item
+invariant-loop-item l = (l.at ≤ length l.log) × (length l.image ≡ length l.initial.image) × (is_walked (rest_of (suc (length l.log)) (directory_in l.t) l.log (moved_to l.r l.at)) ≡ true)
     × (image_after (directory_in l.t) l.image (rest_of (suc (length l.log)) (directory_in l.t) l.log (moved_to l.r l.at)) ≡ image_after (directory_in l.t) l.initial.image (rest_of (suc (length l.log)) (directory_in l.t) l.log l.r))
 
-abbrev pub decreases-loop-i : goal.decreases-loop-i
-decreases-loop-i l = length l.log - l.at
+abbrev pub decreases-loop-item : goal.decreases-loop-item
+decreases-loop-item l = length l.log - l.at

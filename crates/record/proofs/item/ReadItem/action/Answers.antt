@@ -6,30 +6,30 @@ use Rattle.record.proofs.item.ReadItem.action.Goals as goal
 
 pub returns-in-2 : goal.returns-in-2
 unfolding action_by
-returns-in-2 c = let i = c.args.self in c.insert.ensures ∙ acts 2 i.tag i.table i.index c.in-2.is
+returns-in-2 c = let i = c.args.self in c.insert.ensures ∙ acts 2 i.tag.0 i.table i.index c.in-2.is
 
 pub returns-in-3 : goal.returns-in-3
 unfolding action_by
-returns-in-3 c = let i = c.args.self in c.insert-in-3.ensures ∙ acts 3 i.tag i.table i.index c.in-3.is
+returns-in-3 c = let i = c.args.self in c.insert-in-3.ensures ∙ acts 3 i.tag.0 i.table i.index c.in-3.is
 
 pub returns-in-4 : goal.returns-in-4
 unfolding action_by
-returns-in-4 c = let i = c.args.self in acts 4 i.tag i.table i.index c.in-4.is
+returns-in-4 c = let i = c.args.self in acts 4 i.tag.0 i.table i.index c.in-4.is
 
 pub returns-in-5 : goal.returns-in-5
 unfolding action_by
-returns-in-5 c = let i = c.args.self in acts 5 i.tag i.table i.index c.in-5.is
+returns-in-5 c = let i = c.args.self in acts 5 i.tag.0 i.table i.index c.in-5.is
 
 pub returns-in-6 : goal.returns-in-6
 unfolding action_by
-returns-in-6 c = let i = c.args.self in c.insert-in-6.ensures ∙ acts 6 i.tag i.table i.index c.in-6.is
+returns-in-6 c = let i = c.args.self in c.insert-in-6.ensures ∙ acts 6 i.tag.0 i.table i.index c.in-6.is
 
 pub returns-in-7 : goal.returns-in-7
 unfolding action_by
-returns-in-7 c = let i = c.args.self in acts 7 i.tag i.table i.index c.in-7.is
+returns-in-7 c = let i = c.args.self in acts 7 i.tag.0 i.table i.index c.in-7.is
 
 pub returns-in_default : goal.returns-in_default
 returns-in_default c =
     let n = c.in_default.in_default-own.rest in
     let i = c.args.self in
-    acts_else i.tag i.table i.index n.0.0.0.0.0.1 n.0.0.0.0.1 n.0.0.0.1 n.0.0.1 n.0.1 n.1
+    acts_else i.tag.0 i.table i.index n.0.0.0.0.0.1 n.0.0.0.0.1 n.0.0.0.1 n.0.0.1 n.0.1 n.1

@@ -9,14 +9,14 @@ unfolding step_of
 returns-then-log-self c = rw (lt-ltb _ _ c.if-log-self.true) c.refuse.ensures
 
 pub step_inside-requires : goal.step_inside-requires
-step_inside-requires c = (search rules, record { directory = c.args.directory; same = c.sought-f.ensures })
+step_inside-requires c = record { formed = tt; in_bounds = search rules }
 
 pub returns-then-self : goal.returns-then-self
 unfolding step_of
 returns-then-self c =
     rw (
       le-ltb _ _ c.if-log-self.false,
-      ← c.step_inside.ensures c.args.directory c.sought-f.ensures,
+      ← c.step_inside.ensures,
       c.if-self.true,
     )
 
