@@ -50,7 +50,8 @@ fn drop_table(t: &[u64; 81], kind: TableKind, number: u16, image: &mut [u8])
 {
     if let Some((row, x)) = directory::find_in(t, kind, number) {
         let at = directory::start_in(t, row);
-        image[at..at + x.size()].fill(0);
+        let end = at + x.size();
+        image[at..end].fill(0);
     }
 }
 

@@ -1,5 +1,5 @@
 -- `drop_table` meets its contract. Assumes nothing.
-use mathlib.Core.Path.{◌≡◌, sym, ◌∙◌}
+use mathlib.Core.Path.{◌≡◌, sym, ap, ◌∙◌}
 use Prim.Native.Nat.{◌+◌, ◌-◌, ◌≤◌}
 use native.Mathlib.Omega.{arith}
 use borrow.Author.Rules.{rules}
@@ -12,8 +12,8 @@ use Rattle.effect.proofs.apply.drop_table.Goals as goal
 pub start_in-at-requires : goal.start_in-at-requires
 start_in-at-requires c = (c.requires.0, plain-found c.args.t.now c.requires.0 c.args.kind c.args.number _ _ (sym c.in-Some.ensures))
 
-pub overflow_add-at : goal.overflow_add-at
-overflow_add-at c = let h = row_room _ _ _ _ _ (sym c.in-Some.ensures) in omega (arith, h, c.start_in-at.ensures, c.size.ensures.0)
+pub overflow_add-end : goal.overflow_add-end
+overflow_add-end c = let h = row_room _ _ _ _ _ (sym c.in-Some.ensures) in omega (arith, h, c.start_in-at.ensures, c.size.ensures.0)
 
 pub slice_bounds-fill-end : goal.slice_bounds-fill-end
 slice_bounds-fill-end c = let h = row_room _ _ _ _ _ (sym c.in-Some.ensures) in omega (arith, h, c.start_in-at.ensures, c.size.ensures.0)
@@ -26,7 +26,7 @@ returns-in-Some c =
     let h = row_room _ _ _ _ _ (sym c.in-Some.ensures) in
     let room : at + n ≤ length l = omega (arith, h, c.start_in-at.ensures, c.size.ensures.0) in
     let k : length (take (at + n - at) (drop at l)) ≡ n = simp (length-take, length-drop) (omega arith) in
-    let z : c.fill.new.self ≡ replicate n 0 = rw k at (c.fill.ensures.after (λ y e. search rules)) in
+    let z : c.fill.new.self ≡ replicate n 0 = c.fill.ensures.after (λ y e. search rules) ∙ ap (λ (m : ℕ). replicate m 0) k in
     rw z (stored l (replicate n 0) at n room (length-replicate n 0)) ∙ puts-dropped _ _ _ _ _ _ (sym c.in-Some.ensures) _ _ c.start_in-at.ensures c.size.ensures.0
 
 pub returns-in_default : goal.returns-in_default

@@ -1,7 +1,7 @@
 -- `put_slots` meets its contract. The invariant: the slots that are left, put into the image as it is, give what the contract says.
 -- Assumes nothing.
 use Prim.Native.Nat.{ℕ, ◌+◌, ◌-◌, ◌*◌, ◌≤◌}
-use mathlib.Core.Path.{◌≡◌, refl, sym, ◌∙◌}
+use mathlib.Core.Path.{◌≡◌, refl, sym, ap, ◌∙◌}
 use mathlib.Core.List.{List}
 use native.Mathlib.Omega.{arith}
 use lib.Count.{ones}
@@ -81,7 +81,7 @@ loop-m-preserved c =
     let part : List ℕ = take n (drop l.f a.entries.now) in
     let long : length part ≡ n = simp (length-take, length-drop) (omega (arith, held)) in
     let cut : l.f + n - l.f ≡ n = omega arith in
-    let e = rw cut at c.copy_from_slice.ensures.after in
+    let e : c.copy_from_slice.new.self ≡ part = c.copy_from_slice.ensures.after ∙ ap (λ (k : ℕ). take k (drop l.f a.entries.now)) cut in
     let s = stored l.image part p n (omega (arith, lies, l.invariant.long)) long in
     record {
       puts = rw (e, s) (slots-run l.image a.entries.now a.width a.at l.f l.slot l.m _ _ _ c.next_run-r.ensures.0 run.slots ∙ l.invariant.puts);
