@@ -15,31 +15,29 @@ use Rattle.directory.specs.declared.directory.Directory.{Directory}
 use Rattle.record.specs.Next.{plain, reader_at, step_of}
 use Rattle.record.specs.declared.reader.LogReader.{LogReader}
 use Rattle.record.specs.declared.reader.Stepped.{Stepped}
-use Rattle.record.specs.declared.reader.Step.{Step}
-use Rattle.record.specs.declared.reader.Step.TheVariants.{Took, Refused}
 use Rattle.effect.specs.Effect.{Written}
 use Rattle.record.proofs.Begins.{begun}
 use Rattle.replay.specs.Inner.{Opened}
 use Rattle.replay.specs.Replay.{Walked, fault, walked, rest_in, record_at, whole_by, whole_of}
 use Rattle.replay.specs.declared.whole.WholeRecord.{WholeRecord}
-use Rattle.replay.specs.declared.whole.WholeAnswer.TheVariants.{Whole, NotWhole}
 use Rattle.replay.proofs.Opening as opening
 use Rattle.replay.proofs.Sum.{plain-walked}
 use Rattle.clearing.specs.EndRead.{Again, with_id, id_there, record_again, clearable}
+use Rattle.std.specs.Prelude.{Result, Ok, Err}
 
 -- ---- by the opening's step: whatever the id
 
-abbrev by_any : (LogReader → Walked (List Written)) → Step → Walked Again
-by_any rest (Refused x) = fault x
-by_any rest (Took s) = with_id s.reader.record_id (rest s.reader)
+abbrev by_any : (LogReader → Walked (List Written)) → Result Stepped Refusal → Walked Again
+by_any rest (Err x) = fault x
+by_any rest (Ok s) = with_id s.reader.record_id (rest s.reader)
 
 pub again_by : (d : Directory) (log : List ℕ) (at : ℕ) → record_again d log at ≡ by_any (rest_in d log) (step_of d log (reader_at at true))
 unfolding record_again
 again_by d log at = by (step_of d log (reader_at at true)) refl
   where
-    by : (st : Step) → step_of d log (reader_at at true) ≡ st → with_id (id_there log at) (record_at d log at (id_there log at)) ≡ by_any (rest_in d log) st
-    by (Refused x) q = ap (with_id (id_there log at)) (opening.record_refused d log at (id_there log at) x q)
-    by (Took s) q =
+    by : (st : Result Stepped Refusal) → step_of d log (reader_at at true) ≡ st → with_id (id_there log at) (record_at d log at (id_there log at)) ≡ by_any (rest_in d log) st
+    by (Err x) q = ap (with_id (id_there log at)) (opening.record_refused d log at (id_there log at) x q)
+    by (Ok s) q =
         let i = (begun d log at true s q).there in
         ap (with_id (id_there log at)) (opening.record_opened d log at (id_there log at) s q (eq-eqb s.reader.record_id (id_there log at) i))
         ∙ ap (λ (id : ℕ). with_id id (rest_in d log s.reader)) (sym i)
@@ -55,27 +53,27 @@ record_is-again d log at id ws end e =
 -- ---- what the check answered
 
 module _ (rest : LogReader → Walked (List Written)) where
-  not_whole : (st : Step) (x : Refusal) → NotWhole x ≡ whole_of rest st → by_any rest st ≡ fault x
-  not_whole (Refused y) x e = let p : y ≡ x = cc in ap {B = Walked Again} fault p
-  not_whole (Took s) x e = by (rest s.reader) e
+  not_whole : (st : Result Stepped Refusal) (x : Refusal) → Err x ≡ whole_of rest st → by_any rest st ≡ fault x
+  not_whole (Err y) x e = let p : y ≡ x = cc in ap {B = Walked Again} fault p
+  not_whole (Ok s) x e = by (rest s.reader) e
     where
-      by : (g : Walked (List Written)) → NotWhole x ≡ whole_by s.reader g → with_id s.reader.record_id g ≡ fault x
+      by : (g : Walked (List Written)) → Err x ≡ whole_by s.reader g → with_id s.reader.record_id g ≡ fault x
       by (fault y) f = let p : y ≡ x = cc in ap {B = Walked Again} fault p
       by (walked ws end) f = let z : ◌≡◌ {A = ℕ} 0 1 = cc in absurd (omega arith)
 
-  record IsWhole (w : WholeRecord) (st : Step) : Type 0 where
+  record IsWhole (w : WholeRecord) (st : Result Stepped Refusal) : Type 0 where
     s : Stepped
-    opens : st ≡ Took s
+    opens : st ≡ Ok s
     reader : w.opened ≡ s.reader
     actions : List Written
     behind : rest w.opened ≡ walked actions w.end
     again : by_any rest st ≡ walked (record { id = w.opened.record_id; actions = actions }) w.end
 
-  is_whole : (st : Step) (w : WholeRecord) → Whole w ≡ whole_of rest st → IsWhole w st
-  is_whole (Refused y) w e = let z : ◌≡◌ {A = ℕ} 0 1 = cc in absurd (omega arith)
-  is_whole (Took s) w e = by (rest s.reader) refl e
+  is_whole : (st : Result Stepped Refusal) (w : WholeRecord) → Ok w ≡ whole_of rest st → IsWhole w st
+  is_whole (Err y) w e = let z : ◌≡◌ {A = ℕ} 0 1 = cc in absurd (omega arith)
+  is_whole (Ok s) w e = by (rest s.reader) refl e
     where
-      by : (g : Walked (List Written)) → rest s.reader ≡ g → Whole w ≡ whole_by s.reader g → IsWhole w (Took s)
+      by : (g : Walked (List Written)) → rest s.reader ≡ g → Ok w ≡ whole_by s.reader g → IsWhole w (Ok s)
       by (fault y) q f = let z : ◌≡◌ {A = ℕ} 0 1 = cc in absurd (omega arith)
       by (walked ws end) q f =
           let p : w ≡ record { opened = s.reader; end = end } = cc in
@@ -95,10 +93,10 @@ module _ (rest : LogReader → Walked (List Written)) where
 
 module _ (d : Directory) (log : List ℕ) (at : ℕ) where
   -- "A record that replay would refuse, the id test aside, gets that answer"
-  pub not_again : (x : Refusal) → NotWhole x ≡ whole_of (rest_in d log) (step_of d log (reader_at at true)) → clearable (record_again d log at) ≡ fault x
+  pub not_again : (x : Refusal) → Err x ≡ whole_of (rest_in d log) (step_of d log (reader_at at true)) → clearable (record_again d log at) ≡ fault x
   not_again x e = ap clearable (again_by d log at ∙ not_whole (rest_in d log) (step_of d log (reader_at at true)) x e)
 
-  module _ (w : WholeRecord) (e : Whole w ≡ whole_of (rest_in d log) (step_of d log (reader_at at true))) where
+  module _ (w : WholeRecord) (e : Ok w ≡ whole_of (rest_in d log) (step_of d log (reader_at at true))) where
     k : IsWhole (rest_in d log) w (step_of d log (reader_at at true))
     k = is_whole (rest_in d log) (step_of d log (reader_at at true)) w e
 

@@ -10,15 +10,14 @@ use Rattle.memory.specs.declared.span.Holder.TheVariants as holder
 use Rattle.memory.specs.Parts.{Parts, parts_kept}
 use Rattle.memory.specs.Overlays.{Overlays}
 use Rattle.memory.proofs.Spans.{remove_kept}
-use Rattle.clearing.specs.Clear.{named_by, cleared_key, cleared_by}
+use Rattle.clearing.specs.Clear.{NamedKey, named_by, cleared_key, cleared_by}
 use Rattle.clearing.specs.EndRead.{Again, end_read_by}
-use Rattle.clearing.specs.declared.clear.NamedKey.{NamedKey}
-use Rattle.clearing.specs.declared.clear.NamedKey.TheVariants.{Key, Nothing}
+use Rattle.std.specs.Prelude.{Some, None}
 
 module _ (id : ℕ) where
   pub key-kept : (n : NamedKey) (p : Parts) → parts_kept holder.Shared p ≡ true → parts_kept holder.Shared (cleared_key id n p) ≡ true
-  key-kept Nothing p ok = ok
-  key-kept (Key kind table index) p ok = remove_kept holder.Shared p ok kind (rank table index) id
+  key-kept None p ok = ok
+  key-kept (Some (kind, table, index)) p ok = remove_kept holder.Shared p ok kind (rank table index) id
 
   pub cleared-kept : (ws : List Written) (p : Parts) → parts_kept holder.Shared p ≡ true → parts_kept holder.Shared (cleared_by id ws p) ≡ true
   unfolding cleared_by

@@ -1,10 +1,11 @@
 -- What `end_read` hands back, a return at a time. Assumes nothing.
-use mathlib.Core.Path.{◌≡◌, sym, ap, ◌∙◌}
+use mathlib.Core.Path.{◌≡◌, refl, sym, ap, ◌∙◌}
 use mathlib.Core.Bool.{Bool, true, false, not, ◌&&◌}
 use mathlib.Core.List.{List}
-use Prim.Native.Nat.{ℕ}
-use lib.Dec.{eqb}
-use borrow.Author.Tests.{eq-eqb, ne_eqb}
+use Prim.Native.Nat.{ℕ, ◌+◌, max}
+use native.Mathlib.Omega.{arith}
+use lib.Dec.{eqb, ltb}
+use borrow.Author.Tests.{eq-eqb, ne_eqb, ltb-true, ltb-false}
 use Rattle.std.specs.Prelude.{if◌then◌else◌}
 use Rattle.answer.specs.Answer.{refusal}
 use Rattle.answer.specs.declared.answer.Answer.TheVariants.{Done, BadState}
@@ -23,13 +24,13 @@ use Rattle.memory.specs.Parts.{Parts, parts_of, parts_kept}
 use Rattle.memory.specs.Overlays.{Overlays, overlays_of}
 use Rattle.clearing.specs.Clear.{cleared_by}
 use Rattle.clearing.specs.EndRead.{Again, record_again, clearable, to_clear, next_after, Ending, end_read_by, end_read_of, end_read_of_of}
-use Rattle.clearing.specs.Inner.{cleared_walk, nothing_read}
-use Rattle.clearing.specs.declared.end_of_reading.EndRead.{EndRead}
+use Rattle.clearing.specs.Inner.{cleared_walk}
+use Rattle.std.specs.Prelude.{Ok, Err}
 
 -- nothing was cleared
-pub refused-ends : (at next : ℕ) (o : LogOverlays) (words bytes : List ℕ) (r : EndRead) (x : Refusal) → r ≡ nothing_read x.answer x.position at o next → (g : Walked Again) → g ≡ fault x
-    → end_read_of_of r words bytes ≡ end_read_by at (overlays_of o words bytes) next g
-refused-ends at next o words bytes r x e g f = ap (λ (y : EndRead). end_read_of_of y words bytes) e ∙ sym (ap (end_read_by at (overlays_of o words bytes) next) f)
+pub refused-ends : (at next : ℕ) (o : LogOverlays) (words bytes : List ℕ) (x : Refusal) (g : Walked Again) → g ≡ fault x
+    → end_read_of_of at o next (Err x) words bytes ≡ end_read_by at (overlays_of o words bytes) next g
+refused-ends at next o words bytes x g f = sym (ap (end_read_by at (overlays_of o words bytes) next) f)
 
 -- a record was cleared: its actions by the walk of a reader that doesn't validate
 module _ (d : Directory) (log : List ℕ) (u : LogReader) (r : LogReader) (e : u ≡ plain r) (actions : List Written) (end : ℕ) (plainly : rest_in d log (plain r) ≡ walked actions end) where
@@ -49,7 +50,7 @@ module _ (d : Directory) (log : List ℕ) (u : LogReader) (r : LogReader) (e : u
   pub cleared-ends : (at next : ℕ) (o : LogOverlays) (words bytes words' bytes' : List ℕ) (c : Counts) (n : ℕ) → n ≡ next_after next r.record_id
       → parts_of holder.Shared c words' bytes' ≡ cleared_walk u.record_id (rest_in d log u) (parts_of holder.Shared o.counts words bytes)
       → (g : Walked Again) → g ≡ walked (record { id = r.record_id; actions = actions }) end
-      → end_read_of_of (record { answer = Done; fault_at = end; position = end; record_id = r.record_id; next_record_id = n; overlays = record { counts = c; last_record_ids = o.last_record_ids } }) words' bytes'
+      → end_read_of_of at o next (Ok (record { position = end; record_id = r.record_id; next_record_id = n; overlays = record { counts = c; last_record_ids = o.last_record_ids } })) words' bytes'
       ≡ end_read_by at (overlays_of o words bytes) next g
   cleared-ends at next o words bytes words' bytes' c n q p g f =
       made r.record_id o.last_record_ids (p ∙ plain-clears (parts_of holder.Shared o.counts words bytes)) q ∙ sym (ap (end_read_by at (overlays_of o words bytes) next) f)
@@ -83,3 +84,11 @@ module _ (d : Directory) (log : List ℕ) (at : ℕ) (s : Overlays) (next : ℕ)
 pub same-directory : (e d : Directory) (log : List ℕ) (at next : ℕ) (s : Overlays) (x : Ending) → e ≡ d → x ≡ end_read_by at s next (clearable (record_again e log at))
     → x ≡ end_read_by at s next (clearable (record_again d log at))
 same-directory e d log at next s x q h = h ∙ ap (λ (y : Directory). end_read_by at s next (clearable (record_again y log at))) q
+
+-- the next id is above the record's
+pub raised : (next id : ℕ) → max next (id + 1) ≡ next_after next id
+raised next id = by (ltb id next) refl
+  where
+    by : (b : Bool) → ltb id next ≡ b → max next (id + 1) ≡ (if b then next else id + 1)
+    by true q = omega (arith, ltb-true id next q)
+    by false q = omega (arith, ltb-false id next q)

@@ -16,10 +16,9 @@ use Rattle.overlay.proofs.Entries.{unless}
 use Rattle.memory.specs.declared.span.Holder.TheVariants as holder
 use Rattle.memory.specs.Parts.{Parts, entry_under, parts_kept}
 use Rattle.memory.proofs.Under.{under_remove}
-use Rattle.clearing.specs.Clear.{named_by, cleared_key, cleared_by, hits, names}
+use Rattle.clearing.specs.Clear.{NamedKey, named_by, cleared_key, cleared_by, hits, names}
 use Rattle.clearing.specs.EndRead.{next_after}
-use Rattle.clearing.specs.declared.clear.NamedKey.{NamedKey}
-use Rattle.clearing.specs.declared.clear.NamedKey.TheVariants.{Key, Nothing}
+use Rattle.std.specs.Prelude.{Some, None}
 use Rattle.clearing.proofs.Cleared.{key-kept}
 
 module _ (kind : TableKind) (id k : ℕ) where
@@ -33,8 +32,8 @@ module _ (kind : TableKind) (id k : ℕ) where
       by false q = rw q
 
   key-found : (n : NamedKey) (p : Parts) → parts_kept holder.Shared p ≡ true → entry_under kind k (cleared_key id n p) ≡ (if hits kind k n then unless id (entry_under kind k p) else entry_under kind k p)
-  key-found Nothing p ok = refl
-  key-found (Key own table index) p ok = under_remove holder.Shared p ok own kind k (rank table index) id
+  key-found None p ok = refl
+  key-found (Some (own, table, index)) p ok = under_remove holder.Shared p ok own kind k (rank table index) id
 
   -- what a lookup finds after a record was cleared
   pub found_after : (ws : List Written) (p : Parts) → parts_kept holder.Shared p ≡ true

@@ -10,28 +10,27 @@ use Rattle.record.specs.Next.{is_end, step_of}
 use Rattle.record.specs.declared.action.LogAction.{LogAction}
 use Rattle.record.specs.declared.reader.LogReader.{LogReader}
 use Rattle.record.specs.declared.reader.Stepped.{Stepped}
-use Rattle.record.specs.declared.reader.Step.TheVariants.{Took}
 use Rattle.effect.specs.Effect.{Written}
 use Rattle.replay.specs.Inner.{is_walked}
 use Rattle.replay.specs.Replay.{Walked, fault, walked, written_in, add_first, rest_in}
 use Rattle.replay.proofs.Rest.{last, more}
 use Rattle.memory.specs.declared.span.Holder.TheVariants as holder
 use Rattle.memory.specs.Parts.{Parts, parts_kept, remove_from}
-use Rattle.clearing.specs.Clear.{named_by, cleared_key, cleared_by}
+use Rattle.clearing.specs.Clear.{NamedKey, named_by, cleared_key, cleared_by}
 use Rattle.clearing.specs.Inner.{cleared_walk}
-use Rattle.clearing.specs.declared.clear.NamedKey.{NamedKey}
-use Rattle.clearing.specs.declared.clear.NamedKey.TheVariants.{Key, Nothing}
+use Rattle.std.specs.Prelude.{Some, None}
 use Rattle.clearing.proofs.Cleared.{key-kept}
+use Rattle.std.specs.Prelude.{Ok}
 
 -- an action's key, as it was found: none, or one that is taken out
 module _ (id : ℕ) (action : LogAction) (p : Parts) {k : NamedKey} (e : k ≡ named_by action) where
-  pub no_key : k ≡ Nothing → p ≡ cleared_key id (named_by action) p
+  pub no_key : k ≡ None → p ≡ cleared_key id (named_by action) p
   no_key f = ap (λ (x : NamedKey). cleared_key id x p) (sym f ∙ e)
 
-  pub one_key : (kind : TableKind) (table index : ℕ) → k ≡ Key kind table index → {q : Parts} → q ≡ remove_from kind p (rank table index) id → q ≡ cleared_key id (named_by action) p
+  pub one_key : (kind : TableKind) (table index : ℕ) → k ≡ Some (kind, table, index) → {q : Parts} → q ≡ remove_from kind p (rank table index) id → q ≡ cleared_key id (named_by action) p
   one_key kind table index f d = d ∙ ap (λ (x : NamedKey). cleared_key id x p) (sym f ∙ e)
 
-module _ (id : ℕ) (d : Directory) (log : List ℕ) (r : LogReader) (s : Stepped) (p : Parts) (e : step_of d log r ≡ Took s) where
+module _ (id : ℕ) (d : Directory) (log : List ℕ) (r : LogReader) (s : Stepped) (p : Parts) (e : step_of d log r ≡ Ok s) where
   pub last-cleared : is_end s.action ≡ true → p ≡ cleared_walk id (rest_in d log r) p
   unfolding cleared_by
   last-cleared t = sym (ap (λ (g : Walked (List Written)). cleared_walk id g p) (last d log r s e t))

@@ -1,15 +1,17 @@
 -- `end_read` (document 01, "Clearing reads ..": order of checks and what is left; log.rs lines 901 to 932).
-use Rattle.std.specs.Prelude.{not, ◌&&◌, List, ℕ, ◌+◌, ltb, eqb}
+use Rattle.std.specs.Prelude.{not, ◌&&◌, List, ℕ, ◌+◌, ltb, eqb, Result, Ok, Err}
 use Rattle.std.specs.Prelude.{if◌then◌else◌}
 use Rattle.words.specs.Words.{little_at}
 use Rattle.answer.specs.Answer.{refusal, last_record_id}
 use Rattle.answer.specs.declared.answer.Answer.{Answer}
 use Rattle.answer.specs.declared.answer.Answer.TheVariants.{Done, UsedUp, BadState}
+use Rattle.answer.specs.declared.answer.Refusal.{Refusal}
 use Rattle.directory.specs.Directory.{directory_kept}
 use Rattle.directory.specs.declared.directory.Directory.{Directory}
 use Rattle.effect.specs.Effect.{Written}
 use Rattle.replay.specs.Replay.{Walked, fault, walked, record_at}
 use Rattle.memory.specs.declared.span.Holder.TheVariants as holder
+use Rattle.memory.specs.declared.overlays.LogOverlays.{LogOverlays}
 use Rattle.memory.specs.Parts.{parts_kept}
 use Rattle.memory.specs.Overlays.{Overlays, overlays_of}
 use Rattle.clearing.specs.Clear.{cleared_by}
@@ -73,11 +75,13 @@ end_read_by at s next (walked g end) = record {
 abbrev pub end_read_of : Directory → List ℕ → ℕ → Overlays → ℕ → Ending
 end_read_of d log at s next = end_read_by at s next (to_clear d log at s next)
 
--- the same from what the call hands back and the two memories as it leaves them
-abbrev pub end_read_of_of : EndRead → List ℕ → List ℕ → Ending
-end_read_of_of r words bytes = record {
-  answer = r.answer;
-  fault_at = r.fault_at;
+-- the same from what was handed in, what the call hands back and the two memories as it leaves them
+abbrev pub end_read_of_of : ℕ → LogOverlays → ℕ → Result EndRead Refusal → List ℕ → List ℕ → Ending
+end_read_of_of at o next (Err x) words bytes =
+    record { answer = x.answer; fault_at = x.position; position = at; record_id = 0; next_record_id = next; overlays = overlays_of o words bytes }
+end_read_of_of at o next (Ok r) words bytes = record {
+  answer = Done;
+  fault_at = r.position;
   position = r.position;
   record_id = r.record_id;
   next_record_id = r.next_record_id;

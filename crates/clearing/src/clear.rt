@@ -10,35 +10,20 @@ ghost use Rattle.clearing.specs.Inner.{cleared_walk};
 
 use directory::TableKind;
 use memory::{Counts, Holder};
-use record::{ItemAnswer, LogAction, LogReader};
+use record::{LogAction, LogReader};
 
 // The key that an action names, in a table of a kind.
-#[derive(Clone, Copy)]
-pub enum NamedKey {
-    Key(TableKind, u16, u64),
-    Nothing,
-}
-
-fn named_by(action: LogAction) -> NamedKey
+fn named_by(action: LogAction) -> Option<(TableKind, u16, u64)>
     ensures { result ≡ named_by action }
 {
     match action {
-        LogAction::BeginRecord => NamedKey::Nothing,
-        LogAction::EndRecord => NamedKey::Nothing,
-        LogAction::InsertIndex(a) => {
-            let table = a.table;
-            NamedKey::Key(TableKind::Index, table.0, a.index)
-        }
-        LogAction::InsertValue(a) => {
-            let table = a.table;
-            NamedKey::Key(TableKind::Value, table.0, a.index)
-        }
-        LogAction::InsertRefCount(a) => {
-            let table = a.table;
-            NamedKey::Key(TableKind::RefCount, table.0, a.index)
-        }
-        LogAction::DropTable(_) => NamedKey::Nothing,
-        LogAction::DropRefCountTable(_) => NamedKey::Nothing,
+        LogAction::InsertIndex(a) => Some((TableKind::Index, a.table.0, a.index)),
+        LogAction::InsertValue(a) => Some((TableKind::Value, a.table.0, a.index)),
+        LogAction::InsertRefCount(a) => Some((TableKind::RefCount, a.table.0, a.index)),
+        LogAction::BeginRecord
+        | LogAction::EndRecord
+        | LogAction::DropTable(_)
+        | LogAction::DropRefCountTable(_) => None,
     }
 }
 
@@ -55,8 +40,8 @@ fn clear_action(
         ≡ cleared_key id (named_by action) (parts_of Shared counts words.old bytes.old) }
 {
     match named_by(action) {
-        NamedKey::Nothing => counts,
-        NamedKey::Key(kind, table, index) => memory::remove_in(
+        None => counts,
+        Some((kind, table, index)) => memory::remove_in(
             Holder::Shared,
             kind,
             counts,
@@ -86,18 +71,13 @@ pub fn clear_rest(
     let id = r.record_id;
     let mut at = r.position;
     let mut left = counts;
-    loop {
-        let f = record::sought_in(t, log, at);
-        match record::item_at(f, log, at, r.validate, r.crc32) {
-            ItemAnswer::NoItem(_) => return left,
-            ItemAnswer::Read(i) => {
-                let action = i.action();
-                if action.is_end() {
-                    return left;
-                }
-                left = clear_action(action, left, words, bytes, id);
-                at = i.start + i.length;
-            }
+    while let Ok(i) = record::item_at(record::sought_in(t, log, at), log, at, r.validate, r.crc32) {
+        let action = i.action();
+        if action.is_end() {
+            break;
         }
+        left = clear_action(action, left, words, bytes, id);
+        at = i.start + i.length;
     }
+    left
 }

@@ -11,10 +11,10 @@ use Rattle.memory.specs.Parts.{parts_of, parts_kept}
 use Rattle.clearing.specs.Inner.{cleared_walk}
 use Rattle.clearing.proofs.clear.clear_rest.Given as goal
 
-abbrev pub invariant-loop-left : goal.invariant-loop-left
-invariant-loop-left l = (l.at ≤ length l.log) × (length l.words ≡ length l.initial.words) × (length l.bytes ≡ length l.initial.bytes) × (parts_kept Shared (parts_of Shared l.left l.words l.bytes) ≡ true)
+abbrev pub invariant-loop-i : goal.invariant-loop-i
+invariant-loop-i l = (l.at ≤ length l.log) × (length l.words ≡ length l.initial.words) × (length l.bytes ≡ length l.initial.bytes) × (parts_kept Shared (parts_of Shared l.left l.words l.bytes) ≡ true)
     × (is_walked (rest_in (directory_in l.t) l.log (moved_to l.r l.at)) ≡ true)
     × (cleared_walk l.id (rest_in (directory_in l.t) l.log (moved_to l.r l.at)) (parts_of Shared l.left l.words l.bytes) ≡ cleared_walk l.id (rest_in (directory_in l.t) l.log l.r) (parts_of Shared l.initial.left l.initial.words l.initial.bytes))
 
-abbrev pub decreases-loop-left : goal.decreases-loop-left
-decreases-loop-left l = length l.log - l.at
+abbrev pub decreases-loop-i : goal.decreases-loop-i
+decreases-loop-i l = length l.log - l.at

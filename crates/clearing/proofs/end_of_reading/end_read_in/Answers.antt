@@ -1,52 +1,53 @@
 -- `end_read_in` meets its contract: nothing is touched on a refusal, and else the record goes out of the overlays. Assumes nothing.
 use borrow.Author.Rules.{rules}
-use mathlib.Core.Path.{◌≡◌, sym, ◌∙◌}
+use mathlib.Core.Path.{◌≡◌, ◌∙◌}
 use mathlib.Core.Bool.{true}
+use Rattle.std.specs.Prelude.{Ok}
+use Rattle.std.proofs.lemmas.Result.{err_from_is_err_and}
 use Rattle.directory.specs.Inner.{directory_in}
 use Rattle.answer.specs.Answer.{refusal}
 use Rattle.answer.specs.declared.answer.Answer.TheVariants.{UsedUp}
 use Rattle.record.specs.Next.{reader_at, step_of}
 use Rattle.replay.specs.Replay.{rest_in, whole_of}
 use Rattle.replay.specs.declared.whole.WholeRecord.{WholeRecord}
-use Rattle.replay.specs.declared.whole.WholeAnswer.TheVariants.{Whole}
 use Rattle.replay.proofs.Checked.{plain_walker}
 use Rattle.clearing.proofs.Again.{Clears, not_again, used-up, clears}
-use Rattle.clearing.proofs.Ended.{refused-ends, plain-walks, cleared-ends}
+use Rattle.clearing.proofs.Ended.{refused-ends, plain-walks, cleared-ends, raised}
 use Rattle.clearing.proofs.end_of_reading.end_read_in.Goals as goal
+
+pub returns-in_err-whole : goal.returns-in_err-whole
+returns-in_err-whole c =
+    let a = c.args in
+    let p = err_from_is_err_and c.from_residual.result c.from_residual.ensures.1 in
+    rw (p.1, p.2)
+    (refused-ends a.position a.next a.overlays a.words.now a.bytes.now c.in_err-whole.field-0.0 _
+    (not_again (directory_in a.t.now) a.log.now a.position c.in_err-whole.field-0.0 c.in_err-whole.ensures))
 
 pub returns-then-id : goal.returns-then-id
 returns-then-id c =
-    let w : WholeRecord = c.in-Whole.w in
-    let found : Whole w ≡ whole_of (rest_in (directory_in c.args.t.now) c.args.log.now) (step_of (directory_in c.args.t.now) c.args.log.now (reader_at c.args.position true)) = sym c.in-Whole.is ∙ c.check_record_in.ensures in
     let a = c.args in
-    refused-ends a.position a.next a.overlays a.words.now a.bytes.now c.nothing_read-then-id.result (refusal UsedUp w.end) c.nothing_read-then-id.ensures _ (used-up (directory_in a.t.now) a.log.now a.position w found c.if-id.true)
+    rw c.new.ensures
+    (refused-ends a.position a.next a.overlays a.words.now a.bytes.now (refusal UsedUp c.in_ok-whole.whole.end) _
+    (used-up (directory_in a.t.now) a.log.now a.position c.in_ok-whole.whole c.in_ok-whole.ensures c.if-id.true))
 
 pub clear_rest-counts-requires : goal.clear_rest-counts-requires
 clear_rest-counts-requires c =
-    let w : WholeRecord = c.in-Whole.w in
-    let found : Whole w ≡ whole_of (rest_in (directory_in c.args.t.now) c.args.log.now) (step_of (directory_in c.args.t.now) c.args.log.now (reader_at c.args.position true)) = sym c.in-Whole.is ∙ c.check_record_in.ensures in
-    let known : Clears (directory_in c.args.t.now) c.args.log.now c.args.position w found = clears (directory_in c.args.t.now) c.args.log.now c.args.position w found (search rules) in
-    let k = known in
-    let o = w in
     let a = c.args in
-    let v = c.unvalidated in (
+    let w : WholeRecord = c.in_ok-whole.whole in
+    let found : Ok w ≡ whole_of (rest_in (directory_in a.t.now) a.log.now) (step_of (directory_in a.t.now) a.log.now (reader_at a.position true)) = c.in_ok-whole.ensures in
+    let k : Clears (directory_in a.t.now) a.log.now a.position w found = clears (directory_in a.t.now) a.log.now a.position w found (search rules) in
+    let v = c.unvalidated-reader in (
       c.requires.0,
-      plain_walker (directory_in a.t.now) a.log.now a.position o.opened k.opened _ v.ensures,
+      plain_walker (directory_in a.t.now) a.log.now a.position w.opened k.opened _ v.ensures,
       c.requires.1,
-      plain-walks (directory_in a.t.now) a.log.now v.result o.opened v.ensures k.actions o.end k.plainly,
+      plain-walks (directory_in a.t.now) a.log.now v.result w.opened v.ensures k.actions w.end k.plainly,
     )
 
-pub returns-in-NotWhole : goal.returns-in-NotWhole
-returns-in-NotWhole c =
+pub returns : goal.returns
+returns c =
     let a = c.args in
-    refused-ends a.position a.next a.overlays a.words.now a.bytes.now c.nothing_read.result c.in-NotWhole.x c.nothing_read.ensures _ (not_again (directory_in a.t.now) a.log.now a.position c.in-NotWhole.x (sym c.in-NotWhole.is ∙ c.check_record_in.ensures))
-
-pub returns-else-id : goal.returns-else-id
-returns-else-id c =
-    let w : WholeRecord = c.in-Whole.w in
-    let found : Whole w ≡ whole_of (rest_in (directory_in c.args.t.now) c.args.log.now) (step_of (directory_in c.args.t.now) c.args.log.now (reader_at c.args.position true)) = sym c.in-Whole.is ∙ c.check_record_in.ensures in
-    let known : Clears (directory_in c.args.t.now) c.args.log.now c.args.position w found = clears (directory_in c.args.t.now) c.args.log.now c.args.position w found (search rules) in
-    let k = known in
-    let a = c.args in
+    let w : WholeRecord = c.in_ok-whole.whole in
+    let found : Ok w ≡ whole_of (rest_in (directory_in a.t.now) a.log.now) (step_of (directory_in a.t.now) a.log.now (reader_at a.position true)) = c.in_ok-whole.ensures in
+    let k : Clears (directory_in a.t.now) a.log.now a.position w found = clears (directory_in a.t.now) a.log.now a.position w found (search rules) in
     let l = c.clear_rest-counts in
-    cleared-ends (directory_in a.t.now) a.log.now c.unvalidated.result w.opened c.unvalidated.ensures k.actions w.end k.plainly a.position a.next a.overlays a.words.now a.bytes.now l.new.words l.new.bytes l.result c.raised.result c.raised.ensures l.ensures _ k.again
+    cleared-ends (directory_in a.t.now) a.log.now c.unvalidated-reader.result w.opened c.unvalidated-reader.ensures k.actions w.end k.plainly a.position a.next a.overlays a.words.now a.bytes.now l.new.words l.new.bytes l.result c.max.result (c.max.ensures ∙ raised a.next w.opened.record_id) l.ensures _ k.again
