@@ -1,7 +1,6 @@
 -- The bound of what is read. Assumes nothing.
-use Rattle.std.specs.Prelude.{ℕ, ◌≤◌}
-use Rattle.log_input.specs.declared.window.Filled.{Filled}
+use Rattle.std.specs.Prelude.{ℕ, ◌≤◌, Result, IfOk}
 
 -- no more than the buffer has
-abbrev pub FilledWithin : Filled → ℕ → Type 0
-FilledWithin f room = f.held ≤ room
+abbrev pub FilledWithin : {E : Type 0} → Result ℕ E → ℕ → Type 0
+FilledWithin r room = IfOk r (λ held. held ≤ room)

@@ -5,17 +5,19 @@
 // at a record that more bytes can decide.
 ghost use Rattle.std.specs.Prelude.{◌≤◌, length};
 ghost use Rattle.log_input.specs.Bounds.{FilledWithin};
+ghost use Rattle.std.specs.ControlFlow.{ForContinue};
 
 use answer::Answer;
 use directory::Directory;
 use replay::Ran;
 use std::io;
 use std::io::Read;
+use std::ops::ControlFlow;
 
 pub const ROOM: usize = 2097152;
 
-// Nothing says that a file ends, so a loop over it counts its turns down from a number that no run uses up.
-const TURNS: u64 = 18446744073709551615;
+// Nothing says that a file ends, so a loop over it takes so many turns as no run uses up.
+const TURNS: u64 = u64::MAX;
 
 // Where a run over a file stopped and where the action at fault begins, both from the file's front, how many records it
 // replayed, the id expected next, and the one that stands there if a record begins.
@@ -36,32 +38,19 @@ pub enum Outcome {
     Unreadable(io::Error),
 }
 
-// How many bytes of a buffer are held, and why a read failed, if one did.
-#[derive(Clone, Copy)]
-pub struct Filled {
-    pub held: usize,
-    pub failed: Option<io::Error>,
-}
-
-// Reads behind the bytes held, until the buffer is full or the file ends.
-pub fn fill<R: Read>(file: &mut R, buffer: &mut [u8], from: usize) -> Filled
+// Reads behind the bytes held, until the buffer is full or the file ends. Answers how many are held then.
+pub fn fill<R: Read>(file: &mut R, buffer: &mut [u8], from: usize) -> io::Result<usize>
     requires { from ≤ length buffer.old }
     ensures { FilledWithin result (length buffer.old) }
 {
     let mut held = from;
     while held < buffer.len() {
-        match file.read(&mut buffer[held..]) {
-            Ok(0) => break,
-            Ok(more) => held += more,
-            Err(why) => {
-                return Filled {
-                    held,
-                    failed: Some(why),
-                };
-            }
+        match file.read(&mut buffer[held..])? {
+            0 => break,
+            more => held += more,
         }
     }
-    Filled { held, failed: None }
+    Ok(held)
 }
 
 // Moves the bytes behind a place to the front. Answers how many they are.
@@ -69,54 +58,34 @@ pub fn move_front(window: &mut [u8; ROOM], from: usize, held: usize) -> usize
     requires { held ≤ 2097152 }
     ensures { result ≤ 2097152 }
 {
-    let mut at = from;
-    let mut to = 0;
-    while at < held {
-        window[to] = window[at];
-        at += 1;
-        to += 1;
-    }
-    to
-}
-
-fn needs_more(answer: Answer) -> bool {
-    match answer {
-        Answer::EndOfLog => true,
-        Answer::Cut => true,
-        _ => false,
-    }
+    let rest = held.saturating_sub(from);
+    window.copy_within(held - rest..held, 0);
+    rest
 }
 
 // The id behind the tag at a place.
 fn id_at(bytes: &[u8], at: usize) -> u64 {
-    if bytes.len() < 9 {
-        return 0;
+    match bytes.get(at..) {
+        Some(action) if action.len() >= 9 => words::u64_at(action, 1),
+        _ => 0,
     }
-    if bytes.len() - 9 < at {
-        return 0;
-    }
-    words::u64_at(bytes, at + 1)
 }
 
 // A full window in which nothing can be replayed: the record passes it if the file goes on.
 fn full<R: Read>(file: &mut R, stop: Stop) -> Outcome {
-    let mut one = [0u8; 1];
-    let beyond = fill(file, &mut one, 0);
-    if let Some(why) = beyond.failed {
-        return Outcome::Unreadable(why);
+    let mut one = [0];
+    match fill(file, &mut one, 0) {
+        Ok(0) => Outcome::At(stop),
+        Ok(_) => Outcome::TooLong(stop.position),
+        Err(why) => Outcome::Unreadable(why),
     }
-    if beyond.held == 0 {
-        return Outcome::At(stop);
-    }
-    Outcome::TooLong(stop.position)
 }
 
 // What a run over the bytes held adds. The sums don't wrap: no file has 2^64 bytes, and a run that stops with 1 or 2 has not
 // used up the ids.
 fn further(stop: Stop, ran: Ran, bytes: &[u8]) -> Stop {
-    let answer = ran.answer;
     Stop {
-        answer: answer,
+        answer: ran.answer,
         position: stop.position.wrapping_add(ran.position as u64),
         fault_at: stop.position.wrapping_add(ran.fault_at as u64),
         count: stop.count.wrapping_add(ran.count),
@@ -125,62 +94,39 @@ fn further(stop: Stop, ran: Ran, bytes: &[u8]) -> Stop {
     }
 }
 
-// Whether the file goes on, with how many bytes in front of the window; or else what it came to.
+// Where the runs so far stopped, and how many bytes that they left stand at the window's front.
 #[derive(Clone, Copy)]
-pub struct Turn {
-    pub going: bool,
-    pub rest: usize,
-    pub stop: Stop,
-    pub outcome: Outcome,
+struct Left {
+    stop: Stop,
+    rest: usize,
 }
 
-fn ended(stop: Stop, outcome: Outcome) -> Turn
-    ensures { result.rest ≤ 2097152 }
-{
-    Turn {
-        going: false,
-        rest: 0,
-        stop: stop,
-        outcome: outcome,
-    }
-}
-
-// The window filled, its records replayed, and what is left of it moved to its front.
+// The window filled, its records replayed, and what is left of it moved to its front; or what it came to, where the file doesn't go on.
 fn one_turn<R: Read>(
     file: &mut R,
     directory: Directory,
-    stop: Stop,
-    rest: usize,
+    left: Left,
     window: &mut [u8; ROOM],
     image: &mut [u8],
-) -> Turn
-    requires { rest ≤ 2097152 }
-    ensures { result.rest ≤ 2097152 }
+) -> ControlFlow<Outcome, Left>
+    requires { left.rest ≤ 2097152 }
+    ensures { ForContinue result (λ left. left.rest ≤ 2097152) }
 {
-    let filled = fill(file, window, rest);
-    if let Some(why) = filled.failed {
-        return ended(stop, Outcome::Unreadable(why));
-    }
-    let held = filled.held;
+    let held = match fill(file, window, left.rest) {
+        Ok(held) => held,
+        Err(why) => return ControlFlow::Break(Outcome::Unreadable(why)),
+    };
     let bytes: &[u8] = window;
-    let ran = replay::run(directory, &bytes[0..held], 0, stop.expected, image);
-    let after = further(stop, ran, bytes);
-    let answer = ran.answer;
-    if held < ROOM {
-        return ended(after, Outcome::At(after));
-    }
-    if !needs_more(answer) {
-        return ended(after, Outcome::At(after));
+    let ran = replay::run(directory, &bytes[..held], 0, left.stop.expected, image);
+    let stop = further(left.stop, ran, bytes);
+    if held < ROOM || !matches!(stop.answer, Answer::EndOfLog | Answer::Cut) {
+        return ControlFlow::Break(Outcome::At(stop));
     }
     if ran.position == 0 {
-        return ended(after, full(file, after));
+        return ControlFlow::Break(full(file, stop));
     }
-    Turn {
-        going: true,
-        rest: move_front(window, ran.position, held),
-        stop: after,
-        outcome: Outcome::At(after),
-    }
+    let rest = move_front(window, ran.position, held);
+    ControlFlow::Continue(Left { stop, rest })
 }
 
 pub fn replay_file<R: Read>(
@@ -190,26 +136,22 @@ pub fn replay_file<R: Read>(
     window: &mut [u8; ROOM],
     image: &mut [u8],
 ) -> Outcome {
-    let mut stop = Stop {
-        answer: Answer::EndOfLog,
-        position: 0,
-        fault_at: 0,
-        count: 0,
-        expected: first,
-        found: 0,
+    let mut left = Left {
+        stop: Stop {
+            answer: Answer::EndOfLog,
+            position: 0,
+            fault_at: 0,
+            count: 0,
+            expected: first,
+            found: 0,
+        },
+        rest: 0,
     };
-    let mut rest = 0;
-    let mut turns = TURNS;
-    while 0 < turns {
-        let turn = one_turn(file, directory, stop, rest, window, image);
-        let outcome = turn.outcome;
-        if !turn.going {
-            return outcome;
+    for _ in 0..TURNS {
+        match one_turn(file, directory, left, window, image) {
+            ControlFlow::Continue(more) => left = more,
+            ControlFlow::Break(outcome) => return outcome,
         }
-        let after = turn.stop;
-        stop = after;
-        rest = turn.rest;
-        turns -= 1;
     }
     Outcome::Unreadable(io::Error::other("the file has no end"))
 }

@@ -2,8 +2,5 @@
 use Rattle.std.proofs.Common.{◌≤◌}
 use Rattle.log_input.proofs.window.replay_file.Given as goal
 
-abbrev pub invariant-loop-turns : goal.invariant-loop-turns
-invariant-loop-turns g l = l.rest ≤ 2097152
-
-abbrev pub decreases-loop-turns : goal.decreases-loop-turns
-decreases-loop-turns g l = l.turns
+abbrev pub invariant-loop : goal.invariant-loop
+invariant-loop g l = l.left.rest ≤ 2097152
