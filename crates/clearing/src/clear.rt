@@ -71,7 +71,7 @@ pub fn clear_rest(
     let id = r.record_id;
     let mut at = r.position;
     let mut left = counts;
-    while let Ok(i) = record::item_at(record::sought_in(t, log, at), log, at, r.validate, r.crc32) {
+    while let Ok(i) = record::item_at(t, log, at, r.validate, r.crc32) {
         let action = i.action();
         if action.is_end() {
             break;

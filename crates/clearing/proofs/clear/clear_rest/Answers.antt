@@ -17,19 +17,13 @@ use Rattle.clearing.proofs.clear.clear_rest.Goals as goal
 pub loop-i-init : goal.loop-i-init
 loop-i-init c = (c.requires.1.within, refl, refl, c.requires.2, c.requires.3, refl)
 
-pub sought_in-requires : goal.sought_in-requires
-sought_in-requires c = (c.requires.0, c.loop-i.invariant.0)
-
-pub item_at-requires : goal.item_at-requires
-item_at-requires c = (c.loop-i.invariant.0, record { directory = directory_in c.args.t.now; same = c.sought_in.ensures })
-
 pub returns-in_default : goal.returns-in_default
 returns-in_default c =
     let a = c.args in
     let l = c.loop-i in
     let d = directory_in a.t.now in
     absurd (unstopped d a.log.now (moved_to a.r l.at) _ l.invariant.4
-    (item_refused d a.log.now a.r c.requires.1 l.at l.invariant.0 _ (c.in_default.ensures d c.sought_in.ensures)))
+    (item_refused d a.log.now a.r c.requires.1 l.at l.invariant.0 _ (c.in_default.ensures)))
 
 pub returns-then-is_end : goal.returns-then-is_end
 returns-then-is_end c =
@@ -37,7 +31,7 @@ returns-then-is_end c =
     let l = c.loop-i in
     let d = directory_in a.t.now in
     last-cleared a.r.record_id d a.log.now (moved_to a.r l.at) _ (parts_of Shared l.left l.words l.bytes)
-    (item_taken d a.log.now a.r c.requires.1 l.at l.invariant.0 _ _ c.action-action.ensures (c.in-Ok.ensures d c.sought_in.ensures)) (sym c.is_end.ensures ∙ c.if-is_end.true)
+    (item_taken d a.log.now a.r c.requires.1 l.at l.invariant.0 _ _ c.action-action.ensures (c.in-Ok.ensures)) (sym c.is_end.ensures ∙ c.if-is_end.true)
     ∙ l.invariant.5
 
 pub overflow_add-at : goal.overflow_add-at
@@ -45,14 +39,14 @@ overflow_add-at c =
     let a = c.args in
     let l = c.loop-i in
     let d = directory_in a.t.now in
-    omega (arith, (item_place d a.log.now a.r c.requires.1 l.at l.invariant.0 _ _ c.action-action.ensures (c.in-Ok.ensures d c.sought_in.ensures)).1)
+    omega (arith, (item_place d a.log.now a.r c.requires.1 l.at l.invariant.0 _ _ c.action-action.ensures (c.in-Ok.ensures)).1)
 
 pub loop-i-smaller : goal.loop-i-smaller
 loop-i-smaller c =
     let a = c.args in
     let l = c.loop-i in
     let d = directory_in a.t.now in
-    let p = item_place d a.log.now a.r c.requires.1 l.at l.invariant.0 _ _ c.action-action.ensures (c.in-Ok.ensures d c.sought_in.ensures) in
+    let p = item_place d a.log.now a.r c.requires.1 l.at l.invariant.0 _ _ c.action-action.ensures (c.in-Ok.ensures) in
     omega (arith, p.0, p.1)
 
 pub loop-i-preserved : goal.loop-i-preserved
@@ -61,7 +55,7 @@ loop-i-preserved c =
     let l = c.loop-i in
     let d = directory_in a.t.now in
     let log = a.log.now in
-    let taken = c.in-Ok.ensures d c.sought_in.ensures in
+    let taken = c.in-Ok.ensures in
     let took = item_taken d log a.r c.requires.1 l.at l.invariant.0 _ _ c.action-action.ensures taken in
     let ended = sym c.is_end.ensures ∙ c.if-is_end.false in
     let next = item_next d log a.r c.requires.1 l.at l.invariant.0 _ _ c.action-action.ensures taken ended in
