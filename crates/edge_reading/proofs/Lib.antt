@@ -1,3 +1,2 @@
 -- The laws, for other crates to cite.
-pub mod Left
 pub mod SalvageLeft

@@ -1,17 +1,17 @@
 // The reader's calls.
 ghost use Rattle.std.specs.Prelude.{◌≡◌, true};
 ghost use Rattle.directory.specs.Directory.{directory_kept};
-ghost use Rattle.record.specs.Next.{refused, reader_at, answer_of};
+ghost use Rattle.record.specs.Next.{reader_at};
 ghost use Rattle.host_words.specs.Tables.{directory_from};
 ghost use Rattle.host_words.specs.Head.{head_room, head_after};
 ghost use Rattle.host_words.specs.Reader.{reader_size, reader_words};
-ghost use Rattle.answer.specs.Answer.{number_of};
+ghost use Rattle.answer.specs.Answer.{number_of, refusal};
 ghost use Rattle.answer.specs.declared.answer.Answer.TheVariants.{BadState};
-ghost use Rattle.edge_reading.specs.Reading.{row_words, index_in, action_numbers, reader_left, next_in, step_in, StepLeft, numbers_of};
+ghost use Rattle.edge_reading.specs.Reading.{row_words, index_in, action_numbers, next_in, step_in, StepLeft, numbers_of};
 
 use answer::{Answer, Refusal};
-use host_words::{directory_of, head_room, keep_reader, number, reader_formed, reader_of};
-use record::{LogAction, LogReader, Step};
+use host_words::{directory_of, keep, make, reader_of, reader_words};
+use record::{LogAction, LogReader, Stepped};
 
 // An action that was read, in numbers; `fault` is where a refused one begins, and behind one that was read the position.
 #[derive(Clone, Copy)]
@@ -24,51 +24,36 @@ pub struct ActionNumbers {
     pub fault: u64,
 }
 
-fn table_in(action: LogAction) -> u16
-    ensures { result ≡ row_words action }
+// The table and the index that an action names, 0 where it names none.
+fn named_in(action: LogAction) -> (u16, u64)
+    ensures { result ≡ (row_words action, index_in action) }
 {
     match action {
-        LogAction::BeginRecord => 0,
-        LogAction::InsertIndex(a) => a.table.0,
-        LogAction::InsertValue(a) => a.table.0,
-        LogAction::InsertRefCount(a) => a.table.0,
-        LogAction::DropTable(t) => t.0,
-        LogAction::DropRefCountTable(t) => t.0,
-        LogAction::EndRecord => 0,
+        LogAction::InsertIndex(a) => (a.table.0, a.index),
+        LogAction::InsertValue(a) => (a.table.0, a.index),
+        LogAction::InsertRefCount(a) => (a.table.0, a.index),
+        LogAction::DropTable(t) => (t.0, 0),
+        LogAction::DropRefCountTable(t) => (t.0, 0),
+        LogAction::BeginRecord | LogAction::EndRecord => (0, 0),
     }
 }
 
-fn index_in(action: LogAction) -> u64
-    ensures { result ≡ index_in action }
-{
-    match action {
-        LogAction::BeginRecord => 0,
-        LogAction::InsertIndex(a) => a.index,
-        LogAction::InsertValue(a) => a.index,
-        LogAction::InsertRefCount(a) => a.index,
-        LogAction::DropTable(_) => 0,
-        LogAction::DropRefCountTable(_) => 0,
-        LogAction::EndRecord => 0,
-    }
-}
-
-fn action_in(step: Step) -> ActionNumbers
+fn action_in(step: Result<Stepped, Refusal>) -> ActionNumbers
     ensures { result ≡ action_numbers step }
 {
     match step {
-        Step::Took(s) => {
-            let action = s.action;
-            let tag = action.tag();
+        Ok(s) => {
+            let (table, index) = named_in(s.action);
             ActionNumbers {
-                tag: tag.0 as u64,
-                table: table_in(action) as u64,
-                index: index_in(action),
+                tag: u64::from(s.action.tag().0),
+                table: u64::from(table),
+                index,
                 start: s.start as u64,
                 length: s.length as u64,
                 fault: s.reader.position as u64,
             }
         }
-        Step::Refused(x) => ActionNumbers {
+        Err(x) => ActionNumbers {
             tag: 0,
             table: 0,
             index: 0,
@@ -79,58 +64,33 @@ fn action_in(step: Step) -> ActionNumbers
     }
 }
 
-fn answer_in(step: Step) -> u64
-    ensures { result ≡ answer_of step }
+fn no_reader() -> Refusal
+    ensures { result ≡ refusal BadState 0 }
 {
-    match step {
-        Step::Took(_) => 0,
-        Step::Refused(f) => {
-            let answer = f.answer;
-            number(answer)
-        }
-    }
+    Refusal::new(Answer::BadState, 0)
 }
 
-// The reader behind an action, where there is one.
-fn keep_step(reader: &mut [u64], step: Step)
-    ensures { reader.new ≡ reader_left reader.old step }
-{
-    let Step::Took(s) = step else {
-        return;
-    };
-    let behind = s.reader;
-    keep_reader(reader, Answer::Done, behind);
-}
-
-fn no_reader() -> Step
-    ensures { result ≡ refused BadState 0 }
-{
-    Step::Refused(Refusal::new(Answer::BadState, 0))
-}
-
-fn next_in(tables: &[u64], log: &[u8], reader: &[u64]) -> Step
+#[tactic(auto, unfolding(crate::specs::Reading::next_in))]
+fn next_in(tables: &[u64], log: &[u8], reader: &[u64]) -> Result<Stepped, Refusal>
     ensures { result ≡ next_in tables.now log.now reader.now }
 {
-    if reader_formed(reader) {
-        return reader_of(reader).next(directory_of(tables), log);
-    }
-    no_reader()
+    let reader = reader_of(reader).ok_or(no_reader())?;
+    reader.next(directory_of(tables), log)
 }
 
-fn step_in(tables: &[u64], log: &[u8], reader: &[u64]) -> Step
+#[tactic(auto, unfolding(crate::specs::Reading::step_in))]
+fn step_in(tables: &[u64], log: &[u8], reader: &[u64]) -> Result<Stepped, Refusal>
     requires { directory_kept (directory_from tables.now) ≡ true }
     ensures { result ≡ step_in tables.now log.now reader.now }
 {
-    if reader_formed(reader) {
-        return reader_of(reader).next_kept(directory_of(tables), log);
-    }
-    no_reader()
+    let reader = reader_of(reader).ok_or(no_reader())?;
+    reader.next_kept(directory_of(tables), log)
 }
 
-// What a step leaves, stored where the host lent room for it: one for both doors.
+// What a step leaves, stored where the host lent room for it: the reader is the one behind the action, where there is one.
 fn keep_next(
     reader: &mut [u64],
-    step: Step,
+    step: Result<Stepped, Refusal>,
     tag: &mut u64,
     table: &mut u64,
     index: &mut u64,
@@ -147,8 +107,10 @@ fn keep_next(
     *start = a.start;
     *length = a.length;
     *fault = a.fault;
-    keep_step(reader, step);
-    answer_in(step)
+    match step {
+        Ok(s) => keep(reader, Answer::Done, &reader_words(s.reader)),
+        Err(x) => u64::from(x.answer.number()),
+    }
 }
 
 #[unsafe(no_mangle)]
@@ -156,8 +118,7 @@ pub extern "C" fn hongsathep_reader_new(reader: &mut [u64], position: usize, val
     ensures answer { result ≡ number_of (head_room reader_size reader.old) }
     ensures after { reader.new ≡ head_after reader_size (number_of (head_room reader_size reader.old)) reader.old (reader_words (reader_at position validate)) }
 {
-    let answer = head_room(reader, 5);
-    keep_reader(reader, answer, LogReader::new(position, validate))
+    make(reader, &reader_words(LogReader::new(position, validate)))
 }
 
 #[unsafe(no_mangle)]

@@ -1,42 +1,35 @@
 // Replay: a record, and a run of them.
 ghost use Rattle.std.specs.Prelude.{◌≡◌, true};
-ghost use Rattle.replay.specs.Replay.{record_at, tables_kept, judged, replayed_as, image_after, end_in};
+ghost use Rattle.replay.specs.Replay.{record_at, tables_kept, judged, replayed_by, replayed_as, image_after, end_in};
 ghost use Rattle.replay.specs.Run.{run_in, run_of};
 ghost use Rattle.host_words.specs.Tables.{directory_from};
-ghost use Rattle.edge_reading.specs.Reading.{replayed_by, ReplayedLeft, RanLeft};
+ghost use Rattle.edge_reading.specs.Reading.{ReplayedLeft, RanLeft};
 
-use answer::Answer;
-use host_words::{directory_of, number};
-use replay::{EndAnswer, Ran, Replayed};
+use answer::Refusal;
+use host_words::directory_of;
+use replay::Ran;
 
-fn replayed_by(at: usize, e: EndAnswer) -> Replayed
-    ensures { result ≡ replayed_by at e }
+// What a replay leaves beside the image, stored where the host lent room for it: a refused record leaves the position handed in.
+fn keep_replayed(
+    done: Result<usize, Refusal>,
+    position: usize,
+    end: &mut u64,
+    fault: &mut u64,
+) -> u64
+    ensures { ReplayedLeft (replayed_by position done) result end.new fault.new }
 {
-    match e {
-        EndAnswer::NotEnded(x) => {
-            let answer = x.answer;
-            Replayed {
-                answer: answer,
-                position: at,
-                fault_at: x.position,
-            }
+    match done {
+        Ok(behind) => {
+            *end = behind as u64;
+            *fault = behind as u64;
+            0
         }
-        EndAnswer::Ended(end) => Replayed {
-            answer: Answer::Done,
-            position: end,
-            fault_at: end,
-        },
+        Err(x) => {
+            *end = position as u64;
+            *fault = x.position as u64;
+            u64::from(x.answer.number())
+        }
     }
-}
-
-// What a replay leaves beside the image, stored where the host lent room for it: one for both doors.
-fn keep_replayed(done: Replayed, end: &mut u64, fault: &mut u64) -> u64
-    ensures { ReplayedLeft done result end.new fault.new }
-{
-    *end = done.position as u64;
-    *fault = done.fault_at as u64;
-    let answer = done.answer;
-    number(answer)
 }
 
 fn keep_ran(ran: Ran, end: &mut u64, count: &mut u64, fault: &mut u64) -> u64
@@ -45,8 +38,7 @@ fn keep_ran(ran: Ran, end: &mut u64, count: &mut u64, fault: &mut u64) -> u64
     *end = ran.position as u64;
     *count = ran.count;
     *fault = ran.fault_at as u64;
-    let answer = ran.answer;
-    number(answer)
+    u64::from(ran.answer.number())
 }
 
 #[unsafe(no_mangle)]
@@ -63,7 +55,7 @@ pub extern "C" fn hongsathep_replay(
     ensures image { image.new ≡ image_after (directory_from tables.now) image.old (judged (directory_from tables.now) log.now position expected image.old) }
 {
     let done = replay::replay(directory_of(tables), log, position, expected, image);
-    keep_replayed(done, end, fault)
+    keep_replayed(done, position, end, fault)
 }
 
 #[unsafe(no_mangle)]
@@ -80,8 +72,8 @@ pub extern "C" fn hongsathep_replay_kept(
     ensures told { ReplayedLeft (replayed_by position (end_in (record_at (directory_from tables.now) log.now position expected))) result end.new fault.new }
     ensures image { image.new ≡ image_after (directory_from tables.now) image.old (record_at (directory_from tables.now) log.now position expected) }
 {
-    let ended = replay::replay_kept(directory_of(tables), log, position, expected, image);
-    keep_replayed(replayed_by(position, ended), end, fault)
+    let done = replay::replay_kept(directory_of(tables), log, position, expected, image);
+    keep_replayed(done, position, end, fault)
 }
 
 #[unsafe(no_mangle)]

@@ -18,10 +18,7 @@ pub extern "C" fn hongsathep_checksum(bytes: &[u8]) -> u32
 pub extern "C" fn hongsathep_directory_kept(tables: &[u64]) -> u64
     ensures { result ≡ kept_number (directory_kept (directory_from tables.now)) }
 {
-    if directory_of(tables).kept() {
-        return 0;
-    }
-    13
+    if directory_of(tables).kept() { 0 } else { 13 }
 }
 
 #[unsafe(no_mangle)]
