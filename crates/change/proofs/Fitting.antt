@@ -1,39 +1,51 @@
 -- Whether a listed key or drop fits the directory, by what a search found. Assumes nothing.
 use mathlib.Core.Path.{◌≡◌, refl, ap, ◌∙◌}
-use mathlib.Core.Bool.{Bool, true, false}
+use mathlib.Core.Bool.{Bool, true, false, ◌&&◌}
 use mathlib.Core.List.{List, [], ◌∷◌}
 use Prim.Native.Nat.{ℕ, zero, suc, ◌+◌, ◌*◌, ◌≤◌, ◌<◌}
 use native.Mathlib.Omega.{arith}
+use native.Mathlib.Numerals.{add-one}
 use lib.Dec.{ltb}
-use lib.ListN.{length, get_or, take}
-use lib.Seq.{get_or-take, length-take-le}
+use lib.ListN.{length, get_or, take, drop, drop_of_length-le}
+use lib.Seq.{get_or-take, length-take-le, drop-cons}
 use borrow.Author.Tests.{le-ltb, lt-ltb, ltb-true}
+use Rattle.std.specs.Prelude.{Option, Some, None}
 use Rattle.directory.specs.Directory.{tables_of, find_table, stands}
 use Rattle.directory.specs.declared.table.TableKind.{TableKind}
 use Rattle.directory.specs.declared.table.TableDescription.{TableDescription}
 use Rattle.directory.specs.declared.directory.Directory.{Directory}
-use Rattle.directory.specs.declared.directory.Found.{Found}
-use Rattle.directory.specs.declared.directory.Found.TheVariants.{At}
 use Rattle.directory.proofs.Tables.{is_found_of, found-stands}
+use Rattle.std.specs.Prelude.{is_some}
+use Rattle.std.specs.List.{list_all}
 use Rattle.numbers.proofs.Laws.{left-of, right_of}
 use Rattle.keys.specs.Keys.{mark_at, every}
 use Rattle.overlay.specs.Rules.{Overlay, lists_of, mark_ruled, row_ruled, keys_ruled}
-use Rattle.overlay.proofs.Ruled.{keys-each}
+use Rattle.keys.proofs.Places.{in_use}
+use Rattle.overlay.proofs.Ruled.{keys-each, keys-room, keys-order}
 use Rattle.change.specs.Change.{mark_fits, key_fits, entry_fits, entries_fit}
 
 -- a search finds a table exactly where one stands
-pub there : (f : Found) (d : Directory) (kind : TableKind) (number : ℕ) → f ≡ find_table d kind number → is_found_of f ≡ stands (tables_of d) kind number
+pub there : (d : Directory) (kind : TableKind) (number : ℕ) → is_some (find_table d kind number) ≡ stands (tables_of d) kind number
 unfolding find_table
-there f d kind number e = ap is_found_of e ∙ found-stands 0 (tables_of d) kind number
+there d kind number = same (find_table d kind number) ∙ found-stands 0 (tables_of d) kind number
+  where
+    same : (f : Option (ℕ × TableDescription)) → is_some f ≡ is_found_of f
+    same (Some x) = refl
+    same None = refl
 
-module _ (kind : TableKind) (f : Found) (row : ℕ) (t : TableDescription) (e : f ≡ At row t) (index mark : ℕ) where
+-- `all`
+pub every-all : (f : ℕ → Bool) (l : List ℕ) → list_all f l ≡ every f l
+every-all f [] = refl
+every-all f (p ∷ l) = ap (λ (b : Bool). f p && b) (every-all f l)
+
+module _ (kind : TableKind) (f : Option (ℕ × TableDescription)) (row : ℕ) (t : TableDescription) (e : f ≡ Some (row, t)) (index mark : ℕ) where
   pub no_index : t.count ≤ index → key_fits kind f index mark ≡ false
   no_index h = rw (e, le-ltb index t.count h)
 
   pub index-fits : index < t.count → key_fits kind f index mark ≡ mark_fits kind t mark
   index-fits h = rw (e, lt-ltb index t.count h)
 
-pub entry-fits : (d : Directory) (kind : TableKind) (o : Overlay) (p : ℕ) (f : Found) → f ≡ find_table d kind (get_or o.rows (4 * p) 0)
+pub entry-fits : (d : Directory) (kind : TableKind) (o : Overlay) (p : ℕ) (f : Option (ℕ × TableDescription)) → f ≡ find_table d kind (get_or o.rows (4 * p) 0)
     → key_fits kind f (get_or o.rows (4 * p + 1) 0) (mark_at o.rows p) ≡ entry_fits d kind o p
 unfolding entry_fits
 entry-fits d kind o p f e = rw e
@@ -71,3 +83,32 @@ module _ (kind : TableKind) (room : ℕ) (rows order : List ℕ) (n j : ℕ) (w 
 
   pub mark-at : mark_ruled kind (mark_at rows (get_or order j 0)) ≡ true
   mark-at = row-mark kind rows (get_or order j 0) row_at
+
+-- a turn of a loop over the places in use: the key at j of the order
+pub record Turn (kind : TableKind) (rows order : List ℕ) (n j : ℕ) : Type 0 where
+  pub low : j < n
+  pub row : 4 * get_or (take n order) j 0 + 4 ≤ length rows
+  pub small : get_or rows (4 * get_or (take n order) j 0) 0 < 65536
+  pub mark : mark_ruled kind (mark_at rows (get_or (take n order) j 0)) ≡ true
+
+pub places-few : (kind : TableKind) (room : ℕ) (rows order : List ℕ) (n : ℕ) → room ≤ length order → keys_ruled kind room rows order n ≡ true → n ≤ length order
+places-few kind room rows order n long ok = omega (arith, keys-room kind room rows order n ok)
+
+pub turn : (kind : TableKind) (room : ℕ) (rows order : List ℕ) (n : ℕ) → 4 * room ≤ length rows → room ≤ length order → keys_ruled kind room rows order n ≡ true
+    → (j : ℕ) → j < length (take n order) → Turn kind rows order n j
+turn kind room rows order n rows_long order-long ok j h =
+    let few : n ≤ length order = places-few kind room rows order n order-long ok in
+    let low : j < n = omega (arith, length-take-le n order few) in
+    record {
+      low = low;
+      row = rw (get_or-take n order j 0 low) (omega (arith, in_use rows order n j (keys-order kind room rows order n ok) few low, keys-room kind room rows order n ok));
+      small = rw (get_or-take n order j 0 low) (table_at kind room rows order n j few low ok);
+      mark = rw (get_or-take n order j 0 low) (mark-at kind room rows order n j few low ok);
+    }
+
+-- the places from j on, one by one
+pub every-next : (f : ℕ → Bool) (ps : List ℕ) (j : ℕ) → j < length ps → every f (drop j ps) ≡ f (get_or ps j 0) && every f (drop (j + 1) ps)
+every-next f ps j h = rw (add-one j, drop-cons ps j 0 h)
+
+pub every-past : (f : ℕ → Bool) (ps : List ℕ) (j : ℕ) → length ps ≤ j → every f (drop j ps) ≡ true
+every-past f ps j h = ap (every f) (drop_of_length-le ps h)

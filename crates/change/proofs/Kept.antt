@@ -10,8 +10,9 @@ use lib.Dec.{leb}
 use lib.ListN.{length, get_or, take}
 use lib.Seq.{take-suc-set}
 use borrow.Author.Tests.{lt-ltb, leb-false}
-use Rattle.std.specs.Prelude.{if◌then◌else◌}
+use Rattle.std.specs.Prelude.{if◌then◌else◌, IfOk, Result, Ok, Err}
 use Rattle.words.proofs.Choices.{if_true}
+use Rattle.answer.specs.declared.answer.Answer.{Answer}
 use Rattle.answer.specs.declared.answer.Answer.TheVariants.{BadState}
 use Rattle.directory.specs.Directory.{tables_of, find_table, stands, directory_kept}
 use Rattle.directory.specs.Table.{same_kind_of}
@@ -29,11 +30,9 @@ use Rattle.memory.specs.Parts.{span_of, words_all, bytes_all, of_kind, put_into}
 use Rattle.memory.proofs.Spans.{all-shows, into-kept, put_of}
 use Rattle.memory.proofs.Empty.{empty_kept}
 use Rattle.change.specs.declared.drops.Drops.{Drops}
-use Rattle.change.specs.declared.plans.Plan.{Plan}
-use Rattle.change.specs.declared.plans.Plan.TheVariants.{Refuse, Go}
 use Rattle.change.specs.Change.{Change, change_of, new_list, with_parts, with_drops, with_count_drops, drop_room, change_ruled, key_fits, entry_fits, entries_fit, drops_fit, change_kept}
 use Rattle.change.specs.Insert.{Made, not_made, mark_of, plan_in, made_by, inserted_kept, inserted}
-use Rattle.change.specs.Drop.{dropped_in, table_dropped_kept, table_dropped, count_table_dropped_kept, count_table_dropped}
+use Rattle.change.specs.Drop.{dropped_in, drop_made, table_dropped_kept, table_dropped, count_table_dropped_kept, count_table_dropped}
 use Rattle.change.proofs.Rules.{RuledList, ruled-shows, ruled-makes, FitList, kept-directory, kept-ruled, kept-parts, kept-fits, kept-makes}
 use Rattle.change.proofs.Accepted.{same_kind, Accepted, accepted}
 use Rattle.change.proofs.Meaning.{mark-good, mark_right}
@@ -102,12 +101,12 @@ module _ (kind : TableKind) (d : Directory) (l : Change) (ok : change_kept d l �
   abbrev Keeps : Made → Type 0
   Keeps m = change_kept d m.change ≡ true
 
-  kept_by : (q : Plan) → plan_in kind (of_kind kind l.parts) (find_table d kind number) number index sub bytes ≡ q → Keeps (made_by q kind l number index sub bytes)
-  kept_by (Refuse answer) e = ok
-  kept_by (Go old) e =
+  kept_by : (q : Result ℕ Answer) → plan_in kind (of_kind kind l.parts) (find_table d kind number) number index sub bytes ≡ q → Keeps (made_by q kind l number index sub bytes)
+  kept_by (Err answer) e = ok
+  kept_by (Ok old) e =
       let a = accepted kind d l.parts number index sub bytes old (kept-directory d l ok) (kept-parts d l ok) e in
       let r = kept-ruled d l ok in
-      kept-makes d (made_by (Go old) kind l number index sub bytes).change (kept-directory d l ok) (after-ruled kind d l number index sub bytes old small a r)
+      kept-makes d (made_by (Ok old) kind l number index sub bytes).change (kept-directory d l ok) (after-ruled kind d l number index sub bytes old small a r)
       (after-fits kind d l number index sub bytes old small a r (kept-fits d l ok))
 
   pub insert-kept : change_kept d (inserted kind d l number index sub bytes).change ≡ true
@@ -125,19 +124,21 @@ every-end : (f : ℕ → Bool) (l : List ℕ) (v : ℕ) → every f l ≡ true �
 every-end f [] v e h = both h refl
 every-end f (p ∷ l) v e h = both (left-of (f p) _ e) (every-end f l v (right_of (f p) _ e) h)
 
-dropped-kept : (d : Directory) (kind : TableKind) (s : Drops) (number : ℕ) → length s.tables ≡ 16 → s.count ≤ drop_room → drops_fit d kind s ≡ true
-    → ((dropped_in d kind s number).drops.count ≤ drop_room) × (drops_fit d kind (dropped_in d kind s number).drops ≡ true)
+-- drops that keep their rules, and as a call leaves them
+abbrev FitDrops : Directory → TableKind → Drops → Type 0
+FitDrops d kind s = (s.count ≤ drop_room) × (drops_fit d kind s ≡ true)
+
+dropped-kept : (d : Directory) (kind : TableKind) (s : Drops) (number : ℕ) → length s.tables ≡ 16 → FitDrops d kind s → IfOk (dropped_in d kind s number) (FitDrops d kind)
 unfolding drops_fit dropped_in
-dropped-kept d kind s number long few ok = by (stands (tables_of d) kind number) refl (leb drop_room s.count) refl
+dropped-kept d kind s number long ok = by (stands (tables_of d) kind number) refl (leb drop_room s.count) refl
   where
-    by : (b : Bool) → stands (tables_of d) kind number ≡ b → (f : Bool) → leb drop_room s.count ≡ f
-        → ((dropped_in d kind s number).drops.count ≤ drop_room) × (drops_fit d kind (dropped_in d kind s number).drops ≡ true)
-    by false e f g = rw e (few, ok)
-    by true e true g = rw (e, g) (few, ok)
+    by : (b : Bool) → stands (tables_of d) kind number ≡ b → (f : Bool) → leb drop_room s.count ≡ f → IfOk (dropped_in d kind s number) (FitDrops d kind)
+    by false e f g = rw e tt
+    by true e true g = rw (e, g) tt
     by true e false g =
         let h = leb-false drop_room s.count g in
         rw (e, g)
-        (omega arith, rw (add-one s.count, take-suc-set s.tables s.count number (omega arith)) (every-end (stands (tables_of d) kind) (take s.count s.tables) number ok e))
+        (omega arith, rw (add-one s.count, take-suc-set s.tables s.count number (omega arith)) (every-end (stands (tables_of d) kind) (take s.count s.tables) number ok.1 e))
 
 -- `long` is what the type says of the drops' array
 module _ (d : Directory) (l : Change) (ok : change_kept d l ≡ true) (number : ℕ) where
@@ -147,21 +148,32 @@ module _ (d : Directory) (l : Change) (ok : change_kept d l ≡ true) (number : 
   fit : FitList d l
   fit = kept-fits d l ok
 
+  drop_made-kept : (after : Drops → Change) (P : Drops → Type 0) → ((s : Drops) → P s → change_kept d (after s) ≡ true)
+      → (r : Result Drops Answer) → IfOk r P → change_kept d (drop_made l after r).change ≡ true
+  drop_made-kept after P keeps (Ok s) h = keeps s h
+  drop_made-kept after P keeps (Err answer) h = ok
+
   pub drop_kept : length l.drops.tables ≡ 16 → change_kept d (table_dropped d l number).change ≡ true
   unfolding table_dropped table_dropped_kept
   drop_kept long =
-      let k = dropped-kept d Index l.drops number long rules.drops fit.drops in
-      let after = with_drops l (dropped_in d Index l.drops number).drops in
       subst (λ (m : Made). change_kept d m.change ≡ true) (sym (if_true (change_kept d l) (table_dropped_kept d l number) (not_made BadState l) ok))
-      (kept-makes d after (kept-directory d l ok) (ruled-makes after (record { parts = rules.parts; drops = k.0; count-drops = rules.count-drops })) (record { each = fit.each; drops = k.1; count-drops = fit.count-drops }))
+      (drop_made-kept (with_drops l) (FitDrops d Index) by (dropped_in d Index l.drops number) (dropped-kept d Index l.drops number long (rules.drops, fit.drops)))
+    where
+      by : (s : Drops) → FitDrops d Index s → change_kept d (with_drops l s) ≡ true
+      by s k =
+          let after = with_drops l s in
+          kept-makes d after (kept-directory d l ok) (ruled-makes after (record { parts = rules.parts; drops = k.0; count-drops = rules.count-drops })) (record { each = fit.each; drops = k.1; count-drops = fit.count-drops })
 
   pub count_drop_kept : length l.count_drops.tables ≡ 16 → change_kept d (count_table_dropped d l number).change ≡ true
   unfolding count_table_dropped count_table_dropped_kept
   count_drop_kept long =
-      let k = dropped-kept d RefCount l.count_drops number long rules.count-drops fit.count-drops in
-      let after = with_count_drops l (dropped_in d RefCount l.count_drops number).drops in
       subst (λ (m : Made). change_kept d m.change ≡ true) (sym (if_true (change_kept d l) (count_table_dropped_kept d l number) (not_made BadState l) ok))
-      (kept-makes d after (kept-directory d l ok) (ruled-makes after (record { parts = rules.parts; drops = rules.drops; count-drops = k.0 })) (record { each = fit.each; drops = fit.drops; count-drops = k.1 }))
+      (drop_made-kept (with_count_drops l) (FitDrops d RefCount) by (dropped_in d RefCount l.count_drops number) (dropped-kept d RefCount l.count_drops number long (rules.count-drops, fit.count-drops)))
+    where
+      by : (s : Drops) → FitDrops d RefCount s → change_kept d (with_count_drops l s) ≡ true
+      by s k =
+          let after = with_count_drops l s in
+          kept-makes d after (kept-directory d l ok) (ruled-makes after (record { parts = rules.parts; drops = rules.drops; count-drops = k.0 })) (record { each = fit.each; drops = fit.drops; count-drops = k.1 })
 
 -- a new list keeps the rules, whatever the memories hold
 module _ (id : ℕ) (words bytes : List ℕ) (wl : length words ≡ words_all holder.List) (bl : length bytes ≡ bytes_all holder.List) where

@@ -7,13 +7,12 @@ use native.Mathlib.Omega.{arith}
 use lib.Dec.{ltb}
 use lib.ListN.{length, get_or}
 use borrow.Author.Tests.{ltb-true, ltb-false, lt-ltb, le-ltb}
+use Rattle.std.specs.Prelude.{Option, Some, None}
 use Rattle.directory.specs.Directory.{find_table, directory_kept}
 use Rattle.directory.specs.Table.{length_fits}
 use Rattle.directory.specs.declared.table.TableKind.{TableKind}
 use Rattle.directory.specs.declared.table.TableDescription.{TableDescription}
 use Rattle.directory.specs.declared.directory.Directory.{Directory}
-use Rattle.directory.specs.declared.directory.Found.{Found}
-use Rattle.directory.specs.declared.directory.Found.TheVariants.{At, Nothing}
 use Rattle.numbers.proofs.Laws.{left-of, right_of}
 use Rattle.numbers.specs.Numbers.{spot}
 use Rattle.keys.specs.Keys.{rank, key_at, mark_at, keys_of, ruled}
@@ -69,7 +68,7 @@ placed kind room o ok j h =
 pub record Tabled (d : Directory) (kind : TableKind) (o : Overlay) (p : ℕ) : Type 0 where
   pub row : ℕ
   pub table : TableDescription
-  pub found : find_table d kind (get_or o.rows (4 * p) 0) ≡ At row table
+  pub found : find_table d kind (get_or o.rows (4 * p) 0) ≡ Some (row, table)
   pub below : get_or o.rows (4 * p + 1) 0 < table.count
   pub size : length_fits kind table.length ≡ true
   pub mark : mark_fits kind table (mark_at o.rows p) ≡ true
@@ -78,9 +77,9 @@ tabled-by : (d : Directory) (kind : TableKind) (o : Overlay) (p : ℕ) → direc
 unfolding entry_fits
 tabled-by d kind o p dir e = by (find_table d kind (get_or o.rows (4 * p) 0)) refl e
   where
-    by : (f : Found) → find_table d kind (get_or o.rows (4 * p) 0) ≡ f → key_fits kind f (get_or o.rows (4 * p + 1) 0) (mark_at o.rows p) ≡ true → Tabled d kind o p
-    by Nothing q h = let z : ◌≡◌ {A = ℕ} 0 1 = cc in absurd (omega arith)
-    by (At row t) q h =
+    by : (f : Option (ℕ × TableDescription)) → find_table d kind (get_or o.rows (4 * p) 0) ≡ f → key_fits kind f (get_or o.rows (4 * p + 1) 0) (mark_at o.rows p) ≡ true → Tabled d kind o p
+    by None q h = let z : ◌≡◌ {A = ℕ} 0 1 = cc in absurd (omega arith)
+    by (Some (row, t)) q h =
         record {
           row = row;
           table = t;

@@ -11,8 +11,9 @@ use lib.Pow.{pow_pos}
 use lib.Dec.{ltb, eqb}
 use lib.ListN.{length}
 use borrow.Author.Tests.{lt-ltb, eq-eqb}
-use Rattle.std.specs.Prelude.{if◌then◌else◌}
+use Rattle.std.specs.Prelude.{if◌then◌else◌, Result, Ok}
 use Rattle.words.proofs.Choices.{if_true, if_false}
+use Rattle.answer.specs.declared.answer.Answer.{Answer}
 use Rattle.answer.specs.declared.answer.Answer.TheVariants.{BadState}
 use Rattle.directory.specs.Table.{same_kind_of, length_fits, unit_of}
 use Rattle.directory.specs.Directory.{find_table}
@@ -29,8 +30,6 @@ use Rattle.memory.specs.declared.span.Holder.TheVariants as holder
 use Rattle.memory.specs.Parts.{span_of, of_kind, put_into}
 use Rattle.memory.proofs.Spans.{all-shows, put_of}
 use Rattle.change.specs.Change.{Change, mark_fits, change_kept}
-use Rattle.change.specs.declared.plans.Plan.{Plan}
-use Rattle.change.specs.declared.plans.Plan.TheVariants.{Go}
 use Rattle.change.specs.Insert.{not_made, mark_of, plan_in, made_by, inserted_kept, inserted, new_entry}
 use Rattle.change.proofs.Rules.{kept-directory, kept-parts}
 use Rattle.change.proofs.Accepted.{Accepted, accepted}
@@ -55,7 +54,7 @@ mark_right Value old sub t bytes e = eq-eqb (length bytes) t.length e
 mark_right RefCount old sub t bytes e = refl
 
 module _ (kind : TableKind) (d : Directory) (l : Change) (ok : change_kept d l ≡ true) (number index sub : ℕ) (bytes : List ℕ) (old : ℕ)
-    (go : plan_in kind (of_kind kind l.parts) (find_table d kind number) number index sub bytes ≡ Go old) where
+    (go : plan_in kind (of_kind kind l.parts) (find_table d kind number) number index sub bytes ≡ Ok old) where
   a : Accepted kind d l.parts number index sub bytes old
   a = accepted kind d l.parts number index sub bytes old (kept-directory d l ok) (kept-parts d l ok) go
 
@@ -64,7 +63,7 @@ module _ (kind : TableKind) (d : Directory) (l : Change) (ok : change_kept d l �
   unfolding inserted inserted_kept
   insert-parts =
       ap (λ (b : Bool). (if b then inserted_kept kind d l number index sub bytes else not_made BadState l).change.parts) ok
-      ∙ ap (λ (q : Plan). (made_by q kind l number index sub bytes).change.parts) go
+      ∙ ap (λ (q : Result ℕ Answer). (made_by q kind l number index sub bytes).change.parts) go
       ∙ ap (λ (m : ℕ). put_into kind l.parts number index l.id (mark_of kind m sub bytes) bytes) a.old-is
 
   -- the kind's own entries, and those of another

@@ -1,5 +1,5 @@
 -- One kind's part of a list's words, as the code lends it: what the rules say of it; and what reads no bytes reads the same from it. Assumes nothing.
-use mathlib.Core.Path.{◌≡◌, sym, ap, ◌∙◌}
+use mathlib.Core.Path.{◌≡◌, refl, sym, ap, ◌∙◌}
 use mathlib.Core.Bool.{true}
 use mathlib.Core.List.{List, []}
 use Prim.Native.Nat.{ℕ, ◌*◌, ◌≤◌}
@@ -18,6 +18,9 @@ use Rattle.memory.specs.declared.span.Span.{Span}
 use Rattle.memory.specs.declared.span.Holder.TheVariants as holder
 use Rattle.memory.specs.Parts.{span_of, count_of, part_from, bytes_in, parts_of, of_kind, parts_kept}
 use Rattle.memory.proofs.Spans.{of_parts, words-all}
+use Rattle.change.specs.declared.change.LogChange.{LogChange}
+use Rattle.change.specs.Change.{change_of, change_ruled}
+use Rattle.change.proofs.Rules.{ruled-parts}
 use Rattle.memory.proofs.Lent.{fits, lent_of, lent-kept}
 
 pub record KindLent (kind : TableKind) (s : Span) (words : List ℕ) (n : ℕ) : Type 0 where
@@ -61,3 +64,8 @@ module _ (kind : TableKind) (c : Counts) (words bytes : List ℕ) (s : Span) (e 
   pub reads-part : {A : Type 0} (f : Overlay → A) → ((rows order bytes : List ℕ) (n : ℕ) → f (lists_of rows order [] n) ≡ f (lists_of rows order bytes n))
       → f (overlay_of s.room (part_from s.words_at s.words_end words) [] n) ≡ f (of_kind kind (parts_of holder.List c words bytes))
   reads-part f same = rw (e, d) (same _ _ (bytes_in holder.List kind bytes) (count_of kind c)) ∙ ap f (sym (of_parts holder.List kind c words bytes))
+
+-- the same of a list that keeps its rules, with its counts
+pub list-lent : (kind : TableKind) (l : LogChange) (words bytes : List ℕ) → change_ruled (change_of l words bytes) ≡ true → (s : Span) → s ≡ span_of holder.List kind
+    → KindLent kind s words (count_of kind l.counts)
+list-lent kind l words bytes ok s e = kind-lent kind l.counts words bytes s e (count_of kind l.counts) refl (ruled-parts (change_of l words bytes) ok)

@@ -1,5 +1,5 @@
 -- The rules of a list, taken apart and put together. Assumes nothing.
-use mathlib.Core.Path.{◌≡◌}
+use mathlib.Core.Path.{◌≡◌, refl, sym}
 use mathlib.Core.Bool.{Bool, true, false, ◌&&◌}
 use Prim.Native.Nat.{◌≤◌}
 use lib.Dec.{leb}
@@ -11,7 +11,7 @@ use Rattle.directory.specs.declared.directory.Directory.{Directory}
 use Rattle.numbers.proofs.Laws.{both, left-of, right_of}
 use Rattle.memory.specs.Parts.{of_kind, parts_kept}
 use Rattle.memory.specs.declared.span.Holder.TheVariants as holder
-use Rattle.change.specs.Change.{Change, drop_room, change_ruled, entries_fit, drops_fit, change_fits, change_kept}
+use Rattle.change.specs.Change.{Change, drop_room, change_ruled, entries_fit, keys_fit, drops_fit, change_fits, change_kept}
 
 -- a test of several rules, a return at a time
 pub stops : {a : Bool} (b : Bool) → a ≡ false → false ≡ (a && b)
@@ -41,6 +41,25 @@ module _ (l : Change) where
   unfolding change_ruled
   ruled-makes r = both r.parts (both (le-leb l.drops.count drop_room r.drops) (le-leb l.count_drops.count drop_room r.count-drops))
 
+  -- too many of either kind
+  pub ruled-stops : (l.drops.count ≤ drop_room → l.count_drops.count ≤ drop_room → ⊥) → false ≡ change_ruled l
+  unfolding change_ruled
+  ruled-stops h = by (parts_kept holder.List l.parts) (leb l.drops.count drop_room) refl (leb l.count_drops.count drop_room) refl
+    where
+      by : (p a : Bool) → leb l.drops.count drop_room ≡ a → (b : Bool) → leb l.count_drops.count drop_room ≡ b → false ≡ (p && (leb l.drops.count drop_room && leb l.count_drops.count drop_room))
+      by false a e b f = refl
+      by true false e b f = rw e
+      by true true e false f = rw (e, f)
+      by true true e true f = absurd (h (leb-true _ _ e) (leb-true _ _ f))
+
+  pub ruled-goes : (p : Bool) → p ≡ parts_kept holder.List l.parts → l.drops.count ≤ drop_room → l.count_drops.count ≤ drop_room → p ≡ change_ruled l
+  unfolding change_ruled
+  ruled-goes p e few some = rw (sym e, le-leb l.drops.count drop_room few, le-leb l.count_drops.count drop_room some) (alone p)
+    where
+      alone : (b : Bool) → b ≡ (b && true)
+      alone true = refl
+      alone false = refl
+
   pub ruled-parts : change_ruled l ≡ true → parts_kept holder.List l.parts ≡ true
   ruled-parts e = (ruled-shows e).parts
 
@@ -54,11 +73,11 @@ module _ (d : Directory) (l : Change) where
   pub fits-shows : change_fits d l ≡ true → FitList d l
   unfolding change_fits
   fits-shows e =
-      let a = right_of (entries_fit d Index l.parts.index) _ e in
-      let b = right_of (entries_fit d Value l.parts.value) _ a in
-      let r = right_of (entries_fit d RefCount l.parts.ref_count) _ b in
+      let k = left-of (keys_fit d l) _ e in
+      let a = right_of (entries_fit d Index l.parts.index) _ k in
+      let r = right_of (keys_fit d l) _ e in
       record {
-        each = by (left-of (entries_fit d Index l.parts.index) _ e) (left-of (entries_fit d Value l.parts.value) _ a) (left-of (entries_fit d RefCount l.parts.ref_count) _ b);
+        each = by (left-of (entries_fit d Index l.parts.index) _ k) (left-of (entries_fit d Value l.parts.value) _ a) (right_of (entries_fit d Value l.parts.value) _ a);
         drops = left-of (drops_fit d Index l.drops) _ r;
         count-drops = right_of (drops_fit d Index l.drops) _ r;
       }
@@ -71,7 +90,7 @@ module _ (d : Directory) (l : Change) where
 
   pub fits-makes : FitList d l → change_fits d l ≡ true
   unfolding change_fits
-  fits-makes f = both (f.each Index) (both (f.each Value) (both (f.each RefCount) (both f.drops f.count-drops)))
+  fits-makes f = both (both (f.each Index) (both (f.each Value) (f.each RefCount))) (both f.drops f.count-drops)
 
   -- directory, list and both together
   pub kept-directory : change_kept d l ≡ true → directory_kept d ≡ true

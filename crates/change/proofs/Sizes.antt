@@ -5,14 +5,15 @@ use mathlib.Core.List.{List, [], ◌∷◌}
 use Prim.Native.Nat.{ℕ, zero, suc, ◌+◌, ◌*◌, ◌≤◌, ◌<◌, suc-le-suc}
 use native.Mathlib.Nat.{suc-mul, mul-le-mul_right, le_trans, zero-lt-suc}
 use native.Mathlib.Omega.{arith}
+use native.Mathlib.Numerals.{add-one}
 use lib.Count.{ones-le}
 use lib.Dec.{leb}
-use lib.ListN.{length, take, drop, get_or}
-use lib.Seq.{get_or-take, length-take-le}
+use lib.ListN.{length, take, drop, get_or, drop_of_length-le}
+use lib.Seq.{get_or-take, length-take-le, drop-cons}
 use borrow.Author.Tests.{leb-true}
 use Rattle.directory.specs.declared.table.TableKind.{TableKind}
 use Rattle.directory.specs.declared.table.TableKind.TheVariants.{Index, Value, RefCount}
-use Rattle.numbers.proofs.Laws.{right_of, places-cons, places-end}
+use Rattle.numbers.proofs.Laws.{right_of}
 use Rattle.keys.specs.Keys.{mark_at}
 use Rattle.overlay.specs.Rules.{Overlay, mark_ruled, overlay_kept, lists_of}
 use Rattle.overlay.proofs.Ruled.{shows}
@@ -24,14 +25,14 @@ use Rattle.change.specs.Size.{entry_size, places_size, entries_size, record_size
 use Rattle.change.proofs.Rules.{ruled-shows}
 use Rattle.change.proofs.Listed.{placed}
 
-module _ (kind : TableKind) (rows os : List ℕ) (n : ℕ) (fits : n ≤ length os) (i : ℕ) where
-  pub sizes_turn : i < n → places_size kind rows (drop i (take n os)) ≡ entry_size kind (mark_at rows (get_or os i 0)) + places_size kind rows (drop (i + 1) (take n os))
+module _ (kind : TableKind) (rows ps : List ℕ) (j : ℕ) where
+  pub sizes-next : j < length ps → places_size kind rows (drop j ps) ≡ entry_size kind (mark_at rows (get_or ps j 0)) + places_size kind rows (drop (j + 1) ps)
   unfolding places_size
-  sizes_turn h = ap (places_size kind rows) (places-cons os n fits i h)
+  sizes-next h = rw (add-one j, drop-cons ps j 0 h)
 
-  pub sizes_end : n ≤ i → places_size kind rows (drop i (take n os)) ≡ 0
+  pub sizes-past : length ps ≤ j → places_size kind rows (drop j ps) ≡ 0
   unfolding places_size
-  sizes_end h = ap (places_size kind rows) (places-end os n fits i h)
+  sizes-past h = ap (places_size kind rows) (drop_of_length-le ps h)
 
 -- the bytes are not asked
 pub size-keys : (kind : TableKind) (rows order bytes : List ℕ) (n : ℕ) → entries_size kind (lists_of rows order [] n) ≡ entries_size kind (lists_of rows order bytes n)

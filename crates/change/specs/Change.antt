@@ -1,13 +1,11 @@
 -- A change list whole, and its rules (document 01, "Change lists and overlays", "Rules of a state" and answer 13). In log.rs `LogChange`,
 -- lines 355 to 374: three maps of entries, two lists of drops and the record's id. The maps have no bounds there: the room is added.
-use Rattle.std.specs.Prelude.{Bool, true, false, ◌&&◌, List, ℕ, ◌+◌, ◌*◌, ltb, leb, eqb, get_or, take, replicate}
+use Rattle.std.specs.Prelude.{Bool, true, false, ◌&&◌, List, ℕ, ◌+◌, ◌*◌, ltb, leb, eqb, get_or, take, replicate, Option, Some, None}
 use Rattle.directory.specs.Directory.{tables_of, find_table, stands, directory_kept}
 use Rattle.directory.specs.declared.table.TableKind.{TableKind}
 use Rattle.directory.specs.declared.table.TableKind.TheVariants.{Index, Value, RefCount}
 use Rattle.directory.specs.declared.table.TableDescription.{TableDescription}
 use Rattle.directory.specs.declared.directory.Directory.{Directory}
-use Rattle.directory.specs.declared.directory.Found.{Found}
-use Rattle.directory.specs.declared.directory.Found.TheVariants.{At, Nothing}
 use Rattle.keys.specs.Keys.{mark_at, every}
 use Rattle.overlay.specs.Rules.{Overlay}
 use Rattle.memory.specs.Parts.{Parts, parts_of, parts_kept, no_counts}
@@ -66,9 +64,9 @@ mark_fits Value t mark = eqb mark t.length
 mark_fits RefCount t mark = true
 
 -- a listed key fits the directory: its table is there, its index is below the table's count, its mark is right for the table
-abbrev pub key_fits : TableKind → Found → ℕ → ℕ → Bool
-key_fits kind (At row t) index mark = ltb index t.count && mark_fits kind t mark
-key_fits kind Nothing index mark = false
+abbrev pub key_fits : TableKind → Option (ℕ × TableDescription) → ℕ → ℕ → Bool
+key_fits kind (Some (row, t)) index mark = ltb index t.count && mark_fits kind t mark
+key_fits kind None index mark = false
 
 -- the key in place p fits
 unfoldable pub entry_fits : Directory → TableKind → Overlay → ℕ → Bool
@@ -79,17 +77,18 @@ entry_fits d kind o p =
 unfoldable pub entries_fit : Directory → TableKind → Overlay → Bool
 entries_fit d kind o = every (entry_fits d kind o) (take o.count o.order)
 
+-- the keys of all three kinds
+abbrev pub keys_fit : Directory → Change → Bool
+keys_fit d l =
+    entries_fit d Index l.parts.index && (entries_fit d Value l.parts.value && entries_fit d RefCount l.parts.ref_count)
+
 -- a listed drop is of a table of the directory
 unfoldable pub drops_fit : Directory → TableKind → Drops → Bool
 drops_fit d kind s = every (stands (tables_of d) kind) (take s.count s.tables)
 
 -- no "listed key doesn't fit the directory", drops among them
 unfoldable pub change_fits : Directory → Change → Bool
-change_fits d l =
-    entries_fit d Index l.parts.index
-    && (entries_fit d Value l.parts.value
-    && (entries_fit d RefCount l.parts.ref_count
-    && (drops_fit d Index l.drops && drops_fit d RefCount l.count_drops)))
+change_fits d l = keys_fit d l && (drops_fit d Index l.drops && drops_fit d RefCount l.count_drops)
 
 -- what a call is handed, directory and list. Any other is 13
 unfoldable pub change_kept : Directory → Change → Bool

@@ -1,6 +1,6 @@
 -- What an insert does (document 01, "Change lists and overlays", "Inserting: 6, 7, 14, 9."). log.rs lines 480 to 515.
-use Rattle.std.specs.Prelude.{Bool, List, ℕ, ◌^◌, ltb, leb, eqb, length}
-use Rattle.std.proofs.Math.Option.{Option, none, some}
+use Rattle.std.specs.Prelude.{Bool, List, ℕ, ◌^◌, ltb, leb, eqb, length, Option, Some, None, Result, Ok, Err}
+use Rattle.std.proofs.Math.Option as maybe
 use Rattle.std.specs.Int.Bits.{bit_or}
 use Rattle.std.specs.Prelude.{if◌then◌else◌}
 use Rattle.answer.specs.declared.answer.Answer.{Answer}
@@ -11,8 +11,6 @@ use Rattle.directory.specs.declared.table.TableKind.{TableKind}
 use Rattle.directory.specs.declared.table.TableKind.TheVariants.{Index, Value, RefCount}
 use Rattle.directory.specs.declared.table.TableDescription.{TableDescription}
 use Rattle.directory.specs.declared.directory.Directory.{Directory}
-use Rattle.directory.specs.declared.directory.Found.{Found}
-use Rattle.directory.specs.declared.directory.Found.TheVariants.{At, Nothing}
 use Rattle.keys.specs.Keys.{rank, mark_at}
 use Rattle.overlay.specs.Rules.{Overlay}
 use Rattle.overlay.specs.Overlay.{stands_in, place_in}
@@ -20,8 +18,6 @@ use Rattle.overlay.specs.Entries.{Entry, entries_of, find_entry}
 use Rattle.memory.specs.Parts.{span_of, of_kind, put_into}
 use Rattle.memory.specs.declared.span.Holder.TheVariants as holder
 use Rattle.change.specs.Change.{Change, change_of, with_parts, change_kept}
-use Rattle.change.specs.declared.plans.Plan.{Plan}
-use Rattle.change.specs.declared.plans.Plan.TheVariants.{Refuse, Go}
 use Rattle.change.specs.declared.change.Changed.{Changed}
 
 -- what a call on a list comes to: its answer, and the list afterwards
@@ -47,26 +43,26 @@ mark_of RefCount old sub bytes = bit_or old (2 ^ sub)
 unfoldable pub bytes_fit_of : TableKind → TableDescription → List ℕ → Bool
 bytes_fit_of kind t bytes = eqb (length bytes) (unit_of kind t.length)
 
--- a key that is listed is replaced, so a full list takes it; any other goes into the next place, where there is room
-unfoldable pub room_for : ℕ → Overlay → ℕ → Plan
+-- the mark that a key has now, 0 if there is none. A key that is listed is replaced, so a full list takes it; any other goes into the next place, where there is room
+unfoldable pub room_for : ℕ → Overlay → ℕ → Result ℕ Answer
 room_for room o key =
-    if stands_in o key then Go (mark_at o.rows (place_in o key)) else
-    if leb room o.count then Refuse NoRoom else  -- 9
-    Go 0
+    if stands_in o key then Ok (mark_at o.rows (place_in o key)) else
+    if leb room o.count then Err NoRoom else  -- 9
+    Ok 0
 
 -- at a list that keeps its rules: 6, 7, 14, 9
-unfoldable pub plan_in : TableKind → Overlay → Found → ℕ → ℕ → ℕ → List ℕ → Plan
-plan_in kind o Nothing number index sub bytes = Refuse NoTable  -- 6
-plan_in kind o (At row t) number index sub bytes =
-    if leb t.count index then Refuse NoIndex else  -- 7
-    if ltb 63 sub then Refuse BadArgument else  -- 14: "slot above 63"
+unfoldable pub plan_in : TableKind → Overlay → Option (ℕ × TableDescription) → ℕ → ℕ → ℕ → List ℕ → Result ℕ Answer
+plan_in kind o None number index sub bytes = Err NoTable  -- 6
+plan_in kind o (Some (row, t)) number index sub bytes =
+    if leb t.count index then Err NoIndex else  -- 7
+    if ltb 63 sub then Err BadArgument else  -- 14: "slot above 63"
     if bytes_fit_of kind t bytes then room_for (span_of holder.List kind).room o (rank number index) else
-    Refuse BadArgument  -- 14
+    Err BadArgument  -- 14
 
 -- "take the whole new chunk and add the slot's bit to the mask. `insert_value` replaces."
-abbrev pub made_by : Plan → TableKind → Change → ℕ → ℕ → ℕ → List ℕ → Made
-made_by (Refuse answer) kind l number index sub bytes = not_made answer l
-made_by (Go old) kind l number index sub bytes =
+abbrev pub made_by : Result ℕ Answer → TableKind → Change → ℕ → ℕ → ℕ → List ℕ → Made
+made_by (Err answer) kind l number index sub bytes = not_made answer l
+made_by (Ok old) kind l number index sub bytes =
     record { answer = Done; change = with_parts l (put_into kind l.parts number index l.id (mark_of kind old sub bytes) bytes) }
 
 -- an insert of bytes under a table's number and an index, at a slot
@@ -80,9 +76,9 @@ inserted kind d l number index sub bytes =
     if change_kept d l then inserted_kept kind d l number index sub bytes else not_made BadState l  -- 13
 
 -- the mark of an entry that is there; 0 where there is none
-abbrev pub mark_in : Option Entry → ℕ
-mark_in none = 0
-mark_in (some e) = e.mark
+abbrev pub mark_in : maybe.Option Entry → ℕ
+mark_in maybe.none = 0
+mark_in (maybe.some e) = e.mark
 
 -- what is inserted: under its key, "add the slot's bit to the mask", the chunk whole, the id the list's
 abbrev pub new_entry : TableKind → Change → ℕ → ℕ → ℕ → List ℕ → Entry

@@ -1,7 +1,7 @@
 // The change list by value: its id, how many keys it has, and its drops. log.rs lines 355 to 374 and 471 to 478.
 ghost use Rattle.std.specs.Prelude.{◌≡◌, true};
 ghost use Rattle.memory.specs.Parts.{of_kind};
-ghost use Rattle.change.specs.Change.{change_of, new_list, entries_fit, change_ruled, change_fits, change_kept};
+ghost use Rattle.change.specs.Change.{change_of, new_list, entries_fit, change_ruled, keys_fit, change_fits, change_kept};
 
 use super::drops::Drops;
 use super::fits::entries_fit;
@@ -17,7 +17,7 @@ pub struct LogChange {
     pub dropped_ref_count_tables: Drops,
 }
 
-// An answer, with the list as it then is.
+// An answer, with the list as it then is: after a refusal as it was.
 #[derive(Clone, Copy)]
 pub struct Changed {
     pub answer: Answer,
@@ -47,16 +47,9 @@ impl LogChange {
     pub fn ruled(self, words: &[u64], bytes: &[u8]) -> bool
         ensures { result ≡ change_ruled (change_of self words.now bytes.now) }
     {
-        let drops = self.dropped_tables;
-        let count_drops = self.dropped_ref_count_tables;
-        let counts = self.counts;
-        if !memory::all_kept(Holder::List, counts, words, bytes) {
-            return false;
-        }
-        if 16 < drops.count {
-            return false;
-        }
-        count_drops.count <= 16
+        self.dropped_tables.count <= 16
+            && self.dropped_ref_count_tables.count <= 16
+            && memory::all_kept(Holder::List, self.counts, words, bytes)
     }
 
     // Whether the keys of a kind fit the directory.
@@ -65,10 +58,22 @@ impl LogChange {
         ensures { result ≡ entries_fit directory kind (of_kind kind (change_of self words.now bytes.now).parts) }
     {
         let s = memory::span_of(Holder::List, kind);
-        let a = s.words_at;
-        let e = s.words_end;
-        let counts = self.counts;
-        entries_fit(directory, kind, s.room, &words[a..e], counts.of(kind))
+        entries_fit(
+            directory,
+            kind,
+            s.room,
+            &words[s.words_at..s.words_end],
+            self.counts.of(kind),
+        )
+    }
+
+    fn keys_fit(self, directory: Directory, words: &[u64], bytes: &[u8]) -> bool
+        requires { change_ruled (change_of self words.now bytes.now) ≡ true }
+        ensures { result ≡ keys_fit directory (change_of self words.now bytes.now) }
+    {
+        self.kind_fits(directory, TableKind::Index, words, bytes)
+            && self.kind_fits(directory, TableKind::Value, words, bytes)
+            && self.kind_fits(directory, TableKind::RefCount, words, bytes)
     }
 
     // Whether all that is listed fits the directory.
@@ -76,33 +81,17 @@ impl LogChange {
         requires { change_ruled (change_of self words.now bytes.now) ≡ true }
         ensures { result ≡ change_fits directory (change_of self words.now bytes.now) }
     {
-        if !self.kind_fits(directory, TableKind::Index, words, bytes) {
-            return false;
-        }
-        if !self.kind_fits(directory, TableKind::Value, words, bytes) {
-            return false;
-        }
-        if !self.kind_fits(directory, TableKind::RefCount, words, bytes) {
-            return false;
-        }
-        let drops = self.dropped_tables;
-        let count_drops = self.dropped_ref_count_tables;
-        if !drops.fit(directory, TableKind::Index) {
-            return false;
-        }
-        count_drops.fit(directory, TableKind::RefCount)
+        self.keys_fit(directory, words, bytes)
+            && self.dropped_tables.fit(directory, TableKind::Index)
+            && self
+                .dropped_ref_count_tables
+                .fit(directory, TableKind::RefCount)
     }
 
     // Whether directory, list and memories keep their rules; where they don't, a call that is handed them answers 13.
     pub fn kept(self, directory: Directory, words: &[u64], bytes: &[u8]) -> bool
         ensures { result ≡ change_kept directory (change_of self words.now bytes.now) }
     {
-        if !directory.kept() {
-            return false;
-        }
-        if !self.ruled(words, bytes) {
-            return false;
-        }
-        self.fits(directory, words, bytes)
+        directory.kept() && self.ruled(words, bytes) && self.fits(directory, words, bytes)
     }
 }

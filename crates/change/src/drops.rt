@@ -5,7 +5,7 @@ ghost use Rattle.change.specs.Change.{no_drops, drops_fit};
 ghost use Rattle.change.specs.Drop.{drops_with, dropped_in};
 
 use answer::Answer;
-use directory::{Directory, Found, TableKind};
+use directory::{Directory, TableKind};
 
 #[derive(Clone, Copy)]
 pub struct Drops {
@@ -13,20 +13,10 @@ pub struct Drops {
     pub count: usize,
 }
 
-// An answer, with the drops as they then are.
-#[derive(Clone, Copy)]
-pub struct Dropped {
-    pub answer: Answer,
-    pub drops: Drops,
-}
-
 fn is_there(directory: Directory, kind: TableKind, number: u16) -> bool
     ensures { result ≡ stands (tables_of directory) kind number }
 {
-    match directory.find(kind, number) {
-        Found::At(_, _) => true,
-        Found::Nothing => false,
-    }
+    directory.find(kind, number).is_some()
 }
 
 impl Drops {
@@ -44,48 +34,37 @@ impl Drops {
         requires { self.count ≤ 16 }
         ensures { result ≡ drops_fit directory kind self }
     {
-        let n = self.count;
-        let mut i: usize = 0;
-        while i < n {
-            if !is_there(directory, kind, self.tables[i]) {
-                return false;
-            }
-            i += 1;
-        }
-        true
+        self.tables[..self.count]
+            .iter()
+            .all(|number| is_there(directory, kind, *number))
     }
 
     // One more.
-    fn with(self, number: u16) -> Drops
+    fn with(mut self, number: u16) -> Drops
         requires { self.count < 16 }
         ensures { result ≡ drops_with self number }
     {
-        let mut s = self;
-        let n = s.count;
-        s.tables[n] = number;
-        s.count = n + 1;
-        s
+        self.tables[self.count] = number;
+        self.count += 1;
+        self
     }
 
     // 6, 9.
-    pub(crate) fn dropped(self, directory: Directory, kind: TableKind, number: u16) -> Dropped
+    #[tactic(auto, unfolding(crate::specs::Drop::dropped_in))]
+    pub(crate) fn dropped(
+        self,
+        directory: Directory,
+        kind: TableKind,
+        number: u16,
+    ) -> Result<Drops, Answer>
         ensures { result ≡ dropped_in directory kind self number }
     {
         if !is_there(directory, kind, number) {
-            return Dropped {
-                answer: Answer::NoTable,
-                drops: self,
-            };
+            return Err(Answer::NoTable);
         }
         if 16 <= self.count {
-            return Dropped {
-                answer: Answer::NoRoom,
-                drops: self,
-            };
+            return Err(Answer::NoRoom);
         }
-        Dropped {
-            answer: Answer::Done,
-            drops: self.with(number),
-        }
+        Ok(self.with(number))
     }
 }

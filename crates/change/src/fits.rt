@@ -4,34 +4,39 @@ ghost use Rattle.directory.specs.Directory.{find_table};
 ghost use Rattle.overlay.specs.Rules.{keys_ruled, lists_of, rows_of, order_of, overlay_of};
 ghost use Rattle.change.specs.Change.{mark_fits, key_fits, entries_fit};
 
-use directory::{Directory, Found, TableDescription, TableKind};
+use directory::{Directory, TableDescription, TableKind};
 
 fn mark_fits(kind: TableKind, t: TableDescription, mark: u64) -> bool
     ensures { result ≡ mark_fits kind t mark }
 {
     match kind {
-        TableKind::Index => true,
-        TableKind::Value => mark == t.length as u64,
-        TableKind::RefCount => true,
+        TableKind::Index | TableKind::RefCount => true,
+        TableKind::Value => mark == u64::from(t.length),
     }
 }
 
-fn key_fits(kind: TableKind, found: Found, index: u64, mark: u64) -> bool
+fn key_fits(
+    kind: TableKind,
+    found: Option<(usize, TableDescription)>,
+    index: u64,
+    mark: u64,
+) -> bool
     ensures { result ≡ key_fits kind found index mark }
 {
     match found {
-        Found::At(_, t) => {
-            if t.count as u64 <= index {
-                return false;
-            }
-            mark_fits(kind, t, mark)
-        }
-        Found::Nothing => false,
+        Some((_, t)) => index < u64::from(t.count) && mark_fits(kind, t, mark),
+        None => false,
     }
 }
 
 // The table of a number, where the one found last is at hand: keys in order have few changes of the table.
-fn table_after(directory: Directory, kind: TableKind, last: u16, found: Found, table: u16) -> Found
+fn table_after(
+    directory: Directory,
+    kind: TableKind,
+    last: u16,
+    found: Option<(usize, TableDescription)>,
+    table: u16,
+) -> Option<(usize, TableDescription)>
     requires { found ≡ find_table directory kind last }
     ensures { result ≡ find_table directory kind table }
 {
@@ -54,16 +59,14 @@ fn all_fit<'a>(
 {
     let mut last: u16 = 0;
     let mut found = directory.find(kind, last);
-    let mut j: usize = 0;
-    while j < n {
-        let p = order[j] as usize;
+    for place in &order[..n] {
+        let p = *place as usize;
         let table = rows[4 * p] as u16;
         found = table_after(directory, kind, last, found, table);
         last = table;
         if !key_fits(kind, found, rows[4 * p + 1], rows[4 * p + 3]) {
             return false;
         }
-        j += 1;
     }
     true
 }

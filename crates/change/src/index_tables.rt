@@ -74,12 +74,15 @@ impl LogChange {
         ensures { made_of result words.now bytes.now
             ≡ table_dropped_kept directory (change_of self words.now bytes.now) id.0 }
     {
-        let drops = self.dropped_tables;
-        let d = drops.dropped(directory, Index, id.0);
-        let mut list = self;
-        let now = d.drops;
-        list.dropped_tables = now;
-        let answer = d.answer;
-        Changed { answer, list }
+        match self.dropped_tables.dropped(directory, Index, id.0) {
+            Err(answer) => Changed { answer, list: self },
+            Ok(dropped_tables) => Changed {
+                answer: Answer::Done,
+                list: LogChange {
+                    dropped_tables,
+                    ..self
+                },
+            },
+        }
     }
 }

@@ -7,13 +7,13 @@ ghost use Rattle.change.specs.Insert.{made_of, plan_in, inserted_kept, inserted}
 
 use super::change::{Changed, LogChange};
 use super::marks::mark;
-use super::plans::{Plan, plan_for};
+use super::plans::plan_for;
 use answer::Answer;
 use directory::{Directory, TableKind};
 use memory::Holder;
 
 impl LogChange {
-    // What an insert is to do.
+    // The mark that an insert adds to, or why it is refused.
     fn planned(
         self,
         directory: Directory,
@@ -24,21 +24,17 @@ impl LogChange {
         index: u64,
         sub: u8,
         data: &[u8],
-    ) -> Plan
+    ) -> Result<u64, Answer>
         requires { change_kept directory (change_of self words.now bytes.now) ≡ true }
         ensures { result ≡ plan_in kind (of_kind kind (change_of self words.now bytes.now).parts) (find_table directory kind number) number index sub «data».now }
     {
         let s = memory::span_of(Holder::List, kind);
-        let a = s.words_at;
-        let e = s.words_end;
-        let counts = self.counts;
-        let found = directory.find(kind, number);
         plan_for(
             kind,
             s.room,
-            &words[a..e],
-            counts.of(kind),
-            found,
+            &words[s.words_at..s.words_end],
+            self.counts.of(kind),
+            directory.find(kind, number),
             number,
             index,
             sub,
@@ -63,28 +59,23 @@ impl LogChange {
             ≡ inserted_kept kind directory (change_of self words.old bytes.old) number index sub «data».now }
     {
         match self.planned(directory, words, bytes, kind, number, index, sub, data) {
-            Plan::Refuse(answer) => Changed { answer, list: self },
-            Plan::Go(old) => {
-                let m = mark(kind, old, sub, data);
-                let counts = self.counts;
-                let id = self.record_id;
-                let now = memory::put_in(
+            Err(answer) => Changed { answer, list: self },
+            Ok(old) => {
+                let counts = memory::put_in(
                     Holder::List,
                     kind,
-                    counts,
+                    self.counts,
                     words,
                     bytes,
                     number,
                     index,
-                    id,
-                    m,
+                    self.record_id,
+                    mark(kind, old, sub, data),
                     data,
                 );
-                let mut list = self;
-                list.counts = now;
                 Changed {
                     answer: Answer::Done,
-                    list,
+                    list: LogChange { counts, ..self },
                 }
             }
         }

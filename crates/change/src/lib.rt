@@ -15,5 +15,4 @@ mod values;
 
 pub use change::{Changed, LogChange};
 pub use drops::Drops;
-pub use size::Sized;
 pub use values::LocalValues;

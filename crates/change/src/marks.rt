@@ -9,8 +9,7 @@ fn with_bit(mask: u64, sub: u8) -> u64
     requires { sub < 64 }
     ensures { result ≡ bit_or mask (2 ^ sub) }
 {
-    let s = sub as u64;
-    mask | (1u64 << s)
+    mask | (1u64 << sub)
 }
 
 pub(crate) fn mark(kind: TableKind, old: u64, sub: u8, data: &[u8]) -> u64
@@ -18,8 +17,7 @@ pub(crate) fn mark(kind: TableKind, old: u64, sub: u8, data: &[u8]) -> u64
     ensures { result ≡ mark_of kind old sub «data».now }
 {
     match kind {
-        TableKind::Index => with_bit(old, sub),
+        TableKind::Index | TableKind::RefCount => with_bit(old, sub),
         TableKind::Value => data.len() as u64,
-        TableKind::RefCount => with_bit(old, sub),
     }
 }

@@ -74,12 +74,18 @@ impl LogChange {
         ensures { made_of result words.now bytes.now
             ≡ count_table_dropped_kept directory (change_of self words.now bytes.now) id.0 }
     {
-        let drops = self.dropped_ref_count_tables;
-        let d = drops.dropped(directory, RefCount, id.0);
-        let mut list = self;
-        let now = d.drops;
-        list.dropped_ref_count_tables = now;
-        let answer = d.answer;
-        Changed { answer, list }
+        match self
+            .dropped_ref_count_tables
+            .dropped(directory, RefCount, id.0)
+        {
+            Err(answer) => Changed { answer, list: self },
+            Ok(dropped_ref_count_tables) => Changed {
+                answer: Answer::Done,
+                list: LogChange {
+                    dropped_ref_count_tables,
+                    ..self
+                },
+            },
+        }
     }
 }

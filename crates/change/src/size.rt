@@ -3,18 +3,12 @@ ghost use Rattle.std.specs.Prelude.{◌≡◌, true, [], ◌*◌, ◌≤◌, len
 ghost use Rattle.overlay.specs.Rules.{keys_ruled, mark_ruled, rows_of, order_of, overlay_of, lists_of};
 ghost use Rattle.memory.specs.Parts.{of_kind};
 ghost use Rattle.change.specs.Change.{change_of, change_ruled};
-ghost use Rattle.change.specs.Size.{entry_size, entries_size, sized_kept, sized};
+ghost use Rattle.change.specs.Size.{entry_size, entries_size, record_size, sized};
 
 use super::change::LogChange;
 use answer::Answer;
 use directory::{Directory, TableKind};
 use memory::Holder;
-
-#[derive(Clone, Copy)]
-pub struct Sized {
-    pub answer: Answer,
-    pub length: usize,
-}
 
 // The bounds here say that no sum wraps.
 fn entry_size(kind: TableKind, mark: u64) -> usize
@@ -39,11 +33,9 @@ fn places_size<'a>(
     ensures { (result ≡ entries_size kind (lists_of rows.now order.now [] n)) × (result ≤ 1043 * n) }
 {
     let mut t: usize = 0;
-    let mut i: usize = 0;
-    while i < n {
-        let p = order[i] as usize;
+    for place in &order[..n] {
+        let p = *place as usize;
         t += entry_size(kind, rows[4 * p + 3]);
-        i += 1;
     }
     t
 }
@@ -63,38 +55,37 @@ impl LogChange {
         ensures { (result ≡ entries_size kind (of_kind kind (change_of self words.now bytes.now).parts)) × (result ≤ 33376) }
     {
         let s = memory::span_of(Holder::List, kind);
-        let a = s.words_at;
-        let e = s.words_end;
-        let counts = self.counts;
-        entries_size(kind, s.room, &words[a..e], counts.of(kind))
+        entries_size(
+            kind,
+            s.room,
+            &words[s.words_at..s.words_end],
+            self.counts.of(kind),
+        )
     }
 
     // That of a list that keeps the rules that need no directory.
-    pub fn record_size_kept(self, words: &[u64], bytes: &[u8]) -> Sized
+    pub fn record_size_kept(self, words: &[u64], bytes: &[u8]) -> usize
         requires { change_ruled (change_of self words.now bytes.now) ≡ true }
-        ensures { result ≡ sized_kept (change_of self words.now bytes.now) }
+        ensures { result ≡ record_size (change_of self words.now bytes.now) }
     {
-        let drops = self.dropped_tables;
-        let count_drops = self.dropped_ref_count_tables;
         let a = self.kind_size(TableKind::Index, words, bytes);
         let b = self.kind_size(TableKind::Value, words, bytes);
         let c = self.kind_size(TableKind::RefCount, words, bytes);
-        Sized {
-            answer: Answer::Done,
-            length: 14 + a + b + c + 3 * drops.count + 3 * count_drops.count,
-        }
+        14 + a + b + c + 3 * self.dropped_tables.count + 3 * self.dropped_ref_count_tables.count
     }
 
     // The length of the record that `flush_to_file` would write.
-    pub fn record_size(self, directory: Directory, words: &[u64], bytes: &[u8]) -> Sized
+    pub fn record_size(
+        self,
+        directory: Directory,
+        words: &[u64],
+        bytes: &[u8],
+    ) -> Result<usize, Answer>
         ensures { result ≡ sized directory (change_of self words.now bytes.now) }
     {
         if !self.kept(directory, words, bytes) {
-            return Sized {
-                answer: Answer::BadState,
-                length: 0,
-            };
+            return Err(Answer::BadState);
         }
-        self.record_size_kept(words, bytes)
+        Ok(self.record_size_kept(words, bytes))
     }
 }

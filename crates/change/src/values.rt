@@ -14,7 +14,6 @@ use memory::Holder;
 // Where the values of one table stand: at `from` to `to` of the order, ascending by index.
 #[derive(Clone, Copy)]
 pub struct LocalValues {
-    pub answer: Answer,
     pub from: usize,
     pub to: usize,
 }
@@ -40,29 +39,25 @@ impl LogChange {
         ensures { result ≡ values_of_kept (change_of self words.now bytes.now) id.0 }
     {
         let s = memory::span_of(Holder::List, TableKind::Value);
-        let a = s.words_at;
-        let e = s.words_end;
-        let counts = self.counts;
-        let table = id.0 as u64;
-        let from = spot_of(s.room, &words[a..e], counts.value, table, 0);
-        let to = spot_of(s.room, &words[a..e], counts.value, table + 1, 0);
+        let mine = &words[s.words_at..s.words_end];
+        let table = u64::from(id.0);
         LocalValues {
-            answer: Answer::Done,
-            from,
-            to,
+            from: spot_of(s.room, mine, self.counts.value, table, 0),
+            to: spot_of(s.room, mine, self.counts.value, table + 1, 0),
         }
     }
 
-    pub fn local_values_changes(self, words: &[u64], bytes: &[u8], id: ValueTableId) -> LocalValues
+    pub fn local_values_changes(
+        self,
+        words: &[u64],
+        bytes: &[u8],
+        id: ValueTableId,
+    ) -> Result<LocalValues, Answer>
         ensures { result ≡ values_of (change_of self words.now bytes.now) id.0 }
     {
         if !self.ruled(words, bytes) {
-            return LocalValues {
-                answer: Answer::BadState,
-                from: 0,
-                to: 0,
-            };
+            return Err(Answer::BadState);
         }
-        self.local_values_changes_kept(words, bytes, id)
+        Ok(self.local_values_changes_kept(words, bytes, id))
     }
 }

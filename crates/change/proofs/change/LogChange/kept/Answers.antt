@@ -1,23 +1,26 @@
 -- `LogChange::kept` meets its contract: the directory, the list, and both together. Assumes nothing.
 use mathlib.Core.Path.{sym, ◌∙◌}
-use Rattle.change.specs.Change.{Change, change_of}
+use Rattle.std.proofs.lemmas.Bool.{false≢true}
+use Rattle.change.specs.Change.{change_of}
 use Rattle.change.proofs.Rules.{kept-stops, kept-stops-ruled, kept-goes-on}
 use Rattle.change.proofs.change.LogChange.kept.Goals as goal
-
-pub returns-then-not-kept : goal.returns-then-not-kept
-returns-then-not-kept c =
-    let list : Change = change_of c.args.self c.args.words.now c.args.bytes.now in
-    kept-stops c.args.directory list (sym c.kept.ensures ∙ c.if-not-kept.true)
-
-pub returns-then-not-ruled : goal.returns-then-not-ruled
-returns-then-not-ruled c =
-    let list : Change = change_of c.args.self c.args.words.now c.args.bytes.now in
-    kept-stops-ruled c.args.directory list (sym c.kept.ensures ∙ c.if-not-kept.false) (sym c.ruled.ensures ∙ c.if-not-ruled.true)
+use Rattle.change.proofs.change.LogChange.kept.Goals.{then-kept, else-kept}
 
 pub fits-requires : goal.fits-requires
-fits-requires c = sym c.ruled.ensures ∙ c.if-not-ruled.false
+fits-requires c = elim c.if-kept.branch [ then-kept w ↦ sym w.ruled.ensures ∙ sym w.value-is ∙ c.if-ruled.true | else-kept w ↦ absurd (false≢true (sym w.if-kept.false ∙ sym w.value-is ∙ c.if-ruled.true)) ]
 
-pub returns : goal.returns
-returns c =
-    let list : Change = change_of c.args.self c.args.words.now c.args.bytes.now in
-    kept-goes-on c.args.directory list c.fits.result (sym c.kept.ensures ∙ c.if-not-kept.false) (sym c.ruled.ensures ∙ c.if-not-ruled.false) c.fits.ensures
+pub returns-then-ruled : goal.returns-then-ruled
+returns-then-ruled c =
+    let l = change_of c.args.self c.args.words.now c.args.bytes.now in
+    elim c.if-kept.branch [
+      | then-kept w ↦ kept-goes-on c.args.directory l c.fits.result (sym c.kept.ensures ∙ w.if-kept.true) (sym w.ruled.ensures ∙ sym w.value-is ∙ c.if-ruled.true) c.fits.ensures
+      | else-kept w ↦ absurd (false≢true (sym w.if-kept.false ∙ sym w.value-is ∙ c.if-ruled.true))
+    ]
+
+pub returns-else-ruled : goal.returns-else-ruled
+returns-else-ruled c =
+    let l = change_of c.args.self c.args.words.now c.args.bytes.now in
+    elim c.if-kept.branch [
+      | then-kept w ↦ c.if-ruled.false ∙ kept-stops-ruled c.args.directory l (sym c.kept.ensures ∙ w.if-kept.true) (sym w.ruled.ensures ∙ sym w.value-is ∙ c.if-ruled.false)
+      | else-kept w ↦ w.value-is ∙ w.if-kept.false ∙ kept-stops c.args.directory l (sym c.kept.ensures ∙ w.if-kept.false)
+    ]

@@ -1,5 +1,6 @@
 -- `LogChange::record_size` meets its contract: 13, then as a list that keeps its rules. Assumes nothing.
-use mathlib.Core.Path.{sym, ◌∙◌}
+use mathlib.Core.Path.{sym, ap, ◌∙◌}
+use Rattle.std.specs.Prelude.{Ok}
 use Rattle.words.proofs.Choices.{if_true, if_false}
 use Rattle.change.specs.Change.{change_of, change_kept}
 use Rattle.change.specs.Size.{sized}
@@ -15,4 +16,4 @@ record_size_kept-requires c = kept-ruled c.args.directory (change_of c.args.self
 
 pub returns : goal.returns
 unfolding sized
-returns c = c.record_size_kept.ensures ∙ sym (if_true (change_kept c.args.directory (change_of c.args.self c.args.words.now c.args.bytes.now)) _ _ (sym c.kept.ensures ∙ c.if-not-kept.false))
+returns c = ap Ok c.record_size_kept.ensures ∙ sym (if_true (change_kept c.args.directory (change_of c.args.self c.args.words.now c.args.bytes.now)) _ _ (sym c.kept.ensures ∙ c.if-not-kept.false))

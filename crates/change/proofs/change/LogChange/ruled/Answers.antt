@@ -1,18 +1,13 @@
--- `LogChange::ruled` meets its contract: the three kinds, then the drops. Assumes nothing.
-use mathlib.Core.Path.{refl, sym, ◌∙◌}
-use borrow.Author.Tests.{le-leb, lt-leb}
-use Rattle.change.specs.Change.{change_ruled}
-use Rattle.change.proofs.Rules.{stops, goes_on}
+-- `LogChange::ruled` meets its contract: the drops, then the three kinds. Assumes nothing.
+use native.Mathlib.Omega.{arith}
+use mathlib.Core.Path.{◌∙◌}
+use Rattle.std.proofs.Common.{rules}
+use Rattle.change.specs.Change.{change_of}
+use Rattle.change.proofs.Rules.{ruled-goes, ruled-stops}
 use Rattle.change.proofs.change.LogChange.ruled.Goals as goal
 
-pub returns-then-not-all_kept : goal.returns-then-not-all_kept
-unfolding change_ruled
-returns-then-not-all_kept c = stops _ (sym c.all_kept.ensures ∙ c.if-not-all_kept.true)
+pub returns-then-self-le16-2 : goal.returns-then-self-le16-2
+returns-then-self-le16-2 c = ruled-goes (change_of c.args.self c.args.words.now c.args.bytes.now) _ c.all_kept.ensures c.if-self-le16-2.true.0 c.if-self-le16-2.true.1
 
-pub returns-then-drops-gt16 : goal.returns-then-drops-gt16
-unfolding change_ruled
-returns-then-drops-gt16 c = goes_on (sym c.all_kept.ensures ∙ c.if-not-all_kept.false) (stops _ (lt-leb _ _ c.if-drops-gt16.true))
-
-pub returns : goal.returns
-unfolding change_ruled
-returns c = goes_on (sym c.all_kept.ensures ∙ c.if-not-all_kept.false) (goes_on (le-leb _ _ c.if-drops-gt16.false) refl)
+pub returns-else-self-le16-2 : goal.returns-else-self-le16-2
+returns-else-self-le16-2 c = search rules ∙ ruled-stops (change_of c.args.self c.args.words.now c.args.bytes.now) (λ h k. omega (arith, c.if-self-le16-2.either))
