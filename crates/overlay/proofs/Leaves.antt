@@ -10,8 +10,7 @@ use Rattle.directory.specs.declared.table.TableKind.{TableKind}
 use Rattle.numbers.proofs.Laws.{left-of}
 use Rattle.keys.specs.Keys.{cut_out, rename_all}
 use Rattle.overlay.specs.Rules.{Overlay, slot_size, overlay_kept, lists_of}
-use Rattle.overlay.specs.declared.seat.Leaving.{Leaving}
-use Rattle.overlay.specs.declared.seat.Leaving.TheVariants.{At, Stays}
+use Rattle.std.specs.Prelude.{Option, Some, None}
 use Rattle.overlay.specs.Overlay.{spot_in_of, stands_in, place_in, goes_from, row_moved, slot_moved, freed, removed_from}
 use Rattle.overlay.specs.Inner.{leaving_in}
 use Rattle.overlay.proofs.Ruled.{Kept, shows}
@@ -23,44 +22,44 @@ pub leaving_keys : (rows order bytes : List ℕ) (n k id : ℕ) → leaving_in (
 unfolding leaving_in goes_from place_in stands_in spot_in_of
 leaving_keys rows order bytes n k id = refl
 
-abbrev free_by : TableKind → Overlay → Leaving → Overlay
-free_by kind o (At j p) = freed kind o j p
-free_by kind o Stays = o
+abbrev free_by : TableKind → Overlay → Option (ℕ × ℕ) → Overlay
+free_by kind o (Some (j, p)) = freed kind o j p
+free_by kind o None = o
 
 module _ (kind : TableKind) (o : Overlay) (key id : ℕ) where
   removed-by : removed_from kind o key id ≡ free_by kind o (leaving_in o key id)
   unfolding removed_from leaving_in
   removed-by = by (goes_from o key id)
     where
-      by : (b : Bool) → (if b then freed kind o (spot_in_of o key) (place_in o key) else o) ≡ free_by kind o (if b then At (spot_in_of o key) (place_in o key) else Stays)
+      by : (b : Bool) → (if b then freed kind o (spot_in_of o key) (place_in o key) else o) ≡ free_by kind o (if b then Some (spot_in_of o key, place_in o key) else None)
       by true = refl
       by false = refl
 
-  pub gone-is : (j p : ℕ) → At j p ≡ leaving_in o key id → freed kind o j p ≡ removed_from kind o key id
+  pub gone-is : (j p : ℕ) → Some (j, p) ≡ leaving_in o key id → freed kind o j p ≡ removed_from kind o key id
   gone-is j p e = ap (free_by kind o) e ∙ sym removed-by
 
-  pub left_is : Stays ≡ leaving_in o key id → o ≡ removed_from kind o key id
+  pub left_is : None ≡ leaving_in o key id → o ≡ removed_from kind o key id
   left_is e = ap (free_by kind o) e ∙ sym removed-by
 
   -- the code's stores, as they stand, are the removal
-  pub removal_is : (rows order bytes : List ℕ) (s : ℕ) → s ≡ slot_size kind → (j p : ℕ) → leaving_in o key id ≡ At j p
+  pub removal_is : (rows order bytes : List ℕ) (s : ℕ) → s ≡ slot_size kind → (j p : ℕ) → leaving_in o key id ≡ Some (j, p)
       → rows ≡ row_moved o.rows (o.count - 1) p → order ≡ rename_all (o.count - 1) (o.count - 1) p (cut_out j (o.count - 1) o.order) → bytes ≡ slot_moved s o.bytes (o.count - 1) p
       → lists_of rows order bytes (o.count - 1) ≡ removed_from kind o key id
   unfolding freed
   removal_is rows order bytes s size j p e r d b = rw (r, d, b, size) (gone-is j p (sym e))
 
 -- a place in use, and the position of the order where it stands
-abbrev is_at : Leaving → Bool
-is_at (At j p) = true
-is_at Stays = false
+abbrev is_at : Option (ℕ × ℕ) → Bool
+is_at (Some (j, p)) = true
+is_at None = false
 
-abbrev spot_by : Leaving → ℕ
-spot_by (At j p) = j
-spot_by Stays = 0
+abbrev spot_by : Option (ℕ × ℕ) → ℕ
+spot_by (Some (j, p)) = j
+spot_by None = 0
 
-abbrev place_by : Leaving → ℕ
-place_by (At j p) = p
-place_by Stays = 0
+abbrev place_by : Option (ℕ × ℕ) → ℕ
+place_by (Some (j, p)) = p
+place_by None = 0
 
 module _ (kind : TableKind) (room : ℕ) (o : Overlay) (ok : overlay_kept kind room o ≡ true) (key id : ℕ) where
   k : Kept kind room o
@@ -75,12 +74,12 @@ module _ (kind : TableKind) (room : ℕ) (o : Overlay) (ok : overlay_kept kind r
     pub most : o.count ≤ room
     pub slot : slot_size kind * (o.count - 1) + slot_size kind ≤ length o.bytes
 
-  pub leaves : (j p : ℕ) → leaving_in o key id ≡ At j p → Leaves j p
+  pub leaves : (j p : ℕ) → leaving_in o key id ≡ Some (j, p) → Leaves j p
   unfolding leaving_in goes_from stands_in spot_in_of
   leaves j p e = by (goes_from o key id) refl
     where
-      plan : Bool → Leaving
-      plan b = if b then At (spot_in_of o key) (place_in o key) else Stays
+      plan : Bool → Option (ℕ × ℕ)
+      plan b = if b then Some (spot_in_of o key, place_in o key) else None
 
       by : (b : Bool) → goes_from o key id ≡ b → Leaves j p
       by true h =

@@ -1,6 +1,6 @@
 -- What the search hands to the stores, and the rules as one pass reads them: said only between the functions of this crate and the ones right
 -- above it.
-use Rattle.std.specs.Prelude.{ℕ, ◌*◌, Bool, true, ◌&&◌, List, [], ◌∷◌, ltb, leb, get_or}
+use Rattle.std.specs.Prelude.{ℕ, ◌*◌, Bool, true, ◌&&◌, List, [], ◌∷◌, ltb, leb, get_or, Option, Some, None}
 use Rattle.directory.specs.declared.table.TableKind.{TableKind}
 use Rattle.directory.specs.declared.table.TableKind.TheVariants.{Index, Value, RefCount}
 use Rattle.keys.specs.Keys.{key_at, mark_at}
@@ -9,16 +9,14 @@ use Rattle.overlay.specs.Rules.{Overlay}
 use Rattle.overlay.specs.Overlay.{spot_in_of, stands_in, place_in, goes_from}
 use Rattle.overlay.specs.declared.seat.Seat.{Seat}
 use Rattle.overlay.specs.declared.seat.Seat.TheVariants.{Over, Next}
-use Rattle.overlay.specs.declared.seat.Leaving.{Leaving}
-use Rattle.overlay.specs.declared.seat.Leaving.TheVariants.{At, Stays}
 
 -- where an entry goes: over the one in place p, or into the next place, and that place into the order at j
 unfoldable pub seat_in : Overlay → ℕ → Seat
 seat_in o k = if stands_in o k then Over (get_or o.order (spot_in_of o k) 0) else Next (spot_in_of o k)
 
 -- what leaves: what stands at j of the order, in place p; or nothing
-unfoldable pub leaving_in : Overlay → ℕ → ℕ → Leaving
-leaving_in o k id = if goes_from o k id then At (spot_in_of o k) (place_in o k) else Stays
+unfoldable pub leaving_in : Overlay → ℕ → ℕ → Option (ℕ × ℕ)
+leaving_in o k id = if goes_from o k id then Some (spot_in_of o k, place_in o k) else None
 
 -- the greatest mark of a kind: any word, or a value's length
 abbrev pub most_mark : TableKind → ℕ

@@ -8,12 +8,7 @@ pub fn row_move(rows: &mut [u64], q: usize, p: usize)
     requires { (4 * p + 4 ≤ length rows.old) × (4 * q + 4 ≤ length rows.old) }
     ensures { rows.new ≡ row_moved rows.old q p }
 {
-    let a = 4 * q;
-    let t = rows[a];
-    let x = rows[a + 1];
-    let id = rows[a + 2];
-    let mark = rows[a + 3];
-    keys::row_put(rows, p, t, x, id, mark);
+    rows.copy_within(4 * q..4 * q + 4, 4 * p);
 }
 
 // Slot q over slot p, which is no later. The last place moved into itself costs nothing.
@@ -21,16 +16,8 @@ pub fn slot_move(bytes: &mut [u8], s: usize, q: usize, p: usize)
     requires { (p ≤ q) × (s * q + s ≤ length bytes.old) }
     ensures { bytes.new ≡ slot_moved s bytes.old q p }
 {
-    if p == q {
-        return;
-    }
-    let from = s * q;
-    let to = s * p;
-    let mut i: usize = 0;
-    while i < s {
-        let v = bytes[from + i];
-        bytes[to + i] = v;
-        i += 1;
+    if p != q {
+        bytes.copy_within(s * q..s * q + s, s * p);
     }
 }
 

@@ -6,7 +6,7 @@ ghost use Rattle.overlay.specs.Overlay.{row_moved, removed_from};
 
 use super::place::{order_move, row_move, slot_move};
 use super::rules::slot_size;
-use super::seat::{Leaving, leaving_of};
+use super::seat::leaving_of;
 use directory::TableKind;
 
 // The last row over row p, in the first part of the words.
@@ -15,8 +15,7 @@ fn row_leave(room: usize, words: &mut [u64], last: usize, p: usize)
     ensures { (rows_of room words.new ≡ row_moved (rows_of room words.old) last p)
         × (order_of room words.new ≡ order_of room words.old) }
 {
-    let cut = 4 * room;
-    row_move(&mut words[..cut], last, p);
+    row_move(&mut words[..4 * room], last, p);
 }
 
 // What stands at j taken out, and the last place named p, in the second part of the words.
@@ -25,8 +24,7 @@ fn order_leave(room: usize, words: &mut [u64], j: usize, last: usize, p: usize)
     ensures { (rows_of room words.new ≡ rows_of room words.old)
         × (order_of room words.new ≡ rename_all last last p (cut_out j last (order_of room words.old))) }
 {
-    let cut = 4 * room;
-    order_move(&mut words[cut..], j, last, p);
+    order_move(&mut words[4 * room..], j, last, p);
 }
 
 // Takes the entry of the key out if its id is the one given; hands back how many are left.
@@ -45,8 +43,8 @@ pub fn remove(
         ≡ removed_from kind (overlay_of room words.old bytes.old n) (rank table index) id }
 {
     match leaving_of(room, words, n, table as u64, index, id) {
-        Leaving::Stays => n,
-        Leaving::At(j, p) => {
+        None => n,
+        Some((j, p)) => {
             let last = n - 1;
             order_leave(room, words, j, last, p);
             row_leave(room, words, last, p);

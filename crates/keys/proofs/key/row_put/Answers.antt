@@ -1,16 +1,10 @@
--- `keys::row_put` meets its contract: four stores. Assumes nothing.
-use native.Mathlib.Omega.{arith}
-use lib.ListN.{length-set}
+-- `row_put` meets its contract. Assumes nothing.
+use Rattle.std.proofs.Common.{◌+◌, ◌-◌, ◌*◌, ap, ◌∙◌, List, ℕ}
+use borrow.Rule.Slice.PartMut.{put_mid}
+use Rattle.keys.proofs.Rows.{row-set}
 use Rattle.keys.proofs.key.row_put.Goals as goal
 
-pub bounds-rows-a-2 : goal.bounds-rows-a-2
-bounds-rows-a-2 c = rw length-set (omega arith)
-
-pub bounds-rows-a-3 : goal.bounds-rows-a-3
-bounds-rows-a-3 c = simp length-set (omega arith)
-
-pub bounds-rows-a-4 : goal.bounds-rows-a-4
-bounds-rows-a-4 c = simp length-set (omega arith)
-
-pub shape_of-rows : goal.shape_of-rows
-shape_of-rows c = simp length-set
+pub returns : goal.returns
+returns c =
+    let a = c.args in
+    ap (λ (l : List ℕ). put_mid (4 * a.p) (4 * a.p + 4 - 4 * a.p) a.rows.now l) c.copy_from_slice.ensures.after ∙ row-set a.rows.now a.p a.t a.x a.id a.mark c.requires

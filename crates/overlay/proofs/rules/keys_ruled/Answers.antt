@@ -1,10 +1,13 @@
 -- `keys_ruled` meets its contract: the first place, then those that follow it. Assumes nothing.
-use mathlib.Core.Path.{sym, ◌∙◌}
-use native.Mathlib.Omega.{arith}
+use Rattle.std.proofs.Common.{◌≡◌, ◌∙◌, sym, ap, arith, true, false, get_or}
 use borrow.Author.Tests.{lt-leb, lt-ltb, le-ltb}
+use Rattle.std.proofs.lemmas.Slice.{between_is}
+use Rattle.keys.specs.Keys.{key_at}
 use Rattle.overlay.specs.Rules.{keys_ruled}
+use Rattle.overlay.specs.Inner.{followed}
 use Rattle.overlay.proofs.Pass.{ruled-none, ruled-by}
 use Rattle.overlay.proofs.rules.keys_ruled.Goals as goal
+use Rattle.overlay.proofs.rules.keys_ruled.Goals.{then-p-n, else-p-n}
 
 pub returns-then-room-n : goal.returns-then-room-n
 unfolding keys_ruled
@@ -15,24 +18,29 @@ returns-then-n-eq0 c =
     let a = c.args in
     sym (ruled-none a.kind a.rows.now (λ i. omega (arith, c.type_inv.rows i)) a.room a.order.now a.n c.if-n-eq0.true)
 
-pub returns-then-n-p : goal.returns-then-n-p
-returns-then-n-p c =
+pub returns-then-within : goal.returns-then-within
+returns-then-within c =
     let a = c.args in
-    sym (ruled-by a.kind a.rows.now (λ i. omega (arith, c.type_inv.rows i)) a.room a.order.now a.n (omega arith) (omega arith) (omega arith) c.most_mark-most.result c.most_mark-most.ensures
-    ∙ rw (le-ltb _ _ c.if-n-p.true))
+    let r = a.rows.now in
+    let o = a.order.now in
+    let most = c.most_mark-most.result in
+    let whole = ruled-by a.kind r (λ i. omega (arith, c.type_inv.rows i)) a.room o a.n (omega arith) (omega arith) (omega arith) most c.most_mark-most.ensures in
+    elim c.if-p-n.branch [
+      | then-p-n w ↦
+          c.rows_follow.ensures
+          ∙ ap (followed most r a.n (key_at r (get_or o 0 0))) (between_is o 1 a.n)
+          ∙ sym (whole ∙ rw (lt-ltb _ _ w.if-p-n.true, sym w.within.ensures ∙ sym w.value-is ∙ c.if-within.true))
+      | else-p-n w ↦ let z : true ≡ false = sym c.if-within.true ∙ w.value-is ∙ le-ltb _ _ w.if-p-n.false in cc
+    ]
 
-pub returns-then-not-within : goal.returns-then-not-within
-returns-then-not-within c =
+pub returns-else-within : goal.returns-else-within
+returns-else-within c =
     let a = c.args in
-    sym (ruled-by a.kind a.rows.now (λ i. omega (arith, c.type_inv.rows i)) a.room a.order.now a.n (omega arith) (omega arith) (omega arith) c.most_mark-most.result c.most_mark-most.ensures
-    ∙ rw (lt-ltb _ _ c.if-n-p.false, sym c.within.ensures ∙ c.if-not-within.true))
-
-pub rows_follow-requires : goal.rows_follow-requires
-rows_follow-requires c = (omega arith, omega arith, omega arith, omega arith)
-
-pub returns : goal.returns
-returns c =
-    let a = c.args in
-    c.rows_follow.ensures
-    ∙ sym (ruled-by a.kind a.rows.now (λ i. omega (arith, c.type_inv.rows i)) a.room a.order.now a.n (omega arith) (omega arith) (omega arith) c.most_mark-most.result c.most_mark-most.ensures
-    ∙ rw (lt-ltb _ _ c.if-n-p.false, sym c.within.ensures ∙ c.if-not-within.false))
+    let r = a.rows.now in
+    let o = a.order.now in
+    let most = c.most_mark-most.result in
+    let whole = ruled-by a.kind r (λ i. omega (arith, c.type_inv.rows i)) a.room o a.n (omega arith) (omega arith) (omega arith) most c.most_mark-most.ensures in
+    elim c.if-p-n.branch [
+      | then-p-n w ↦ c.if-within.false ∙ sym (whole ∙ rw (lt-ltb _ _ w.if-p-n.true, sym w.within.ensures ∙ sym w.value-is ∙ c.if-within.false))
+      | else-p-n w ↦ c.if-within.false ∙ sym (whole ∙ rw (le-ltb _ _ w.if-p-n.false))
+    ]

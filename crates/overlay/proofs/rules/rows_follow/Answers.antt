@@ -1,64 +1,65 @@
--- `rows_follow` meets its contract. The invariant: the places from j on follow the key at hand exactly if all behind the first follow its key.
+-- `rows_follow` meets its contract. The invariant: the places from here on follow the key at hand exactly if all follow the first one's.
 -- Assumes nothing.
-use Prim.Native.Nat.{ℕ, ◌+◌, ◌-◌, ◌*◌}
-use mathlib.Core.Path.{refl, sym, ap, ◌∙◌}
-use native.Mathlib.Omega.{arith}
-use lib.ListN.{get_or, take, drop}
-use Rattle.keys.specs.Keys.{rank}
-use Rattle.overlay.specs.Inner.{followed}
-use Rattle.overlay.proofs.Pass.{no_place, no_row, no-rise, rises-on, all-passed}
+use Rattle.std.proofs.Common.{rules, arith, ◌≡◌, ◌≤◌, ◌∙◌, ◌*◌, ◌+◌, sym, ap, true, false, ltb, get_or, drop}
+use lib.ListN.{drop_of_length-le}
+use Rattle.keys.specs.Keys.{key_at, mark_at, rank_of}
+use Rattle.keys.specs.declared.key.Key.{Key}
+use Rattle.overlay.specs.Inner.{is_within, followed}
+use Rattle.overlay.proofs.Pass.{no_place, no_row, no-rise, rises-on}
 use Rattle.overlay.proofs.rules.rows_follow.Goals as goal
+use Rattle.overlay.proofs.rules.rows_follow.Goals.{then-not-within-via-then-not-within, then-not-within-via-else-not-within+then-le}
 
-pub loop-j-init : goal.loop-j-init
-loop-j-init c = (omega arith, omega arith, omega (arith, c.type_inv.rows (4 * c.args.first + 1)), refl)
+pub loop-q-init : goal.loop-q-init
+loop-q-init c =
+    let a = c.args in
+    record {
+      fits = omega (arith, ap (λ (x : Key). x.index) c.key_in-last.ensures, c.type_inv.rows (4 * a.first + 1));
+      rest = ap (λ (x : Key). followed a.most a.rows.now a.n (rank_of x) a.rest.now) c.key_in-last.ensures;
+    }
 
 pub returns-then-n-q : goal.returns-then-n-q
 returns-then-n-q c =
     let a = c.args in
-    let l = c.loop-j in
-    sym (no_place a.most a.rows.now a.order.now a.n (rank l.t l.x) l.j (omega arith) (omega arith) c.if-n-q.true) ∙ l.invariant.3
+    let l = c.loop-q in
+    sym (no_place a.most a.rows.now a.rest.now a.n (rank_of l.last) l.q-index (omega arith) (omega arith)) ∙ l.invariant.rest
 
 pub returns-then-not-within : goal.returns-then-not-within
 returns-then-not-within c =
     let a = c.args in
-    let l = c.loop-j in
-    sym (no_row a.most a.rows.now a.order.now a.n (rank l.t l.x) l.j (omega arith) (omega arith) c.if-n-q.false (sym c.within.ensures ∙ c.if-not-within.true)) ∙ l.invariant.3
+    let l = c.loop-q in
+    let r = a.rows.now in
+    let p = get_or a.rest.now l.q-index 0 in
+    let tested : is_within a.most (get_or r (4 * p) 0) (mark_at r p) ≡ c.within.result = ap (λ (x : Key). is_within a.most x.table (mark_at r p)) (sym c.key_in-key.ensures) ∙ sym c.within.ensures in
+    elim c.then-not-within.branch [
+      | then-not-within-via-then-not-within w ↦
+          sym (no_row a.most r a.rest.now a.n (rank_of l.last) l.q-index (omega arith) (omega arith) (tested ∙ w.if-not-within.true)) ∙ l.invariant.rest
+      | then-not-within-via-else-not-within+then-le w ↦
+          let b : ltb (rank_of l.last) (rank_of c.key_in-key.result) ≡ false = search rules in
+          let k : ltb (rank_of l.last) (key_at r p) ≡ false = ap (λ (x : Key). ltb (rank_of l.last) (rank_of x)) (sym c.key_in-key.ensures) ∙ b in
+          sym (no-rise a.most r a.rest.now a.n (rank_of l.last) l.q-index (omega arith) (omega arith) (tested ∙ w.if-not-within.false) k) ∙ l.invariant.rest
+    ]
 
-pub returns-then-y-x : goal.returns-then-y-x
-returns-then-y-x c =
+pub loop-q-preserved : goal.loop-q-preserved
+loop-q-preserved c =
     let a = c.args in
-    let l = c.loop-j in
-    sym (no-rise a.most a.rows.now a.order.now a.n (rank l.t l.x) l.j (omega arith) (omega arith) c.if-n-q.false (sym c.within.ensures ∙ c.if-not-within.false) (omega arith)) ∙ l.invariant.3
-
-pub loop-j-preserved-then-u-t : goal.loop-j-preserved-then-u-t
-loop-j-preserved-then-u-t c =
-    let a = c.args in
-    let l = c.loop-j in (
-      omega arith,
-      omega arith,
-      omega (arith, c.type_inv.rows (4 * get_or a.order.now l.j 0 + 1)),
-      ap (λ (u : ℕ). followed a.most a.rows.now a.n (rank u (get_or a.rows.now (4 * get_or a.order.now l.j 0 + 1) 0)) (drop (l.j + 1) (take a.n a.order.now))) (sym c.if-u-t.true)
-          ∙ sym (rises-on a.most a.rows.now a.order.now a.n (rank l.t l.x) l.j (omega arith) (omega arith) c.if-n-q.false (sym c.within.ensures ∙ c.if-not-within.false) (omega arith)) ∙ l.invariant.3,
-    )
-
-pub returns-then-u-t-2 : goal.returns-then-u-t-2
-returns-then-u-t-2 c =
-    let a = c.args in
-    let l = c.loop-j in
-    sym (no-rise a.most a.rows.now a.order.now a.n (rank l.t l.x) l.j (omega arith) (omega arith) c.if-n-q.false (sym c.within.ensures ∙ c.if-not-within.false) (omega (arith, c.type_inv.rows (4 * get_or a.order.now l.j 0 + 1)))) ∙ l.invariant.3
-
-pub loop-j-preserved : goal.loop-j-preserved
-loop-j-preserved c =
-    let a = c.args in
-    let l = c.loop-j in (
-      omega arith,
-      omega arith,
-      omega (arith, c.type_inv.rows (4 * get_or a.order.now l.j 0 + 1)),
-      sym (rises-on a.most a.rows.now a.order.now a.n (rank l.t l.x) l.j (omega arith) (omega arith) c.if-n-q.false (sym c.within.ensures ∙ c.if-not-within.false) (omega (arith, c.if-u-t.false))) ∙ l.invariant.3,
-    )
+    let l = c.loop-q in
+    let r = a.rows.now in
+    let p = get_or a.rest.now l.q-index 0 in
+    let e = c.key_in-key.ensures in
+    let tested : is_within a.most (get_or r (4 * p) 0) (mark_at r p) ≡ c.within.result = ap (λ (x : Key). is_within a.most x.table (mark_at r p)) (sym e) ∙ sym c.within.ensures in
+    let g : c.key_in-key.result.index ≤ 18446744073709551615 = omega (arith, ap (λ (x : Key). x.index) e, c.type_inv.rows (4 * p + 1)) in
+    let b : ltb (rank_of l.last) (rank_of c.key_in-key.result) ≡ true = search rules in
+    let k : ltb (rank_of l.last) (key_at r p) ≡ true = ap (λ (x : Key). ltb (rank_of l.last) (rank_of x)) (sym e) ∙ b in
+    record {
+      fits = g;
+      rest =
+          ap (λ (x : Key). followed a.most r a.n (rank_of x) (drop (l.q-index + 1) a.rest.now)) e
+          ∙ sym (rises-on a.most r a.rest.now a.n (rank_of l.last) l.q-index (omega arith) (omega arith) (tested ∙ c.if-not-within.false) k)
+          ∙ l.invariant.rest;
+    }
 
 pub returns : goal.returns
 returns c =
     let a = c.args in
-    let l = c.loop-j in
-    sym (all-passed a.most a.rows.now a.order.now a.n (rank l.t l.x) l.j (omega arith) c.loop-j-test.false) ∙ l.invariant.3
+    let l = c.loop-q in
+    ap (followed a.most a.rows.now a.n (rank_of l.last)) (sym (drop_of_length-le a.rest.now {i = l.q-index} (omega arith))) ∙ l.invariant.rest

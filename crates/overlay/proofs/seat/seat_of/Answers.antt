@@ -1,27 +1,17 @@
--- `seat_of` meets its contract: both parts of the words lent at once. Assumes nothing.
-use mathlib.Core.Path.{sym, ap, ◌∙◌}
-use mathlib.Core.List.{List, []}
-use Prim.Native.Nat.{ℕ, ◌*◌}
-use native.Mathlib.Omega.{arith}
+-- `seat_of` meets its contract. Assumes nothing.
+use Rattle.std.proofs.Common.{◌∙◌, [], sym, arith}
 use Rattle.keys.specs.Keys.{rank}
-use Rattle.overlay.specs.Rules.{lists_of, rows_of}
-use Rattle.overlay.specs.Inner.{seat_in}
-use Rattle.overlay.proofs.Parts.{rest_part, rows_long, order-long}
+use Rattle.overlay.specs.Rules.{overlay_of}
+use Rattle.overlay.proofs.Parts.{order-long}
+use Rattle.overlay.proofs.Plan.{over-lent, next-lent}
 use Rattle.overlay.proofs.seat.seat_of.Goals as goal
 
-pub slice_bounds-seat_in-end : goal.slice_bounds-seat_in-end
-slice_bounds-seat_in-end c = sym (rows_long c.args.room c.args.words.now c.requires.0)
-
-pub seat_in-requires : goal.seat_in-requires
-seat_in-requires c =
+pub returns-then-stands : goal.returns-then-stands
+returns-then-stands c =
     let a = c.args in
-    let e = rest_part (4 * a.room) a.words.now in (
-      omega (arith, rows_long a.room a.words.now c.requires.0, c.requires.1),
-      rw e (omega (arith, order-long a.room a.words.now c.requires.0, c.requires.1)),
-      rw e c.requires.2,
-    )
+    over-lent c.keys_in-keys.result (overlay_of a.room a.words.now [] a.n) (omega (arith, order-long a.room a.words.now c.requires.0)) c.keys_in-keys.ensures.rows c.keys_in-keys.ensures.order (rank a.t a.index) c.place-j.result c.place-j.ensures (sym c.stands.ensures.value ∙ c.if-stands.true)
 
-pub returns : goal.returns
-returns c =
+pub returns-else-stands : goal.returns-else-stands
+returns-else-stands c =
     let a = c.args in
-    c.seat_in.ensures ∙ ap (λ (o : List ℕ). seat_in (lists_of (rows_of a.room a.words.now) o [] a.n) (rank a.t a.index)) (rest_part (4 * a.room) a.words.now)
+    next-lent c.keys_in-keys.result (overlay_of a.room a.words.now [] a.n) (omega (arith, order-long a.room a.words.now c.requires.0)) c.keys_in-keys.ensures.rows c.keys_in-keys.ensures.order (rank a.t a.index) c.place-j.result c.place-j.ensures (sym c.stands.ensures.value ∙ c.if-stands.false)
