@@ -9,6 +9,7 @@ ghost use Rattle.change.specs.Values.{values_of_kept, values_of};
 use super::change::LogChange;
 use answer::Answer;
 use directory::{TableKind, ValueTableId};
+use keys::Key;
 use memory::Holder;
 
 // Where the values of one table stand: at `from` to `to` of the order, ascending by index.
@@ -23,8 +24,7 @@ fn spot_of(room: usize, words: &[u64], n: usize, t: u64, index: u64) -> usize
     requires { (length words.now ≡ 5 * room) × (n ≤ room) × (ruled (rows_of room words.now) (order_of room words.now) n ≡ true) }
     ensures { result ≡ spot_in_of (overlay_of room words.now [] n) (rank t index) }
 {
-    let cut = 4 * room;
-    keys::place(&words[..cut], &words[cut..], n, t, index)
+    overlay::keys_in(room, words, n).place(Key { table: t, index })
 }
 
 impl LogChange {
