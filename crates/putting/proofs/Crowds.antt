@@ -5,13 +5,15 @@ use mathlib.Core.List.{List, []}
 use Prim.Native.Nat.{ℕ, ◌+◌, ◌-◌, ◌*◌, ◌≤◌}
 use native.Mathlib.Omega.{arith}
 use lib.Dec.{ltb}
-use lib.ListN.{length, take, drop}
+use lib.ListN.{take}
 use Rattle.directory.specs.declared.table.TableKind.{TableKind}
 use Rattle.directory.specs.declared.table.TableKind.TheVariants.{Index, Value, RefCount}
 use Rattle.keys.specs.Keys.{keys_of, news}
+use Rattle.keys.specs.Lent.{keys_in}
+use Rattle.keys.specs.declared.ordered.Keys.{Keys}
+use Rattle.keys.proofs.Lent.{keys_in-taken}
 use Rattle.keys.proofs.Rank.{ltb_same}
 use Rattle.overlay.specs.Rules.{Overlay, rows_of, order_of, overlay_of}
-use Rattle.overlay.proofs.Parts.{rest_part}
 use Rattle.overlay.proofs.Ruled.{keys-room}
 use Rattle.memory.specs.Parts.{Parts, span_of, count_of, part_of, of_kind}
 use Rattle.memory.specs.declared.counts.Counts.{Counts}
@@ -22,13 +24,14 @@ use Rattle.putting.specs.Listed.{keys_held, passes, crowded}
 use Rattle.putting.specs.Inner.{KeysIn}
 use Rattle.memory.proofs.OneKind.{shared_room}
 
--- the two parts of each, lent at once
-pub lacking_as : (room : ℕ) (words : List ℕ) (n list-room : ℕ) (listed : List ℕ) (m : ℕ)
-    → news (keys_of (rows_of room words) (take (length words - 4 * room) (drop (4 * room) words)) n) (keys_of (rows_of list-room listed) (take (length listed - 4 * list-room) (drop (4 * list-room) listed)) m)
-    ≡ news (keys_held (overlay_of room words [] n)) (keys_held (overlay_of list-room listed [] m))
-lacking_as room words n list-room listed m =
-    ap (λ (o : List ℕ). news (keys_of (rows_of room words) o n) (keys_of (rows_of list-room listed) (take (length listed - 4 * list-room) (drop (4 * list-room) listed)) m)) (rest_part (4 * room) words)
-    ∙ ap (λ (o : List ℕ). news (keys_of (rows_of room words) (order_of room words) n) (keys_of (rows_of list-room listed) o m)) (rest_part (4 * list-room) listed)
+-- the keys of each, lent
+pub lacking_as : (s l : Keys) (room : ℕ) (words : List ℕ) (n list-room : ℕ) (listed : List ℕ) (m : ℕ)
+    → s.rows.now ≡ rows_of room words → s.order.now ≡ take n (order_of room words) → l.rows.now ≡ rows_of list-room listed → l.order.now ≡ take m (order_of list-room listed)
+    → news (keys_in s) (keys_in l) ≡ news (keys_held (overlay_of room words [] n)) (keys_held (overlay_of list-room listed [] m))
+lacking_as s l room words n list-room listed m r o r' o' =
+    let e : keys_in s ≡ keys_of (rows_of room words) (order_of room words) n = keys_in-taken s (rows_of room words) (order_of room words) n r o in
+    let f : keys_in l ≡ keys_of (rows_of list-room listed) (order_of list-room listed) m = keys_in-taken l (rows_of list-room listed) (order_of list-room listed) m r' o' in
+    rw (e, f)
 
 -- counted without a sum that could be too large
 passes_as : (n x y : ℕ) → x ≡ y → n ≤ 256 → ltb (256 - n) x ≡ ltb 256 (n + y)

@@ -1,12 +1,11 @@
 -- What a list's entries do to the shared overlays and to the last ids at the end of a record (document 01, "Change lists and overlays"; log.rs
 -- lines 870 to 886).
-use Rattle.std.specs.Prelude.{Bool, ◌||◌, List, [], ◌∷◌, map, ℕ, ◌+◌, ◌*◌, ltb, get_or, take, drop, set}
+use Rattle.std.specs.Prelude.{Bool, ◌||◌, List, [], ◌∷◌, map, ℕ, ◌+◌, ◌*◌, ltb, get_or, take, drop, set, Option, Some, None}
 use Rattle.directory.specs.Directory.{find_table}
 use Rattle.directory.specs.declared.table.TableKind.{TableKind}
 use Rattle.directory.specs.declared.table.TableKind.TheVariants.{Index, Value, RefCount}
 use Rattle.directory.specs.declared.directory.Directory.{Directory}
-use Rattle.directory.specs.declared.directory.Found.{Found}
-use Rattle.directory.specs.declared.directory.Found.TheVariants.{At, Nothing}
+use Rattle.directory.specs.declared.table.TableDescription.{TableDescription}
 use Rattle.keys.specs.Keys.{key_at, mark_at, keys_of, news}
 use Rattle.overlay.specs.Rules.{Overlay, slot_size, stored_length}
 use Rattle.overlay.specs.Overlay.{put_over}
@@ -62,9 +61,9 @@ abbrev pub listed_entries : TableKind → ℕ → Overlay → List Entry
 listed_entries kind id list = map (listed_entry kind id list) (take list.count list.order)
 
 -- the column of a value table
-abbrev pub column_of : Found → ℕ
-column_of (At row t) = t.column
-column_of Nothing = 8
+abbrev pub column_of : Option (ℕ × TableDescription) → ℕ
+column_of (Some (row, t)) = t.column
+column_of None = 8
 
 -- "Only values set the column's last id." (line 879). Of a list that fits the directory each table is found; there is no column 8
 unfoldable pub last_ids_by : Directory → ℕ → List ℕ → List ℕ → List ℕ → List ℕ

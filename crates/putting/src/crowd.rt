@@ -12,28 +12,20 @@ use directory::TableKind;
 use memory::{Counts, Holder};
 
 // How many listed keys the shared ones lack: parts of one kind, each of its room.
-fn lacking<'a>(
+fn lacking(
     room: usize,
-    words: &'a [u64],
+    words: &[u64],
     n: usize,
     list_room: usize,
-    listed: &'a [u64],
+    listed: &[u64],
     m: usize,
 ) -> usize
     requires words_len { (length words.now ≡ 5 * room) × (n ≤ room) × (ruled (rows_of room words.now) (order_of room words.now) n ≡ true) }
     requires listed_len { (length listed.now ≡ 5 * list_room) × (m ≤ list_room) × (ruled (rows_of list_room listed.now) (order_of list_room listed.now) m ≡ true) }
     ensures { result ≡ news (keys_held (overlay_of room words.now [] n)) (keys_held (overlay_of list_room listed.now [] m)) }
 {
-    let cut = 4 * room;
-    let list_cut = 4 * list_room;
-    keys::lacking(
-        &words[..cut],
-        &words[cut..],
-        n,
-        &listed[..list_cut],
-        &listed[list_cut..],
-        m,
-    )
+    let shared = overlay::keys_in(room, words, n);
+    shared.lacking(overlay::keys_in(list_room, listed, m))
 }
 
 fn kind_crowded<'a>(

@@ -8,15 +8,15 @@ ghost use Rattle.memory.specs.declared.span.Holder.TheVariants.{List};
 ghost use Rattle.putting.specs.Listed.{column_of, last_ids_put};
 ghost use Rattle.putting.specs.Inner.{KeysIn, with_last_ids};
 
-use directory::{Directory, Found, TableKind};
+use directory::{Directory, TableKind};
 use memory::{Counts, Holder, LogOverlays};
 
 fn column_of(directory: Directory, table: u16) -> u8
     ensures { result ≡ column_of (find_table directory Value table) }
 {
     match directory.find(TableKind::Value, table) {
-        Found::At(_, t) => t.column,
-        Found::Nothing => 8,
+        Some((_, t)) => t.column,
+        None => 8,
     }
 }
 
