@@ -18,12 +18,9 @@ pub(crate) fn put_drops(out: &mut [u8], at: usize, tag: Tag, s: Drops) -> usize
     requires { (s.count ≤ 16) × (at + length (drops_bytes tag.0 s) ≤ length out.old) }
     ensures { Wrote out.old at (drops_bytes tag.0 s) out.new result }
 {
-    let n = s.count;
     let mut o = at;
-    let mut i: usize = 0;
-    while i < n {
-        o = put_drop(out, o, tag, s.tables[i]);
-        i += 1;
+    for table in &s.tables[..s.count] {
+        o = put_drop(out, o, tag, *table);
     }
     o
 }

@@ -46,8 +46,7 @@ fn put_entry(
     requires { (unit_of kind mark ≤ length bytes.now) × (at + length (entry_bytes kind table index mark bytes.now) ≤ length out.old) }
     ensures { Wrote out.old at (entry_bytes kind table index mark bytes.now) out.new result }
 {
-    let tag = insert_tag(kind);
-    let a = output::put_u8(out, at, tag.0);
+    let a = output::put_u8(out, at, insert_tag(kind).0);
     let b = output::put_u16(out, a, table);
     let c = output::put_u64(out, b, index);
     put_payload(out, c, kind, mark, bytes)

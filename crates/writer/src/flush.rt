@@ -9,7 +9,7 @@ ghost use Rattle.writer.specs.Inner.{inserts_of, changes_of};
 use super::drops::put_drops;
 use super::kinds::put_kind;
 use answer::{Answer, Tag};
-use change::{LogChange, Sized};
+use change::LogChange;
 use directory::{Directory, TableKind};
 
 // From the begin tag to the last reference count.
@@ -18,8 +18,7 @@ fn put_inserts(out: &mut [u8], list: LogChange, words: &[u64], bytes: &[u8]) -> 
     ensures { Wrote out.old 0 (inserts_of (change_of list words.now bytes.now)) out.new result }
 {
     let counts = list.counts;
-    let tag = Tag::BEGIN_RECORD;
-    let a = output::put_u8(out, 0, tag.0);
+    let a = output::put_u8(out, 0, Tag::BEGIN_RECORD.0);
     let b = output::put_u64(out, a, list.record_id);
     let c = put_kind(out, b, TableKind::Index, counts, words, bytes);
     let d = put_kind(out, c, TableKind::Value, counts, words, bytes);
@@ -31,11 +30,14 @@ fn put_changes(out: &mut [u8], list: LogChange, words: &[u64], bytes: &[u8]) -> 
     requires { (change_ruled (change_of list words.now bytes.now) ≡ true) × (length (changes_of (change_of list words.now bytes.now)) ≤ length out.old) }
     ensures { Wrote out.old 0 (changes_of (change_of list words.now bytes.now)) out.new result }
 {
-    let drops = list.dropped_tables;
-    let count_drops = list.dropped_ref_count_tables;
     let a = put_inserts(out, list, words, bytes);
-    let b = put_drops(out, a, Tag::DROP_TABLE, drops);
-    put_drops(out, b, Tag::DROP_REF_COUNT_TABLE, count_drops)
+    let b = put_drops(out, a, Tag::DROP_TABLE, list.dropped_tables);
+    put_drops(
+        out,
+        b,
+        Tag::DROP_REF_COUNT_TABLE,
+        list.dropped_ref_count_tables,
+    )
 }
 
 // The checksum is taken once, over all that was written.
@@ -43,44 +45,42 @@ fn put_record(out: &mut [u8], list: LogChange, words: &[u64], bytes: &[u8])
     requires { (change_ruled (change_of list words.now bytes.now) ≡ true) × (length (record_of (change_of list words.now bytes.now)) ≤ length out.old) }
     ensures { out.new ≡ put out.old 0 (record_of (change_of list words.now bytes.now)) }
 {
-    let tag = Tag::END_RECORD;
     let a = put_changes(out, list, words, bytes);
-    let b = output::put_u8(out, a, tag.0);
+    let b = output::put_u8(out, a, Tag::END_RECORD.0);
     let sum = checksum::checksum(&out[..b]);
     output::put_u32(out, b, sum);
 }
 
 // Behind 13: the length is compared before a byte is written.
-pub fn flush_to_file_kept(list: LogChange, words: &[u64], bytes: &[u8], out: &mut [u8]) -> Sized
+pub fn flush_to_file_kept(
+    list: LogChange,
+    words: &[u64],
+    bytes: &[u8],
+    out: &mut [u8],
+) -> Result<usize, Answer>
     requires { change_ruled (change_of list words.now bytes.now) ≡ true }
     ensures { flushed_of result out.new ≡ flush_to_file_kept (change_of list words.now bytes.now) out.old }
 {
     let size = list.record_size_kept(words, bytes);
-    if out.len() < size.length {
-        return Sized {
-            answer: Answer::ShortOutput,
-            length: 0,
-        };
+    if out.len() < size {
+        return Err(Answer::ShortOutput);
     }
     put_record(out, list, words, bytes);
-    size
+    Ok(size)
 }
 
-// Writes the list as a record at the output's front.
+// Writes the list as a record at the output's front, and answers with its length.
 pub fn flush_to_file(
     list: LogChange,
     directory: Directory,
     words: &[u64],
     bytes: &[u8],
     out: &mut [u8],
-) -> Sized
+) -> Result<usize, Answer>
     ensures { flushed_of result out.new ≡ flush_to_file directory (change_of list words.now bytes.now) out.old }
 {
     if !list.kept(directory, words, bytes) {
-        return Sized {
-            answer: Answer::BadState,
-            length: 0,
-        };
+        return Err(Answer::BadState);
     }
     flush_to_file_kept(list, words, bytes, out)
 }

@@ -25,11 +25,8 @@ fn put_places<'a>(
     ensures { Wrote out.old at (entries kind (lists_of rows.now order.now bytes.now n)) out.new result }
 {
     let mut o = at;
-    let mut i: usize = 0;
-    while i < n {
-        let p = order[i] as usize;
-        o = put_key(out, o, kind, rows, p, bytes);
-        i += 1;
+    for i in 0..n {
+        o = put_key(out, o, kind, rows, order[i] as usize, bytes);
     }
     o
 }
@@ -66,17 +63,13 @@ pub(crate) fn put_kind(
     ensures { Wrote out.old at (entries kind (part_of List kind counts words.now bytes.now)) out.new result }
 {
     let s = memory::span_of(Holder::List, kind);
-    let a = s.words_at;
-    let e = s.words_end;
-    let b = s.bytes_at;
-    let f = s.bytes_end;
     put_entries(
         out,
         at,
         kind,
         s.room,
-        &words[a..e],
-        &bytes[b..f],
+        &words[s.words_at..s.words_end],
+        &bytes[s.bytes_at..s.bytes_end],
         counts.of(kind),
     )
 }

@@ -33,4 +33,4 @@ put_payload-requires c =
 
 pub returns : goal.returns
 unfolding entry_bytes
-returns c = (rw c.insert_tag-tag.ensures at c.put_u8-a.ensures) ⨾ c.put_u16-b.ensures ⨾ c.put_u64-c.ensures ⨾ c.put_payload.ensures
+returns c = (rw c.insert_tag.ensures at c.put_u8-a.ensures) ⨾ c.put_u16-b.ensures ⨾ c.put_u64-c.ensures ⨾ c.put_payload.ensures

@@ -1,5 +1,5 @@
 -- `flush_to_file_kept` meets its contract: the record is as long as was computed. Assumes nothing.
-use mathlib.Core.Path.{◌≡◌, sym, ap, ◌∙◌}
+use mathlib.Core.Path.{◌≡◌, sym, ◌∙◌}
 use Prim.Native.Nat.{ℕ, ◌<◌}
 use native.Mathlib.Omega.{arith}
 use mir.Syntax.{w16, w64}
@@ -7,7 +7,6 @@ use mir.Val.{Fits}
 use lib.ListN.{length, get_or}
 use borrow.Author.Rules.{rules, elem_Fits, elem_fits_field}
 use Rattle.change.specs.Change.{Change, change_of}
-use Rattle.change.specs.declared.size.Sized.{Sized}
 use Rattle.writer.specs.Bytes.{record_of}
 use Rattle.writer.specs.Typed.{Typed}
 use Rattle.writer.proofs.Answers.{too_short, flushes}
@@ -28,7 +27,7 @@ put_record-requires c =
     let drops-fit : (i : ℕ) → Fits w16 (get_or c.args.list.dropped_tables.tables i 0) = λ i. search (c.well_formed.0.1.1.1.1.0.1.1.0.1.1, elem_Fits, elem_fits_field) in
     let count-drops-fit : (i : ℕ) → Fits w16 (get_or c.args.list.dropped_ref_count_tables.tables i 0) = λ i. search (c.well_formed.0.1.1.1.1.1.0.1.1.0.1.1, elem_Fits, elem_fits_field) in
     let list-typed : Typed list = typed c.args.list c.args.words.now c.args.bytes.now words-fit id-fits.fits (λ i. (drops-fit i).fits) (λ i. (count-drops-fit i).fits) (search rules) (search rules) in
-    let long : length (record_of list) ≡ c.record_size_kept-size.result.length = length_record list c.requires list-typed ∙ ap (λ (x : Sized). x.length) (sym c.record_size_kept-size.ensures) in
+    let long : length (record_of list) ≡ c.record_size_kept-size.result = length_record list c.requires list-typed ∙ sym c.record_size_kept-size.ensures in
     (c.requires, omega (arith, long, c.if-out-size.false))
 
 pub returns : goal.returns

@@ -7,8 +7,8 @@ use Rattle.memory.proofs.Spans.{words-all, bytes-all}
 use Rattle.memory.proofs.Lent.{Fits, fits, lent_is, lent-kept}
 use Rattle.writer.proofs.kinds.put_kind.Goals as goal
 
-pub offset_bounds-words-a : goal.offset_bounds-words-a
-offset_bounds-words-a c =
+pub offset_bounds-words-s : goal.offset_bounds-words-s
+offset_bounds-words-s c =
     let lies : Fits holder.List c.span_of-s.result = fits holder.List c.args.kind c.span_of-s.result c.span_of-s.ensures in
     let l = lies in omega (arith, l.words-rise, l.words_in, l.words-most)
 
