@@ -16,10 +16,10 @@ use Rattle.directory.specs.declared.directory.Directory.{Directory}
 use Rattle.record.specs.Fault.{inside_fault, opening_fault}
 use Rattle.record.specs.Next.{step_of}
 use Rattle.record.specs.declared.reader.LogReader.{LogReader}
-use Rattle.record.specs.declared.reader.Step.TheVariants.{Refused}
 use Rattle.record.proofs.Faults as faults
 use Rattle.numbers.proofs.Laws.{left-of, right_of}
 use Rattle.checker.specs.Check.{may_change, decides}
+use Rattle.std.specs.Prelude.{Err}
 
 -- ---- the two sorts exclude each other
 
@@ -79,7 +79,7 @@ opening-sort BadArgument tag e = absurd (true≢false (sym e))
 abbrev pub short_of : LogReader → Answer
 short_of r = if r.inside then Cut else EndOfLog
 
-module _ (d : Directory) (log : List ℕ) (r : LogReader) (x : Refusal) (within : r.position ≤ length log) (e : step_of d log r ≡ Refused x) where
+module _ (d : Directory) (log : List ℕ) (r : LogReader) (x : Refusal) (within : r.position ≤ length log) (e : step_of d log r ≡ Err x) where
   inside-told : faults.Told inside_fault Cut log r.position x.answer → Sort Cut x.answer
   inside-told (faults.no_byte l a) = waits a
   inside-told (faults.by-tag l a) = inside-sort x.answer _ a

@@ -1,5 +1,6 @@
 -- THE CHECKER AND THE RUN (document 02, One: "at the close reports the answer, position and record count that a run over the joined bytes would
 -- report, for every cutting"; "Answers 1 and 2 can be given only at the close."). Assumes nothing.
+use Rattle.std.specs.Prelude.{Ok, Err}
 use mathlib.Core.Path.{◌≡◌, refl, sym, ap, ◌∙◌, subst}
 use mathlib.Core.Bool.{Bool, true, false, true≢false}
 use mathlib.Core.List.{List, [], ◌∷◌, ◌++◌, append_assoc, append-nil}
@@ -27,14 +28,12 @@ use Rattle.replay.specs.Run.{Outcome, run_of}
 use Rattle.replay.specs.declared.many_records.Ran.{Ran}
 use Rattle.replay.proofs.Records.{run_bad}
 use Rattle.numbers.proofs.Laws.{both}
-use Rattle.checker.specs.Check.{may_change, decides, first_standing, reading_at, report_of, check_on, check_in}
+use Rattle.checker.specs.Check.{Check, may_change, decides, first_standing, reading_at, report_of, check_on, check_in}
 use Rattle.checker.specs.Checker.{checker_bytes, unread, padded, is_open, new_checker, checker_kept, answered, counted, told, keeping, settled, piece_by, piece_taken, piece_kept, piece_of, report_in, report_now, unclosed, close_kept, close_of, after_pieces, all_bytes, open_as0, Told}
 use Rattle.checker.specs.declared.checker.LogChecker.{LogChecker}
 use Rattle.checker.specs.declared.checker.Checked.{Checked}
 use Rattle.checker.specs.declared.checker.Closed.{Closed}
 use Rattle.checker.specs.declared.standing.Standing.{Standing}
-use Rattle.checker.specs.declared.standing.Check.{Check}
-use Rattle.checker.specs.declared.standing.Check.TheVariants as check
 use Rattle.checker.proofs.Answers.{no_change, not-zero, most-twelve}
 use Rattle.checker.proofs.Append.{resumed, check_append}
 use Rattle.checker.proofs.Kept.{front_of_of, unpadded, unread-length, start-sound, taken-kept, padded-length, close_keeps}
@@ -58,9 +57,9 @@ module _ (d : Directory) (ok : directory_kept d ≡ true) (first : ℕ) where
 
   -- what a checker that has taken `all` holds, by what a check of them comes to
   abbrev Holds : LogChecker → List ℕ → Check → Type 0
-  Holds c all (check.Waiting s) =
+  Holds c all (Ok s) =
       (is_open c ≡ true) × (unread c ≡ drop s.reader.position all) × (c.held + s.reader.position ≡ length all) × (c.standing ≡ reading_at s (front_of_of s.reader))
-  Holds c all (check.Settled ran) = (is_open c ≡ false) × (c.ran ≡ ran)
+  Holds c all (Err ran) = (is_open c ≡ false) × (c.ran ≡ ran)
 
   record Means (c : LogChecker) (all : List ℕ) : Type 0 where
     directory : c.directory ≡ d
@@ -72,7 +71,7 @@ module _ (d : Directory) (ok : directory_kept d ≡ true) (first : ℕ) where
 
   -- ---- before the first piece
 
-  no_bytes : check_in d [] 0 begin ≡ check.Waiting begin
+  no_bytes : check_in d [] 0 begin ≡ Ok begin
   unfolding check_on step_of opening read_at
   no_bytes = refl
 
@@ -111,11 +110,11 @@ module _ (d : Directory) (ok : directory_kept d ≡ true) (first : ℕ) where
     within : (k : Check) → check_in d all 0 begin ≡ k → check_in d (all ++ bytes) 0 begin ≡ resumed (check_in d (all ++ bytes) 0) k
     within k e = check_append d ok all (front_bytes all bytes known) bytes 0 begin (omega arith) ∙ ap (resumed (check_in d (all ++ bytes) 0)) e
 
-    was_settled : (ran : Ran) → check_in d all 0 begin ≡ check.Settled ran → After (piece_of c bytes)
+    was_settled : (ran : Ran) → check_in d all 0 begin ≡ Err ran → After (piece_of c bytes)
     was_settled ran e =
-        let h : Holds c all (check.Settled ran) = subst (Holds c all) e m.holds in
+        let h : Holds c all (Err ran) = subst (Holds c all) e m.holds in
         let p : piece_of c bytes ≡ told (counted c (length bytes)) = piece_is ∙ if_false (is_open c) _ _ h.0 in
-        let q : check_in d (all ++ bytes) 0 begin ≡ check.Settled ran = within (check.Settled ran) e in
+        let q : check_in d (all ++ bytes) 0 begin ≡ Err ran = within (Err ran) e in
         let r : decides ran.answer ≡ true = check_settles d all 0 begin (omega arith) ran e in
         subst After (sym p) (
           record {
@@ -132,8 +131,8 @@ module _ (d : Directory) (ok : directory_kept d ≡ true) (first : ℕ) where
           },
         )
 
-    module _ (s : Standing) (e : check_in d all 0 begin ≡ check.Waiting s) where
-      h : Holds c all (check.Waiting s)
+    module _ (s : Standing) (e : check_in d all 0 begin ≡ Ok s) where
+      h : Holds c all (Ok s)
       h = subst (Holds c all) e m.holds
 
       joined_is : unread c ++ bytes ≡ drop s.reader.position (all ++ bytes)
@@ -160,7 +159,7 @@ module _ (d : Directory) (ok : directory_kept d ≡ true) (first : ℕ) where
           let same : moved_standing n front ≡ s =
           ap (λ (p : ℕ). reading_at s (record { position = p; record_id = s.reader.record_id; crc32 = s.reader.crc32; validate = s.reader.validate; inside = s.reader.inside })) z in
           let b : 0 + n ≡ c.total - c.held = omega (arith, h.2, m.total) in
-          within (check.Waiting s) e
+          within (Ok s) e
           ∙ ap (check_in d (all ++ bytes) 0) (sym same)
           ∙ check_moved d (all ++ bytes) n 0 front (omega (arith, h.2, lengths))
           ∙ ap (λ (l : List ℕ). moved_check n (check_in d l (0 + n) front)) (sym joined_is)
@@ -180,16 +179,16 @@ module _ (d : Directory) (ok : directory_kept d ≡ true) (first : ℕ) where
       either true = refl
       either false = refl
 
-      waits-again : (s2 : Standing) → check_in c.directory (unread c ++ bytes) (c.total - c.held) c.standing ≡ check.Waiting s2 → After (piece_by (counted c (length bytes)) (unread c ++ bytes) (check.Waiting s2))
+      waits-again : (s2 : Standing) → check_in c.directory (unread c ++ bytes) (c.total - c.held) c.standing ≡ Ok s2 → After (piece_by (counted c (length bytes)) (unread c ++ bytes) (Ok s2))
       waits-again s2 q =
           let p : ℕ = s2.reader.position in
           let rest : List ℕ = drop p (unread c ++ bytes) in
           let after : LogChecker = keeping (counted c (length bytes)) s2 rest in
           let w : Waits c.directory (unread c ++ bytes) (c.total - c.held) s2 =
           check_waits c.directory (unread c ++ bytes) (c.total - c.held) c.standing s2 (start-sound c bytes m.kept total-few these m.going h.0) (omega (arith, o.stands.front)) q in
-          let k : checker_kept after ≡ true = ap (λ (x : Checked). checker_kept x.checker) (sym (taken_is (check.Waiting s2) q)) ∙ kept-after in
+          let k : checker_kept after ≡ true = ap (λ (x : Checked). checker_kept x.checker) (sym (taken_is (Ok s2) q)) ∙ kept-after in
           let j : length (unread c ++ bytes) ≡ length (unread c) + length bytes = length-append (unread c) bytes in
-          let g : check_in d (all ++ bytes) 0 begin ≡ check.Waiting (moved_standing s.reader.position s2) = goes_on ∙ ap (moved_check s.reader.position) q in (
+          let g : check_in d (all ++ bytes) 0 begin ≡ Ok (moved_standing s.reader.position s2) = goes_on ∙ ap (moved_check s.reader.position) q in (
             record {
               directory = m.directory;
               long = padded-length rest (kept_open after k m.going h.0).room;
@@ -209,15 +208,15 @@ module _ (d : Directory) (ok : directory_kept d ≡ true) (first : ℕ) where
             },
           )
 
-      settles_now : (ran : Ran) → check_in c.directory (unread c ++ bytes) (c.total - c.held) c.standing ≡ check.Settled ran → After (piece_by (counted c (length bytes)) (unread c ++ bytes) (check.Settled ran))
+      settles_now : (ran : Ran) → check_in c.directory (unread c ++ bytes) (c.total - c.held) c.standing ≡ Err ran → After (piece_by (counted c (length bytes)) (unread c ++ bytes) (Err ran))
       settles_now ran q =
           let f : decides ran.answer ≡ true = check_settles c.directory (unread c ++ bytes) (c.total - c.held) c.standing (omega (arith, o.stands.front)) ran q in
-          let g : check_in d (all ++ bytes) 0 begin ≡ check.Settled ran = goes_on ∙ ap (moved_check s.reader.position) q in (
+          let g : check_in d (all ++ bytes) 0 begin ≡ Err ran = goes_on ∙ ap (moved_check s.reader.position) q in (
             record {
               directory = m.directory;
               long = m.long;
               total = omega (arith, m.total, lengths);
-              kept = ap (λ (x : Checked). checker_kept x.checker) (sym (taken_is (check.Settled ran) q)) ∙ kept-after;
+              kept = ap (λ (x : Checked). checker_kept x.checker) (sym (taken_is (Err ran) q)) ∙ kept-after;
               going = m.going;
               holds = subst (Holds (settled (counted c (length bytes)) ran) (all ++ bytes)) (sym g) (not-zero ran.answer f, refl);
             },
@@ -231,15 +230,15 @@ module _ (d : Directory) (ok : directory_kept d ≡ true) (first : ℕ) where
       was_waiting = subst After (sym (piece_is ∙ if_true (is_open c) _ _ h.0)) (by (check_in c.directory (unread c ++ bytes) (c.total - c.held) c.standing) refl)
         where
           by : (k : Check) → check_in c.directory (unread c ++ bytes) (c.total - c.held) c.standing ≡ k → After (piece_taken c bytes)
-          by (check.Waiting s2) q = subst After (sym (taken_is (check.Waiting s2) q)) (waits-again s2 q)
-          by (check.Settled ran) q = subst After (sym (taken_is (check.Settled ran) q)) (settles_now ran q)
+          by (Ok s2) q = subst After (sym (taken_is (Ok s2) q)) (waits-again s2 q)
+          by (Err ran) q = subst After (sym (taken_is (Err ran) q)) (settles_now ran q)
 
     after : After (piece_of c bytes)
     after = by (check_in d all 0 begin) refl
       where
         by : (k : Check) → check_in d all 0 begin ≡ k → After (piece_of c bytes)
-        by (check.Settled ran) e = was_settled ran e
-        by (check.Waiting s) e = was_waiting s e
+        by (Err ran) e = was_settled ran e
+        by (Ok s) e = was_waiting s e
 
   -- ---- all the pieces
 
@@ -261,11 +260,11 @@ module _ (d : Directory) (ok : directory_kept d ≡ true) (first : ℕ) where
       ap (λ (x : Closed). x.ran) (if_true (checker_kept c) _ _ m.kept ∙ if_false c.closed _ _ m.going) ∙ by (check_in d all 0 begin) refl
     where
       by : (k : Check) → check_in d all 0 begin ≡ k → report_now c ≡ report_in 0 (check_in d all 0 begin)
-      by (check.Settled ran) e =
-          let h : Holds c all (check.Settled ran) = subst (Holds c all) e m.holds in
+      by (Err ran) e =
+          let h : Holds c all (Err ran) = subst (Holds c all) e m.holds in
           if_false (is_open c) _ _ h.0 ∙ h.1 ∙ sym (ap (report_in 0) e)
-      by (check.Waiting s) e =
-          let h : Holds c all (check.Waiting s) = subst (Holds c all) e m.holds in
+      by (Ok s) e =
+          let h : Holds c all (Ok s) = subst (Holds c all) e m.holds in
           let z : c.total - c.held ≡ 0 + s.reader.position = omega (arith, h.2, m.total) in
           if_true (is_open c) _ _ h.0
           ∙ ap (λ (x : Standing). report_of x (if x.reader.inside then Cut else EndOfLog) (c.total - c.held)) h.3
@@ -357,12 +356,12 @@ module _ (d : Directory) (first : ℕ) (image : List ℕ) (long : length image �
   run-lasting log more known m = by (directory_kept d) refl
     where
       kept : (e : directory_kept d ≡ true) (k : Check) → check_in d log 0 (first_standing first) ≡ k → (run_of d (log ++ more) 0 first image).ran ≡ (run_of d log 0 first image).ran
-      kept e (check.Settled ran) q =
+      kept e (Err ran) q =
           run-reports d (log ++ more) first image (kept_tables e)
           ∙ ap (report_in 0) (check_append d e log known more 0 (first_standing first) (omega arith) ∙ ap (resumed (check_in d (log ++ more) 0)) q ∙ sym q)
           ∙ sym (run-reports d log first image (kept_tables e))
-      kept e (check.Waiting s) q =
-          let f : (run_of d log 0 first image).ran ≡ report_in 0 (check.Waiting s) = run-reports d log first image (kept_tables e) ∙ ap (report_in 0) q in
+      kept e (Ok s) q =
+          let f : (run_of d log 0 first image).ran ≡ report_in 0 (Ok s) = run-reports d log first image (kept_tables e) ∙ ap (report_in 0) q in
           absurd (true≢false (sym (short s.reader.inside) ∙ sym (ap (λ (r : Ran). may_change r.answer) f) ∙ m))
 
       by : (b : Bool) → directory_kept d ≡ b → (run_of d (log ++ more) 0 first image).ran ≡ (run_of d log 0 first image).ran
@@ -385,8 +384,8 @@ module _ (c : LogChecker) (bytes : List ℕ) where
   taken-says o = by (check_in c.directory (unread c ++ bytes) (c.total - c.held) c.standing) refl
     where
       by : (k : Check) → check_in c.directory (unread c ++ bytes) (c.total - c.held) c.standing ≡ k → Says c (piece_by (counted c (length bytes)) (unread c ++ bytes) k)
-      by (check.Waiting s) q = open_still refl
-      by (check.Settled ran) q = decided (check_settles c.directory (unread c ++ bytes) (c.total - c.held) c.standing (omega (arith, o.stands.front)) ran q)
+      by (Ok s) q = open_still refl
+      by (Err ran) q = decided (check_settles c.directory (unread c ++ bytes) (c.total - c.held) c.standing (omega (arith, o.stands.front)) ran q)
 
   says : Says c (piece_of c bytes)
   unfolding piece_of piece_kept

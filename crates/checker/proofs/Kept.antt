@@ -15,23 +15,21 @@ use Rattle.directory.specs.Directory.{directory_kept}
 use Rattle.directory.specs.declared.directory.Directory.{Directory}
 use Rattle.record.specs.Next.{step_of}
 use Rattle.record.specs.declared.reader.LogReader.{LogReader}
-use Rattle.record.specs.declared.reader.Step.{Step}
-use Rattle.record.specs.declared.reader.Step.TheVariants.{Took, Refused}
 use Rattle.checker.proofs.Lasting.{step-long}
 use Rattle.checker.proofs.Seen.{moved_reader, seen, moved_seen, seen-moved}
 use Rattle.output.specs.Put.{put}
 use Rattle.output.proofs.Laws.{wrote-front, all_left}
-use Rattle.checker.specs.Check.{may_change, check_in}
+use Rattle.checker.specs.Check.{Check, may_change, check_in}
 use Rattle.checker.specs.Checker.{unread, padded, is_open, waits, checker_kept, counted, keeping, settled, piece_by, piece_taken, piece_kept, closing, close_kept}
 use Rattle.checker.specs.Inner.{Sound}
 use Rattle.checker.specs.declared.checker.LogChecker.{LogChecker}
 use Rattle.checker.specs.declared.checker.Checked.{Checked}
 use Rattle.checker.specs.declared.checker.Closed.{Closed}
 use Rattle.checker.specs.declared.standing.Standing.{Standing}
-use Rattle.checker.specs.declared.standing.Check.{Check}
-use Rattle.checker.specs.declared.standing.Check.TheVariants as check
 use Rattle.checker.proofs.Rules.{chosen, Open, kept-directory, kept-total, kept_open, kept-settled, open_checker, settled_checker, closed_checker}
 use Rattle.checker.proofs.Sound.{Waits, check_waits, check_settles}
+use Rattle.std.specs.Prelude.{Result, Ok, Err}
+use Rattle.record.specs.declared.reader.Stepped.{Stepped}
 
 -- ---- the bytes kept
 
@@ -52,13 +50,13 @@ module _ (bytes : List ℕ) where
 abbrev pub front_of_of : LogReader → LogReader
 front_of_of r = record { position = 0; record_id = r.record_id; crc32 = r.crc32; validate = r.validate; inside = r.inside }
 
-waits-seen : (n : ℕ) (st su : Step) → seen st ≡ moved_seen n (seen su) → waits st ≡ waits su
-waits-seen n (Refused x) (Refused y) e =
+waits-seen : (n : ℕ) (st su : Result Stepped Refusal) → seen st ≡ moved_seen n (seen su) → waits st ≡ waits su
+waits-seen n (Err x) (Err y) e =
     let p : x ≡ refusal y.answer (n + y.position) = cc in
     ap (λ (z : Refusal). may_change z.answer) p
-waits-seen n (Refused x) (Took t) e = let z : ◌≡◌ {A = ℕ} 0 1 = cc in absurd (omega arith)
-waits-seen n (Took t) (Refused y) e = let z : ◌≡◌ {A = ℕ} 0 1 = cc in absurd (omega arith)
-waits-seen n (Took t) (Took u) e = refl
+waits-seen n (Err x) (Ok t) e = let z : ◌≡◌ {A = ℕ} 0 1 = cc in absurd (omega arith)
+waits-seen n (Ok t) (Err y) e = let z : ◌≡◌ {A = ℕ} 0 1 = cc in absurd (omega arith)
+waits-seen n (Ok t) (Ok u) e = refl
 
 module _ (d : Directory) (log : List ℕ) (r : LogReader) (within : r.position ≤ length log) (wait : waits (step_of d log r) ≡ true) where
   pub rest-waits : waits (step_of d (drop r.position log) (front_of_of r)) ≡ true
@@ -71,13 +69,13 @@ module _ (d : Directory) (log : List ℕ) (r : LogReader) (within : r.position �
   pub rest-short : directory_kept d ≡ true → Bytes log → length log - r.position < 1043
   rest-short kept b = by (step_of d log r) refl
     where
-      long : (x : Refusal) → step_of d log r ≡ Refused x → (t : Bool) → leb 1043 (length log - r.position) ≡ t → length log - r.position < 1043
+      long : (x : Refusal) → step_of d log r ≡ Err x → (t : Bool) → leb 1043 (length log - r.position) ≡ t → length log - r.position < 1043
       long x q true l = absurd (true≢false (sym (ap waits (sym q) ∙ wait) ∙ step-long d kept log b r x within q (leb-true 1043 (length log - r.position) l)))
       long x q false l = leb-false 1043 (length log - r.position) l
 
-      by : (st : Step) → step_of d log r ≡ st → length log - r.position < 1043
-      by (Refused x) q = long x q (leb 1043 (length log - r.position)) refl
-      by (Took t) q = absurd (true≢false (sym wait ∙ ap waits q))
+      by : (st : Result Stepped Refusal) → step_of d log r ≡ st → length log - r.position < 1043
+      by (Err x) q = long x q (leb 1043 (length log - r.position)) refl
+      by (Ok t) q = absurd (true≢false (sym wait ∙ ap waits q))
 
 -- ---- a piece
 
@@ -133,8 +131,8 @@ module _ (c : LogChecker) (bytes : List ℕ) (kept : checker_kept c ≡ true) (f
             })
 
         by : (k : Check) → check_in c.directory all base c.standing ≡ k → checker_kept (piece_by (counted c (length bytes)) all k).checker ≡ true
-        by (check.Waiting s) e = waiting s (check_waits c.directory all base c.standing s start-sound (omega (arith, o.stands.front)) e)
-        by (check.Settled ran) e =
+        by (Ok s) e = waiting s (check_waits c.directory all base c.standing s start-sound (omega (arith, o.stands.front)) e)
+        by (Err ran) e =
             settled_checker (settled (counted c (length bytes)) ran) (kept-directory c kept) few (check_settles c.directory all base c.standing (omega (arith, o.stands.front)) ran e)
 
 -- ---- every call

@@ -1,7 +1,7 @@
 -- What bytes behind a log can change: 1 and 2, and nothing else. And where 1,043 bytes are there neither is given, since no action is longer.
 -- Assumes nothing.
 use mathlib.Core.Path.{◌≡◌, refl, sym, ap, ◌∙◌, subst}
-use mathlib.Core.Bool.{Bool, true, false, true≢false, not, ◌||◌, and-eq-true_iff}
+use mathlib.Core.Bool.{Bool, true, false, true≢false, not, ◌||◌}
 use mathlib.Core.List.{List, [], ◌∷◌, ◌++◌}
 use Prim.Native.Nat.{ℕ, ◌+◌, ◌-◌, ◌*◌, ◌^◌, ◌≤◌, ◌<◌}
 use native.Mathlib.Nat.{mul-le-mul}
@@ -20,13 +20,14 @@ use Rattle.checksum.proofs.Words.{take_bytes, drop_bytes_lem}
 use Rattle.answer.specs.declared.answer.Answer.{Answer}
 use Rattle.answer.specs.declared.answer.Answer.TheVariants.{OutOfPlace, NoIndex, WrongSum}
 use Rattle.answer.specs.declared.answer.Refusal.{Refusal}
-use Rattle.directory.specs.Directory.{find_table, directory_kept}
+use Rattle.directory.specs.Directory.{find_from, find_table, tables_of, each_kept, directory_kept}
+use Rattle.directory.specs.Table.{same_kind_of, is_table, length_fits, table_kept}
+use Rattle.numbers.proofs.Laws.{left-of, right_of}
+use Rattle.std.proofs.lemmas.Option.{same_Some}
 use Rattle.directory.specs.declared.table.TableKind.{TableKind}
 use Rattle.directory.specs.declared.table.TableKind.TheVariants.{Index, Value, RefCount}
 use Rattle.directory.specs.declared.table.TableDescription.{TableDescription}
 use Rattle.directory.specs.declared.directory.Directory.{Directory}
-use Rattle.directory.specs.declared.directory.Found.{Found}
-use Rattle.directory.specs.declared.directory.Found.TheVariants.{At, Nothing}
 use Rattle.record.specs.Format.{Format, need, refuse, give, stopped, read_at, ◌>>=◌, ◌>>◌, test}
 use Rattle.record.specs.Record.{Item, drop_index, drop_ref_count, known, key, chunk, masked_item, value, valued_item, table, dropped_item, sum_holds, ended_item, inside_by, inside, early, begun_id, early_end, opening_by, opening}
 use Rattle.record.specs.Next.{refused, stepped, opened, step_of}
@@ -34,10 +35,9 @@ use Rattle.record.specs.declared.action.LogAction.{LogAction}
 use Rattle.record.specs.declared.action.LogAction.TheVariants.{EndRecord}
 use Rattle.record.specs.declared.item.Key.{Key}
 use Rattle.record.specs.declared.reader.LogReader.{LogReader}
-use Rattle.record.specs.declared.reader.Step.TheVariants.{Refused}
 use Rattle.record.proofs.Faults.{Why, beyond, in_record, at-opening, Halted, halted}
-use Rattle.change.proofs.Accepted.{length-kept}
 use Rattle.checker.specs.Check.{may_change}
+use Rattle.std.specs.Prelude.{Err, Option, Some, None}
 
 -- a format asks for at most n bytes, answers 1 or 2 where they are missing, and refuses nothing that it read with these
 abbrev Upto : {A : Type 0} → ℕ → Format A → Type 0
@@ -97,9 +97,27 @@ upto_tag : {A : Type 0} (n : ℕ) (b : Bool) (f g : Format A) → Upto n f → U
 upto_tag n true f g h k = h
 upto_tag n false f g h k = k
 
+-- a table of values that is found in a directory that keeps its rules has values of at most 512 units
+short-values : (row : ℕ) (ts : List TableDescription) (number r : ℕ) (t : TableDescription) → find_from row ts Value number ≡ Some (r, t) → each_kept ts ≡ true → t.length ≤ 512
+unfolding find_from each_kept is_table table_kept
+short-values row [] number r t e k = let z : ◌≡◌ {A = ℕ} 0 1 = cc in absurd (omega arith)
+short-values row (u ∷ ts) number r t e k = by (is_table u Value number) refl e (λ q. short-values (row + 1) ts number r t q (right_of (table_kept u) _ k))
+  where
+    of-values : (kind : TableKind) → same_kind_of kind Value ≡ true → length_fits kind u.length ≡ true → u.length ≤ 512
+    of-values Value i f = leb-true u.length 512 (right_of (leb 1 u.length) _ f)
+    of-values Index i f = let z : ◌≡◌ {A = Bool} false true = i in cc
+    of-values RefCount i f = let z : ◌≡◌ {A = Bool} false true = i in cc
+
+    by : (b : Bool) → is_table u Value number ≡ b → (if b then Some (row, u) else find_from (row + 1) ts Value number) ≡ Some (r, t)
+        → (find_from (row + 1) ts Value number ≡ Some (r, t) → t.length ≤ 512) → t.length ≤ 512
+    by true i q f =
+        let s : u ≡ t = ap (λ (p : ℕ × TableDescription). p.1) (same_Some (row, u) (r, t) q) in
+        rw (← s) (of-values u.kind (left-of (same_kind_of u.kind Value) _ i) (right_of (leb u.count 4096) _ (right_of (leb 1 u.count) _ (right_of (leb u.column 7) _ (left-of (table_kept u) _ k)))))
+    by false i q f = f q
+
 module _ (d : Directory) (kept : directory_kept d ≡ true) where
   upto_key : {B : Type 0} (kind : TableKind) (g : Key → Format B) (n : ℕ) → 10 ≤ n
-      → ((number row : ℕ) (t : TableDescription) → find_table d kind number ≡ At row t → (k : Key) → k.description ≡ t → Upto (n - 10) (g k)) → Upto n (key d kind >>= g)
+      → ((number row : ℕ) (t : TableDescription) → find_table d kind number ≡ Some (row, t) → (k : Key) → k.description ≡ t → Upto (n - 10) (g k)) → Upto n (key d kind >>= g)
   unfolding key
   upto_key {B} kind g n h u = (h, refl, λ hd b l. by hd (find_table d kind (little (take 2 hd))) refl)
     where
@@ -107,10 +125,10 @@ module _ (d : Directory) (kept : directory_kept d ≡ true) where
       tested k u true = u
       tested k u false = refl
 
-      by : (hd : List ℕ) (f : Found) → find_table d kind (little (take 2 hd)) ≡ f
+      by : (hd : List ℕ) (f : Option (ℕ × TableDescription)) → find_table d kind (little (take 2 hd)) ≡ f
           → Upto (n - 10) ((known f >>= λ t. test (ltb (little (drop 2 hd)) t.count) NoIndex >> give (record { table = little (take 2 hd); index = little (drop 2 hd); description = t })) >>= g)
-      by hd Nothing q = refl
-      by hd (At row t) q =
+      by hd None q = refl
+      by hd (Some (row, t)) q =
           tested (record { table = little (take 2 hd); index = little (drop 2 hd); description = t }) (u (little (take 2 hd)) row t q _ refl) (ltb (little (drop 2 hd)) t.count)
 
   upto_masked : (kind : TableKind) (width : ℕ) → width ≤ 16 → Upto 1042 (masked_item d kind width)
@@ -123,22 +141,22 @@ module _ (d : Directory) (kept : directory_kept d ≡ true) where
           mul-le-mul {n₁ = ones (little mask)} {n₂ = 64} (ones-le 64 (little mask) m) w
 
   upto_valued : Upto 1042 (valued_item d)
-  unfolding valued_item value
+  unfolding valued_item value directory_kept find_table
   upto_valued = upto_key Value value 1042 (omega arith) (λ number row t q k e. (long number row t q k e, refl, λ bs b l. tt))
     where
-      long : (number row : ℕ) (t : TableDescription) → find_table d Value number ≡ At row t → (k : Key) → k.description ≡ t → k.description.length ≤ 1032
+      long : (number row : ℕ) (t : TableDescription) → find_table d Value number ≡ Some (row, t) → (k : Key) → k.description ≡ t → k.description.length ≤ 1032
       long number row t q k e =
-          let f : leb t.length 512 ≡ true = ((and-eq-true_iff (leb 1 t.length) (leb t.length 512)).0 (length-kept d Value number row t kept q)).1 in
+          let f : t.length ≤ 512 = short-values 0 (tables_of d) number row t q (left-of (each_kept (tables_of d)) _ (right_of (leb d.count 16) _ kept)) in
           let s : k.description.length ≡ t.length = ap (λ (x : TableDescription). x.length) e in
-          omega (arith, leb-true t.length 512 f)
+          omega arith
 
   upto_dropped : (kind : TableKind) (action : ℕ → LogAction) → Upto 1042 (dropped_item d kind action)
   unfolding dropped_item table
   upto_dropped kind action = (omega arith, refl, λ bs b l. by bs (find_table d kind (little bs)))
     where
-      by : (bs : List ℕ) (f : Found) → Upto {A = Item} 1040 ((known f >>= λ t. give (little bs)) >>= λ number. give (record { action = action number; payload = 0 }))
-      by bs Nothing = refl
-      by bs (At row t) = tt
+      by : (bs : List ℕ) (f : Option (ℕ × TableDescription)) → Upto {A = Item} 1040 ((known f >>= λ t. give (little bs)) >>= λ number. give (record { action = action number; payload = 0 }))
+      by bs None = refl
+      by bs (Some (row, t)) = tt
 
   upto_inside : (validate : Bool) (register : ℕ) → Upto 1043 (inside d validate register)
   unfolding inside inside_by ended_item
@@ -187,12 +205,12 @@ upto_opening validate = (
 -- ---- a step
 
 -- a step's refusal, as it is made
-made : (x : Refusal) (p : ℕ) → x.position ≡ p → refused x.answer p ≡ Refused x
+made : (x : Refusal) (p : ℕ) → x.position ≡ p → refused x.answer p ≡ Err x
 made x p e = ap (refused x.answer) (sym e)
 
-module _ (d : Directory) (kept : directory_kept d ≡ true) (log : List ℕ) (known : Bytes log) (r : LogReader) (x : Refusal) (within : r.position ≤ length log) (e : step_of d log r ≡ Refused x) where
+module _ (d : Directory) (kept : directory_kept d ≡ true) (log : List ℕ) (known : Bytes log) (r : LogReader) (x : Refusal) (within : r.position ≤ length log) (e : step_of d log r ≡ Err x) where
   -- A REFUSED STEP STAYS REFUSED whatever bytes come behind the log, unless it is 1 or 2
-  pub step-lasting : may_change x.answer ≡ false → (more : List ℕ) → step_of d (log ++ more) r ≡ Refused x
+  pub step-lasting : may_change x.answer ≡ false → (more : List ℕ) → step_of d (log ++ more) r ≡ Err x
   unfolding step_of
   step-lasting c more = by t.why
     where
@@ -202,7 +220,7 @@ module _ (d : Directory) (kept : directory_kept d ≡ true) (log : List ℕ) (kn
       here : ltb (length (log ++ more)) r.position ≡ false
       here = le-ltb (length (log ++ more)) r.position (simp length-append (omega arith))
 
-      by : Why d log r x.answer → step_of d (log ++ more) r ≡ Refused x
+      by : Why d log r x.answer → step_of d (log ++ more) r ≡ Err x
       by (beyond l a) = absurd (omega arith)
       by (in_record b l q) =
           if_false (ltb (length (log ++ more)) r.position) _ _ here ∙ if_true r.inside _ _ b

@@ -9,8 +9,8 @@ use Rattle.record.specs.Next.{is_end, closed, forward_to, reader_after, beginnin
 use Rattle.record.specs.declared.action.LogAction.{LogAction}
 use Rattle.record.specs.declared.reader.LogReader.{LogReader}
 use Rattle.record.specs.declared.reader.Stepped.{Stepped}
-use Rattle.record.specs.declared.reader.Step.TheVariants.{Took}
 use Rattle.record.proofs.Steps.{Read, within_record, at-opening, taken}
+use Rattle.std.specs.Prelude.{Ok}
 
 pub record Behind (r : LogReader) (t : Stepped) : Type 0 where
   pub validates : t.reader.validate ≡ r.validate
@@ -29,7 +29,7 @@ ends : (log : List ℕ) (r : LogReader) (action : LogAction) (end : ℕ) → is_
 unfolding reader_after
 ends log r action end e = if_true (is_end action) _ _ e
 
-pub behind : (d : Directory) (log : List ℕ) (r : LogReader) (t : Stepped) → step_of d log r ≡ Took t → Behind r t
+pub behind : (d : Directory) (log : List ℕ) (r : LogReader) (t : Stepped) → step_of d log r ≡ Ok t → Behind r t
 unfolding forward_to
 behind d log r t e = by (taken d log r t e).read
   where

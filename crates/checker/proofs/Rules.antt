@@ -3,7 +3,7 @@ use mathlib.Core.Path.{◌≡◌, refl, sym, ◌∙◌}
 use mathlib.Core.Bool.{Bool, true, false, true≢false, ◌&&◌, ◌||◌}
 use Prim.Native.Nat.{ℕ, ◌-◌, ◌≤◌, ◌<◌}
 use lib.Dec.{eqb, leb, ltb}
-use borrow.Author.Tests.{leb-true, le-leb, ltb-true, lt-ltb, eqb-true, eqb-false, eq-eqb}
+use borrow.Author.Tests.{leb-true, le-leb, ltb-true, lt-ltb, eqb-true, eq-eqb}
 use Rattle.std.specs.Prelude.{if◌then◌else◌}
 use Rattle.directory.specs.Directory.{directory_kept}
 use Rattle.record.specs.Next.{step_of}
@@ -67,14 +67,6 @@ module _ (before : ℕ) (s : Standing) where
       (both k.validates
       (both (le-leb s.count s.start k.counts)
       (both (le-leb s.start before k.begins) (one s.reader.inside _ (λ f. eq-eqb s.start before (k.between f))))))
-
-  -- of the last rule, the ones before it kept
-  pub stands-between : s.reader.position ≡ 0 → s.reader.validate ≡ true → s.count ≤ s.start → s.start ≤ before → s.reader.inside ≡ false → eqb s.start before ≡ stands_before before s
-  stands-between f v c b i = by (eqb s.start before) refl
-    where
-      by : (t : Bool) → eqb s.start before ≡ t → eqb s.start before ≡ stands_before before s
-      by true q = q ∙ sym (stands-kept (record { front = f; validates = v; counts = c; begins = b; between = λ j. eqb-true s.start before q }))
-      by false q = q ∙ refutes (λ e. eqb-false s.start before q ((stands_facts e).between i))
 
 -- ---- an open checker
 

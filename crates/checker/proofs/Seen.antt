@@ -17,9 +17,9 @@ use Rattle.record.specs.Record.{Item, inside, opening}
 use Rattle.record.specs.Next.{is_end, forward_to, reader_after, stepped, beginning, opened, step_of}
 use Rattle.record.specs.declared.action.LogAction.{LogAction}
 use Rattle.record.specs.declared.reader.LogReader.{LogReader}
-use Rattle.record.specs.declared.reader.Step.{Step}
-use Rattle.record.specs.declared.reader.Step.TheVariants.{Took, Refused}
 use Rattle.record.proofs.Formats.{moved, from}
+use Rattle.std.specs.Prelude.{Result, Ok, Err}
+use Rattle.record.specs.declared.reader.Stepped.{Stepped}
 
 -- the same reader n bytes further on
 abbrev pub moved_reader : ℕ → LogReader → LogReader
@@ -30,9 +30,9 @@ pub data Seen : Type 0 where
   halts : Refusal → Seen
   goes : Bool → LogReader → Seen
 
-abbrev pub seen : Step → Seen
-seen (Refused x) = halts x
-seen (Took s) = goes (is_end s.action) s.reader
+abbrev pub seen : Result Stepped Refusal → Seen
+seen (Err x) = halts x
+seen (Ok s) = goes (is_end s.action) s.reader
 
 abbrev pub moved_seen : ℕ → Seen → Seen
 moved_seen n (halts x) = halts (refusal x.answer (n + x.position))
@@ -80,9 +80,9 @@ module _ (n : ℕ) (log : List ℕ) where
           ap seen (if_false (ltb (length log) (n + r.position)) _ _ here ∙ if_true r.inside _ _ b)
           ∙ ap (λ (g : Got Item). seen (stepped log (moved_reader n r) g)) (from (inside d r.validate r.crc32) n r.position log)
           ∙ inside-moved r (read_at (inside d r.validate r.crc32) r.position (drop n log))
-          ∙ sym (ap (λ (st : Step). moved_seen n (seen st)) (if_false (ltb (length (drop n log)) r.position) _ _ there ∙ if_true r.inside _ _ b))
+          ∙ sym (ap (λ (st : Result Stepped Refusal). moved_seen n (seen st)) (if_false (ltb (length (drop n log)) r.position) _ _ there ∙ if_true r.inside _ _ b))
       by false b =
           ap seen (if_false (ltb (length log) (n + r.position)) _ _ here ∙ if_false r.inside _ _ b)
           ∙ ap (λ (g : Got ℕ). seen (opened log (moved_reader n r) g)) (from (opening r.validate) n r.position log)
           ∙ opening-moved r (read_at (opening r.validate) r.position (drop n log))
-          ∙ sym (ap (λ (st : Step). moved_seen n (seen st)) (if_false (ltb (length (drop n log)) r.position) _ _ there ∙ if_false r.inside _ _ b))
+          ∙ sym (ap (λ (st : Result Stepped Refusal). moved_seen n (seen st)) (if_false (ltb (length (drop n log)) r.position) _ _ there ∙ if_false r.inside _ _ b))

@@ -14,30 +14,27 @@ use Rattle.directory.specs.declared.directory.Directory.{Directory}
 use Rattle.record.specs.Next.{is_end, step_of}
 use Rattle.record.specs.declared.reader.LogReader.{LogReader}
 use Rattle.record.specs.declared.reader.Stepped.{Stepped}
-use Rattle.record.specs.declared.reader.Step.{Step}
-use Rattle.record.specs.declared.reader.Step.TheVariants.{Took, Refused}
 use Rattle.replay.specs.declared.many_records.Ran.{Ran}
 use Rattle.replay.proofs.Places.{going}
-use Rattle.checker.specs.Check.{may_change, decides, reading_at, report_of, after_record, after_opening, after_action, went_by, onward, check_on, check_in}
+use Rattle.checker.specs.Check.{Went, may_change, decides, reading_at, report_of, after_record, after_opening, after_action, went_by, onward, check_on, check_in}
 use Rattle.checker.specs.Checker.{waits}
 use Rattle.checker.specs.Inner.{Sound, Stands}
 use Rattle.checker.specs.declared.standing.Standing.{Standing}
-use Rattle.checker.specs.declared.standing.Went.{Went}
-use Rattle.checker.specs.declared.standing.Went.TheVariants.{On, Waiting, Settled}
-use Rattle.checker.specs.declared.standing.Check.TheVariants as check
 use Rattle.checker.proofs.Answers.{step-decides}
 use Rattle.checker.proofs.Append.{action-goes}
 use Rattle.checker.proofs.Readers.{behind}
 use Rattle.checker.proofs.Ways.{never_on, Forward, step-forward}
+use Rattle.std.specs.Prelude.{Result, Ok, Err, Some, None}
+use Rattle.answer.specs.declared.answer.Refusal.{Refusal}
 
 module _ (d : Directory) (log : List ℕ) (base : ℕ) where
-  pub went_sound : (s next : Standing) → Sound base s → went_by base s (step_of d log s.reader) ≡ On next → Sound base next
+  pub went_sound : (s next : Standing) → Sound base s → went_by base s (step_of d log s.reader) ≡ Ok (Some next) → Sound base next
   went_sound s next k e = by (step_of d log s.reader) refl e
     where
       o : Forward log s next
       o = step-forward d log base s next e
 
-      old : (r : LogReader) → r.inside ≡ true → r.validate ≡ true → On (reading_at s r) ≡ On next → Sound base next
+      old : (r : LogReader) → r.inside ≡ true → r.validate ≡ true → ◌≡◌ {A = Went} (Ok (Some (reading_at s r))) (Ok (Some next)) → Sound base next
       old r i v q =
           let p : reading_at s r ≡ next = cc in
           let a : s.start ≡ next.start = ap (λ (x : Standing). x.start) p in
@@ -51,7 +48,7 @@ module _ (d : Directory) (log : List ℕ) (base : ℕ) where
           }
 
       ended : (b : Bool) (r : LogReader) (ran : Ran) → r.validate ≡ true
-          → (if b then Settled ran else On (record { expected = s.expected + 1; start = base + r.position; count = s.count + 1; reader = r })) ≡ On next → Sound base next
+          → (if b then Err ran else Ok (Some (record { expected = s.expected + 1; start = base + r.position; count = s.count + 1; reader = r }))) ≡ Ok (Some next) → Sound base next
       ended true r ran v q = let z : ◌≡◌ {A = ℕ} 0 1 = cc in absurd (omega arith)
       ended false r ran v q =
           let p : record { expected = s.expected + 1; start = base + r.position; count = s.count + 1; reader = r } ≡ next = cc in
@@ -65,26 +62,26 @@ module _ (d : Directory) (log : List ℕ) (base : ℕ) where
             between = λ f. omega arith;
           }
 
-      opened : (b : Bool) (r : LogReader) (ran : Ran) → r.inside ≡ true → r.validate ≡ true → (if b then On (reading_at s r) else Settled ran) ≡ On next → Sound base next
+      opened : (b : Bool) (r : LogReader) (ran : Ran) → r.inside ≡ true → r.validate ≡ true → (if b then Ok (Some (reading_at s r)) else Err ran) ≡ Ok (Some next) → Sound base next
       opened true r ran i v q = old r i v q
       opened false r ran i v q = let z : ◌≡◌ {A = ℕ} 0 1 = cc in absurd (omega arith)
 
-      inside : (t : Stepped) → step_of d log s.reader ≡ Took t → s.reader.inside ≡ true → (b : Bool) → is_end t.action ≡ b
-          → (if b then after_record base s t.reader else On (reading_at s t.reader)) ≡ On next → Sound base next
+      inside : (t : Stepped) → step_of d log s.reader ≡ Ok t → s.reader.inside ≡ true → (b : Bool) → is_end t.action ≡ b
+          → (if b then after_record base s t.reader else Ok (Some (reading_at s t.reader))) ≡ Ok (Some next) → Sound base next
       inside t q i true b f = ended (eqb s.expected last_record_id) t.reader _ ((behind d log s.reader t q).validates ∙ k.validates) f
       inside t q i false b f = old t.reader ((going d log s.reader t i q).stays b) ((behind d log s.reader t q).validates ∙ k.validates) f
 
-      either : (t : Stepped) → step_of d log s.reader ≡ Took t → (b : Bool) → s.reader.inside ≡ b → after_action base s t ≡ On next → Sound base next
+      either : (t : Stepped) → step_of d log s.reader ≡ Ok t → (b : Bool) → s.reader.inside ≡ b → after_action base s t ≡ Ok (Some next) → Sound base next
       either t q true b f = inside t q b (is_end t.action) refl (sym (if_true s.reader.inside _ _ b) ∙ f)
       either t q false b f =
           let g = behind d log s.reader t q in
           opened (eqb t.reader.record_id s.expected) t.reader _ (g.enters b) (g.validates ∙ k.validates) (sym (if_false s.reader.inside _ _ b) ∙ f)
 
-      by : (st : Step) → step_of d log s.reader ≡ st → went_by base s st ≡ On next → Sound base next
-      by (Refused x) q f = absurd (never_on (may_change x.answer) s next _ f)
-      by (Took t) q f = either t q s.reader.inside refl f
+      by : (st : Result Stepped Refusal) → step_of d log s.reader ≡ st → went_by base s st ≡ Ok (Some next) → Sound base next
+      by (Err x) q f = absurd (never_on (may_change x.answer) next _ f)
+      by (Ok t) q f = either t q s.reader.inside refl f
 
-  pub went_stands : (s next : Standing) → Stands log base s → went_by base s (step_of d log s.reader) ≡ On next → Stands log base next
+  pub went_stands : (s next : Standing) → Stands log base s → went_by base s (step_of d log s.reader) ≡ Ok (Some next) → Stands log base next
   went_stands s next k e = record { within = (step-forward d log base s next e).inside; sound = went_sound s next k.sound e; fits = k.fits }
 
   -- ---- where it waits
@@ -94,76 +91,75 @@ module _ (d : Directory) (log : List ℕ) (base : ℕ) where
     pub within : s.reader.position ≤ length log
     pub refused : waits (step_of d log s.reader) ≡ true
 
-  waits-on : (n : ℕ) (s last : Standing) → Sound base s → s.reader.position ≤ length log → length log - s.reader.position < n → check_on n d log base s ≡ check.Waiting last → Waits last
+  waits-on : (n : ℕ) (s last : Standing) → Sound base s → s.reader.position ≤ length log → length log - s.reader.position < n → check_on n d log base s ≡ Ok last → Waits last
   unfolding check_on
   waits-on zero s last k h few e = absurd (omega arith)
   waits-on (suc n) s last k h few e = by (went_by base s (step_of d log s.reader)) refl e (waits-on n)
     where
       Next : Type 0
-      Next = (s last : Standing) → Sound base s → s.reader.position ≤ length log → length log - s.reader.position < n → check_on n d log base s ≡ check.Waiting last → Waits last
+      Next = (s last : Standing) → Sound base s → s.reader.position ≤ length log → length log - s.reader.position < n → check_on n d log base s ≡ Ok last → Waits last
 
-      here : (st : Step) → step_of d log s.reader ≡ st → (w : Standing) → went_by base s st ≡ Waiting w → Waiting w ≡ Waiting last → Waits last
-      here (Took t) q w f g = absurd (action-goes base s t w f)
-      here (Refused x) q w f g = refused (may_change x.answer) refl
+      here : (st : Result Stepped Refusal) → step_of d log s.reader ≡ st → went_by base s st ≡ Ok None → waits st ≡ true
+      here (Ok t) q f = absurd (action-goes base s t f)
+      here (Err x) q f = refused (may_change x.answer) refl
         where
-          refused : (b : Bool) → may_change x.answer ≡ b → Waits last
-          refused true m =
-              let p : Waiting s ≡ Waiting last = sym (if_true (may_change x.answer) _ _ m) ∙ f ∙ g in
-              let same : s ≡ last = cc in
-              subst Waits same (record { sound = k; within = h; refused = ap waits q ∙ m })
+          refused : (b : Bool) → may_change x.answer ≡ b → may_change x.answer ≡ true
+          refused true m = m
           refused false m = let z : ◌≡◌ {A = ℕ} 0 1 = cc (sym (if_false (may_change x.answer) _ _ m) ∙ f) in absurd (omega arith)
 
-      by : (w : Went) → went_by base s (step_of d log s.reader) ≡ w → onward (check_on n d log base) w ≡ check.Waiting last → Next → Waits last
-      by (On next) q f ih =
+      by : (w : Went) → went_by base s (step_of d log s.reader) ≡ w → onward s (check_on n d log base) w ≡ Ok last → Next → Waits last
+      by (Ok (Some next)) q f ih =
           let o = step-forward d log base s next q in
           ih next last (went_sound s next k q) o.inside (omega (arith, o.forward, o.inside)) f
-      by (Waiting w) q f ih = let g : w ≡ last = cc in here (step_of d log s.reader) refl w q (ap Waiting g)
-      by (Settled r) q f ih = let z : ◌≡◌ {A = ℕ} 0 1 = cc in absurd (omega arith)
+      by (Ok None) q f ih =
+          let same : s ≡ last = cc in
+          subst Waits same (record { sound = k; within = h; refused = here (step_of d log s.reader) refl q })
+      by (Err r) q f ih = let z : ◌≡◌ {A = ℕ} 0 1 = cc in absurd (omega arith)
 
-  pub check_waits : (s last : Standing) → Sound base s → s.reader.position ≤ length log → check_in d log base s ≡ check.Waiting last → Waits last
+  pub check_waits : (s last : Standing) → Sound base s → s.reader.position ≤ length log → check_in d log base s ≡ Ok last → Waits last
   check_waits s last k h e = waits-on (suc (length log)) s last k h (omega arith) e
 
   -- ---- where it is settled
 
-  went_settles : (s : Standing) (st : Step) → step_of d log s.reader ≡ st → s.reader.position ≤ length log → (ran : Ran) → went_by base s st ≡ Settled ran → decides ran.answer ≡ true
-  went_settles s (Refused x) q h ran e = by (may_change x.answer) refl
+  went_settles : (s : Standing) (st : Result Stepped Refusal) → step_of d log s.reader ≡ st → s.reader.position ≤ length log → (ran : Ran) → went_by base s st ≡ Err ran → decides ran.answer ≡ true
+  went_settles s (Err x) q h ran e = by (may_change x.answer) refl
     where
       by : (b : Bool) → may_change x.answer ≡ b → decides ran.answer ≡ true
       by true m = let z : ◌≡◌ {A = ℕ} 0 1 = cc (sym (if_true (may_change x.answer) _ _ m) ∙ e) in absurd (omega arith)
       by false m =
-          let f : Settled (report_of s x.answer (base + x.position)) ≡ Settled ran = sym (if_false (may_change x.answer) _ _ m) ∙ e in
+          let f : ◌≡◌ {A = Went} (Err (report_of s x.answer (base + x.position))) (Err ran) = sym (if_false (may_change x.answer) _ _ m) ∙ e in
           let p : report_of s x.answer (base + x.position) ≡ ran = cc in
           sym (ap (λ (r : Ran). decides r.answer) p) ∙ step-decides d log s.reader x h q m
-  went_settles s (Took t) q h ran e = by s.reader.inside (is_end t.action) e
+  went_settles s (Ok t) q h ran e = by s.reader.inside (is_end t.action) e
     where
-      ended : (b : Bool) → (if b then Settled (record { answer = UsedUp; position = base + t.reader.position; count = s.count + 1; fault_at = base + t.reader.position }) else On (record { expected = s.expected + 1; start = base + t.reader.position; count = s.count + 1; reader = t.reader })) ≡ Settled ran → decides ran.answer ≡ true
+      ended : (b : Bool) → ◌≡◌ {A = Went} (if b then Err (record { answer = UsedUp; position = base + t.reader.position; count = s.count + 1; fault_at = base + t.reader.position }) else Ok (Some (record { expected = s.expected + 1; start = base + t.reader.position; count = s.count + 1; reader = t.reader }))) (Err ran) → decides ran.answer ≡ true
       ended true f =
           let p : record { answer = UsedUp; position = base + t.reader.position; count = s.count + 1; fault_at = base + t.reader.position } ≡ ran = cc in
           sym (ap (λ (r : Ran). decides r.answer) p)
       ended false f = let z : ◌≡◌ {A = ℕ} 0 1 = cc in absurd (omega arith)
 
-      opened : (b : Bool) → (if b then On (reading_at s t.reader) else Settled (report_of s WrongId s.start)) ≡ Settled ran → decides ran.answer ≡ true
+      opened : (b : Bool) → ◌≡◌ {A = Went} (if b then Ok (Some (reading_at s t.reader)) else Err (report_of s WrongId s.start)) (Err ran) → decides ran.answer ≡ true
       opened true f = let z : ◌≡◌ {A = ℕ} 0 1 = cc in absurd (omega arith)
       opened false f =
           let p : report_of s WrongId s.start ≡ ran = cc in
           sym (ap (λ (r : Ran). decides r.answer) p)
 
-      by : (b i : Bool) → (if b then if i then after_record base s t.reader else On (reading_at s t.reader) else after_opening s t.reader) ≡ Settled ran → decides ran.answer ≡ true
+      by : (b i : Bool) → (if b then if i then after_record base s t.reader else Ok (Some (reading_at s t.reader)) else after_opening s t.reader) ≡ Err ran → decides ran.answer ≡ true
       by true true f = ended (eqb s.expected last_record_id) f
       by true false f = let z : ◌≡◌ {A = ℕ} 0 1 = cc in absurd (omega arith)
       by false i f = opened (eqb t.reader.record_id s.expected) f
 
-  settles_on : (n : ℕ) (s : Standing) → s.reader.position ≤ length log → (ran : Ran) → check_on n d log base s ≡ check.Settled ran → decides ran.answer ≡ true
+  settles_on : (n : ℕ) (s : Standing) → s.reader.position ≤ length log → (ran : Ran) → check_on n d log base s ≡ Err ran → decides ran.answer ≡ true
   unfolding check_on
   settles_on zero s h ran e = let z : ◌≡◌ {A = ℕ} 0 1 = cc in absurd (omega arith)
   settles_on (suc n) s h ran e = by (went_by base s (step_of d log s.reader)) refl e (settles_on n)
     where
-      by : (w : Went) → went_by base s (step_of d log s.reader) ≡ w → onward (check_on n d log base) w ≡ check.Settled ran
-          → ((s : Standing) → s.reader.position ≤ length log → (ran : Ran) → check_on n d log base s ≡ check.Settled ran → decides ran.answer ≡ true) → decides ran.answer ≡ true
-      by (On next) q f ih = ih next (step-forward d log base s next q).inside ran f
-      by (Waiting w) q f ih = let z : ◌≡◌ {A = ℕ} 0 1 = cc in absurd (omega arith)
-      by (Settled r) q f ih = let p : r ≡ ran = cc in went_settles s (step_of d log s.reader) refl h ran (q ∙ ap Settled p)
+      by : (w : Went) → went_by base s (step_of d log s.reader) ≡ w → onward s (check_on n d log base) w ≡ Err ran
+          → ((s : Standing) → s.reader.position ≤ length log → (ran : Ran) → check_on n d log base s ≡ Err ran → decides ran.answer ≡ true) → decides ran.answer ≡ true
+      by (Ok (Some next)) q f ih = ih next (step-forward d log base s next q).inside ran f
+      by (Ok None) q f ih = let z : ◌≡◌ {A = ℕ} 0 1 = cc in absurd (omega arith)
+      by (Err r) q f ih = let p : r ≡ ran = cc in went_settles s (step_of d log s.reader) refl h ran (q ∙ ap Err p)
 
   -- with 3 to 12
-  pub check_settles : (s : Standing) → s.reader.position ≤ length log → (ran : Ran) → check_in d log base s ≡ check.Settled ran → decides ran.answer ≡ true
+  pub check_settles : (s : Standing) → s.reader.position ≤ length log → (ran : Ran) → check_in d log base s ≡ Err ran → decides ran.answer ≡ true
   check_settles s h ran e = settles_on (suc (length log)) s h ran e

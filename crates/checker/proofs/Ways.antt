@@ -13,40 +13,36 @@ use Rattle.directory.specs.declared.directory.Directory.{Directory}
 use Rattle.record.specs.Next.{is_end, step_of}
 use Rattle.record.specs.declared.reader.LogReader.{LogReader}
 use Rattle.record.specs.declared.reader.Stepped.{Stepped}
-use Rattle.record.specs.declared.reader.Step.{Step}
-use Rattle.record.specs.declared.reader.Step.TheVariants.{Took, Refused}
 use Rattle.record.proofs.Steps.{step-on}
 use Rattle.replay.specs.declared.many_records.Ran.{Ran}
-use Rattle.checker.specs.Check.{may_change, reading_at, after_record, after_action, went_by, onward, check_on, check_in}
+use Rattle.checker.specs.Check.{Went, Check, may_change, reading_at, after_record, after_action, went_by, onward, check_on, check_in}
 use Rattle.checker.specs.declared.standing.Standing.{Standing}
-use Rattle.checker.specs.declared.standing.Went.{Went}
-use Rattle.checker.specs.declared.standing.Went.TheVariants.{On, Waiting, Settled}
-use Rattle.checker.specs.declared.standing.Check.{Check}
-use Rattle.checker.specs.declared.standing.Check.TheVariants as check
+use Rattle.std.specs.Prelude.{Result, Ok, Err, Some, None}
+use Rattle.answer.specs.declared.answer.Refusal.{Refusal}
 
 -- ---- where a step that goes on leaves the reader
 
-reader-of : (s t : Standing) → On s ≡ On t → s.reader ≡ t.reader
+reader-of : (s t : Standing) → ◌≡◌ {A = Went} (Ok (Some s)) (Ok (Some t)) → s.reader ≡ t.reader
 reader-of s t e = let p : s ≡ t = cc in ap (λ (x : Standing). x.reader) p
 
 -- a choice between going on and not
-chosen : (b : Bool) (s t : Standing) (r : Ran) → (if b then Settled r else On s) ≡ On t → s.reader ≡ t.reader
+chosen : (b : Bool) (s t : Standing) (r : Ran) → ◌≡◌ {A = Went} (if b then Err r else Ok (Some s)) (Ok (Some t)) → s.reader ≡ t.reader
 chosen true s t r e = let z : ◌≡◌ {A = ℕ} 0 1 = cc in absurd (omega arith)
 chosen false s t r e = reader-of s t e
 
-chosen_on : (b : Bool) (s t : Standing) (r : Ran) → (if b then On s else Settled r) ≡ On t → s.reader ≡ t.reader
+chosen_on : (b : Bool) (s t : Standing) (r : Ran) → ◌≡◌ {A = Went} (if b then Ok (Some s) else Err r) (Ok (Some t)) → s.reader ≡ t.reader
 chosen_on true s t r e = reader-of s t e
 chosen_on false s t r e = let z : ◌≡◌ {A = ℕ} 0 1 = cc in absurd (omega arith)
 
-pub never_on : (b : Bool) (s t : Standing) (r : Ran) → (if b then Waiting s else Settled r) ≡ On t → ⊥
-never_on true s t r e = let z : ◌≡◌ {A = ℕ} 0 1 = cc in omega arith
-never_on false s t r e = let z : ◌≡◌ {A = ℕ} 0 1 = cc in omega arith
+pub never_on : (b : Bool) (t : Standing) (r : Ran) → ◌≡◌ {A = Went} (if b then Ok None else Err r) (Ok (Some t)) → ⊥
+never_on true t r e = let z : ◌≡◌ {A = ℕ} 0 1 = cc in omega arith
+never_on false t r e = let z : ◌≡◌ {A = ℕ} 0 1 = cc in omega arith
 
 module _ (base : ℕ) (s : Standing) where
-  pub action-reader : (t : Stepped) (next : Standing) → after_action base s t ≡ On next → t.reader ≡ next.reader
+  pub action-reader : (t : Stepped) (next : Standing) → after_action base s t ≡ Ok (Some next) → t.reader ≡ next.reader
   action-reader t next e = by s.reader.inside refl
     where
-      inside : (b : Bool) → (if b then after_record base s t.reader else On (reading_at s t.reader)) ≡ On next → t.reader ≡ next.reader
+      inside : (b : Bool) → (if b then after_record base s t.reader else Ok (Some (reading_at s t.reader))) ≡ Ok (Some next) → t.reader ≡ next.reader
       inside true q = chosen (eqb s.expected last_record_id) _ next _ q
       inside false q = reader-of (reading_at s t.reader) next q
 
@@ -59,12 +55,12 @@ pub record Forward (log : List ℕ) (s next : Standing) : Type 0 where
   pub forward : s.reader.position < next.reader.position
   pub inside : next.reader.position ≤ length log
 
-pub step-forward : (d : Directory) (log : List ℕ) (base : ℕ) (s next : Standing) → went_by base s (step_of d log s.reader) ≡ On next → Forward log s next
+pub step-forward : (d : Directory) (log : List ℕ) (base : ℕ) (s next : Standing) → went_by base s (step_of d log s.reader) ≡ Ok (Some next) → Forward log s next
 step-forward d log base s next e = by (step_of d log s.reader) refl e
   where
-    by : (st : Step) → step_of d log s.reader ≡ st → went_by base s st ≡ On next → Forward log s next
-    by (Refused x) q f = absurd (never_on (may_change x.answer) s next _ f)
-    by (Took t) q f =
+    by : (st : Result Stepped Refusal) → step_of d log s.reader ≡ st → went_by base s st ≡ Ok (Some next) → Forward log s next
+    by (Err x) q f = absurd (never_on (may_change x.answer) next _ f)
+    by (Ok t) q f =
         let o = step-on d log s.reader t q in
         let r = action-reader base s t next f in
         let p : t.reader.position ≡ next.reader.position = ap (λ (k : LogReader). k.position) r in
@@ -72,10 +68,10 @@ step-forward d log base s next e = by (step_of d log s.reader) refl e
 
 -- ---- the bound on the steps is never met
 
-onward-same : (f g : Standing → Check) (w : Went) → ((s : Standing) → w ≡ On s → f s ≡ g s) → onward f w ≡ onward g w
-onward-same f g (On s) e = e s refl
-onward-same f g (Waiting s) e = refl
-onward-same f g (Settled r) e = refl
+onward-same : (s : Standing) (f g : Standing → Check) (w : Went) → ((t : Standing) → w ≡ Ok (Some t) → f t ≡ g t) → onward s f w ≡ onward s g w
+onward-same s f g (Ok (Some t)) e = e t refl
+onward-same s f g (Ok None) e = refl
+onward-same s f g (Err r) e = refl
 
 module _ (d : Directory) (log : List ℕ) (base : ℕ) where
   pub check_enough : (n m : ℕ) (s : Standing) → length log - s.reader.position < n → length log - s.reader.position < m → check_on n d log base s ≡ check_on m d log base s
@@ -83,15 +79,15 @@ module _ (d : Directory) (log : List ℕ) (base : ℕ) where
   check_enough zero m s p q = absurd (omega arith)
   check_enough (suc n) zero s p q = absurd (omega arith)
   check_enough (suc n) (suc m) s p q =
-      onward-same (check_on n d log base) (check_on m d log base) (went_by base s (step_of d log s.reader))
+      onward-same s (check_on n d log base) (check_on m d log base) (went_by base s (step_of d log s.reader))
       (λ next e. let o = step-forward d log base s next e in check_enough n m next (omega (arith, o.forward, o.inside)) (omega (arith, o.forward, o.inside)))
 
   -- so a check is one step, and the check from there
-  pub check_step : (s : Standing) → check_in d log base s ≡ onward (check_in d log base) (went_by base s (step_of d log s.reader))
+  pub check_step : (s : Standing) → check_in d log base s ≡ onward s (check_in d log base) (went_by base s (step_of d log s.reader))
   unfolding check_on
   check_step s =
-      onward-same (check_on (length log) d log base) (check_in d log base) (went_by base s (step_of d log s.reader))
+      onward-same s (check_on (length log) d log base) (check_in d log base) (went_by base s (step_of d log s.reader))
       (λ next e. let o = step-forward d log base s next e in check_enough (length log) (suc (length log)) next (omega (arith, o.forward, o.inside)) (omega (arith, o.forward, o.inside)))
 
-  pub check_went : (s : Standing) (w : Went) → w ≡ went_by base s (step_of d log s.reader) → onward (check_in d log base) w ≡ check_in d log base s
-  check_went s w e = ap (onward (check_in d log base)) e ∙ sym (check_step s)
+  pub check_went : (s : Standing) (w : Went) → w ≡ went_by base s (step_of d log s.reader) → onward s (check_in d log base) w ≡ check_in d log base s
+  check_went s w e = ap (onward s (check_in d log base)) e ∙ sym (check_step s)

@@ -1,6 +1,6 @@
 -- A check of a log's bytes: the run's walk without an image (document 02, "One. Check a log off the card": "applies nothing, and at the close
 -- reports the answer, position and record count that a run over the joined bytes would report"). Added.
-use Rattle.std.specs.Prelude.{ℕ, zero, suc, ◌+◌, Bool, true, ◌&&◌, ◌||◌, List, eqb, leb, ltb, length}
+use Rattle.std.specs.Prelude.{ℕ, zero, suc, ◌+◌, Bool, true, ◌&&◌, ◌||◌, List, eqb, leb, ltb, length, Result, Ok, Err, Option, Some, None}
 use Rattle.std.specs.Prelude.{if◌then◌else◌}
 use Rattle.answer.specs.Answer.{number_of, last_record_id}
 use Rattle.answer.specs.declared.answer.Answer.{Answer}
@@ -9,14 +9,9 @@ use Rattle.directory.specs.declared.directory.Directory.{Directory}
 use Rattle.record.specs.Next.{is_end, reader_at, step_of}
 use Rattle.record.specs.declared.reader.LogReader.{LogReader}
 use Rattle.record.specs.declared.reader.Stepped.{Stepped}
-use Rattle.record.specs.declared.reader.Step.{Step}
-use Rattle.record.specs.declared.reader.Step.TheVariants.{Took, Refused}
 use Rattle.replay.specs.declared.many_records.Ran.{Ran}
 use Rattle.checker.specs.declared.standing.Standing.{Standing}
-use Rattle.checker.specs.declared.standing.Went.{Went}
-use Rattle.checker.specs.declared.standing.Went.TheVariants.{On, Waiting, Settled}
-use Rattle.checker.specs.declared.standing.Check.{Check}
-use Rattle.checker.specs.declared.standing.Check.TheVariants as check
+use Rattle.answer.specs.declared.answer.Refusal.{Refusal}
 
 -- 1 and 2, the answers of a step that bytes to come may change (no step is refused with 0)
 abbrev pub may_change : Answer → Bool
@@ -44,38 +39,46 @@ stands_before before s =
 abbrev pub report_of : Standing → Answer → ℕ → Ran
 report_of s answer place = record { answer = answer; position = s.start; count = s.count; fault_at = place }
 
+-- what a step comes to: on from there, or more bytes are wanted; or what a run reports is settled
+abbrev pub Went : Type 0
+Went = Result (Option Standing) Ran
+
+-- what the bytes that are there come to: where it waits for more; or what a run reports is settled
+abbrev pub Check : Type 0
+Check = Result Standing Ran
+
 -- behind a record's end tag: "After id 2^64-1 it stops with 12", or on with the next id. The first of the bytes is byte `base` of all
 abbrev pub after_record : ℕ → Standing → LogReader → Went
 after_record base s r =
-    if eqb s.expected last_record_id then Settled (record { answer = UsedUp; position = base + r.position; count = s.count + 1; fault_at = base + r.position }) else
-    On (record { expected = s.expected + 1; start = base + r.position; count = s.count + 1; reader = r })
+    if eqb s.expected last_record_id then Err (record { answer = UsedUp; position = base + r.position; count = s.count + 1; fault_at = base + r.position }) else
+    Ok (Some (record { expected = s.expected + 1; start = base + r.position; count = s.count + 1; reader = r }))
 
 -- behind an opening: "Expected id is tested .. right after the opening"
 abbrev pub after_opening : Standing → LogReader → Went
-after_opening s r = if eqb r.record_id s.expected then On (reading_at s r) else Settled (report_of s WrongId s.start)
+after_opening s r = if eqb r.record_id s.expected then Ok (Some (reading_at s r)) else Err (report_of s WrongId s.start)
 
 -- behind an action
 abbrev pub after_action : ℕ → Standing → Stepped → Went
 after_action base s t =
-    if s.reader.inside then if is_end t.action then after_record base s t.reader else On (reading_at s t.reader) else
+    if s.reader.inside then if is_end t.action then after_record base s t.reader else Ok (Some (reading_at s t.reader)) else
     after_opening s t.reader
 
 -- one step: on behind an action; "Answers 1 and 2 can be given only at the close", so with these it waits for more bytes; any other refusal
 -- settles what the run reports
-abbrev pub went_by : ℕ → Standing → Step → Went
-went_by base s (Refused x) = if may_change x.answer then Waiting s else Settled (report_of s x.answer (base + x.position))
-went_by base s (Took t) = after_action base s t
+abbrev pub went_by : ℕ → Standing → Result Stepped Refusal → Went
+went_by base s (Err x) = if may_change x.answer then Ok None else Err (report_of s x.answer (base + x.position))
+went_by base s (Ok t) = after_action base s t
 
 -- and on from there
-abbrev pub onward : (Standing → Check) → Went → Check
-onward on (On s) = on s
-onward on (Waiting s) = check.Waiting s
-onward on (Settled ran) = check.Settled ran
+abbrev pub onward : Standing → (Standing → Check) → Went → Check
+onward s on (Ok (Some next)) = on next
+onward s on (Ok None) = Ok s
+onward s on (Err ran) = Err ran
 
 -- the bytes from the reader's place on; at most n steps
 unfoldable pub check_on : ℕ → Directory → List ℕ → ℕ → Standing → Check
-check_on zero d log base s = check.Waiting s
-check_on (suc n) d log base s = onward (check_on n d log base) (went_by base s (step_of d log s.reader))
+check_on zero d log base s = Ok s
+check_on (suc n) d log base s = onward s (check_on n d log base) (went_by base s (step_of d log s.reader))
 
 -- a step takes a byte or more, so the bound is never met (`check_enough`, proofs/Ways)
 abbrev pub check_in : Directory → List ℕ → ℕ → Standing → Check

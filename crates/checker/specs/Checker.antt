@@ -1,6 +1,6 @@
 -- The checker (document 02, "One. Check a log off the card": "Our field recorder hands over a log in pieces, sometimes of no bytes. We want a
 -- checker that takes the pieces in turn, applies nothing, and at the close reports .."). Added.
-use Rattle.std.specs.Prelude.{Bool, true, false, ◌&&◌, ◌||◌, ◌≡◌, List, [], ◌∷◌, ◌++◌, ℕ, ◌+◌, ◌-◌, ◌*◌, eqb, leb, ltb, length, take, drop, replicate}
+use Rattle.std.specs.Prelude.{Bool, true, false, ◌&&◌, ◌||◌, ◌≡◌, List, [], ◌∷◌, ◌++◌, ℕ, ◌+◌, ◌-◌, ◌*◌, eqb, leb, ltb, length, take, drop, replicate, Result, Ok, Err}
 use Rattle.std.specs.Prelude.{if◌then◌else◌}
 use Rattle.answer.specs.Answer.{number_of}
 use Rattle.answer.specs.declared.answer.Answer.{Answer}
@@ -8,17 +8,15 @@ use Rattle.answer.specs.declared.answer.Answer.TheVariants.{Done, EndOfLog, Cut,
 use Rattle.directory.specs.Directory.{directory_kept}
 use Rattle.directory.specs.declared.directory.Directory.{Directory}
 use Rattle.record.specs.Next.{step_of}
-use Rattle.record.specs.declared.reader.Step.{Step}
-use Rattle.record.specs.declared.reader.Step.TheVariants.{Took, Refused}
 use Rattle.replay.specs.declared.many_records.Ran.{Ran}
 use Rattle.output.specs.Put.{put}
-use Rattle.checker.specs.Check.{may_change, decides, first_standing, reading_at, stands_before, report_of, check_in}
+use Rattle.checker.specs.Check.{may_change, decides, first_standing, reading_at, stands_before, report_of, Check, check_in}
 use Rattle.checker.specs.declared.standing.Standing.{Standing}
-use Rattle.checker.specs.declared.standing.Check.{Check}
-use Rattle.checker.specs.declared.standing.Check.TheVariants as check
 use Rattle.checker.specs.declared.checker.LogChecker.{LogChecker}
 use Rattle.checker.specs.declared.checker.Checked.{Checked}
 use Rattle.checker.specs.declared.checker.Closed.{Closed}
+use Rattle.record.specs.declared.reader.Stepped.{Stepped}
+use Rattle.answer.specs.declared.answer.Refusal.{Refusal}
 
 -- the bytes of the action that isn't whole yet. Of an action with 64 entries of 16 bytes there are 1,043, and no action has more
 abbrev pub unread : LogChecker → List ℕ
@@ -47,9 +45,9 @@ checker_start d first = record { answer = if directory_kept d then Done else Bad
 -- ---- the rules of a checker; another is answered 13
 
 -- bytes that wait for more: reading them is refused with 1 or 2
-abbrev pub waits : Step → Bool
-waits (Refused x) = may_change x.answer
-waits (Took t) = false
+abbrev pub waits : Result Stepped Refusal → Bool
+waits (Err x) = may_change x.answer
+waits (Ok t) = false
 
 -- while it is open: the unread bytes are the last ones taken, it stands before them, and they are no whole action
 unfoldable pub open_kept_of : LogChecker → Bool
@@ -107,8 +105,8 @@ settled c ran = record { directory = c.directory; standing = c.standing; held = 
 
 -- after a check of the unread bytes and the piece
 abbrev pub piece_by : LogChecker → List ℕ → Check → Checked
-piece_by c bytes (check.Waiting s) = answered Done (keeping c s (drop s.reader.position bytes))
-piece_by c bytes (check.Settled ran) = told (settled c ran)
+piece_by c bytes (Ok s) = answered Done (keeping c s (drop s.reader.position bytes))
+piece_by c bytes (Err ran) = told (settled c ran)
 
 -- the unread bytes and the piece, checked from where it stands
 unfoldable pub piece_taken : LogChecker → List ℕ → Checked
@@ -131,8 +129,8 @@ piece_of c bytes = if checker_kept c then piece_kept c bytes else answered BadSt
 -- what a run reports whose bytes end here: 2 inside a record, 1 between records, told where the action begins that isn't whole, which is the
 -- bytes' end if none is begun
 abbrev pub report_in : ℕ → Check → Ran
-report_in base (check.Waiting s) = report_of s (if s.reader.inside then Cut else EndOfLog) (base + s.reader.position)
-report_in base (check.Settled ran) = ran
+report_in base (Ok s) = report_of s (if s.reader.inside then Cut else EndOfLog) (base + s.reader.position)
+report_in base (Err ran) = ran
 
 -- the checker's own: its reader stands before the unread bytes
 abbrev pub report_now : LogChecker → Ran

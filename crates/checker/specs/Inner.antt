@@ -1,6 +1,5 @@
 -- What the inner functions of the checker ask for and answer. Nothing here has to be believed: `Checker` says what the public calls answer.
-use Rattle.std.specs.Prelude.{true, false, List, ◌++◌, ◌≡◌, ℕ, ◌+◌, ◌-◌, ◌≤◌, ◌<◌, ltb, length, take, get_or}
-use Rattle.std.specs.Prelude.{if◌then◌else◌}
+use Rattle.std.specs.Prelude.{true, false, List, ◌++◌, ◌≡◌, ℕ, ◌+◌, ◌-◌, ◌≤◌, ◌<◌, length, take, get_or}
 use Rattle.record.specs.declared.reader.LogReader.{LogReader}
 use Rattle.checker.specs.Checker.{unread, is_open, checker_kept}
 use Rattle.checker.specs.declared.checker.LogChecker.{LogChecker}
@@ -31,10 +30,6 @@ pub record Front (c : LogChecker) (bytes front : List ℕ) : Type 0 where
   pub is : front ≡ take 1043 (unread c ++ bytes)
   pub held : length (unread c) ≡ c.held
   pub known : (k : ℕ) → get_or (unread c ++ bytes) k 0 < 256
-
--- the smaller of two
-abbrev pub lesser : ℕ → ℕ → ℕ
-lesser a b = if ltb a b then a else b
 
 -- the reader n bytes earlier
 abbrev pub back_reader : ℕ → LogReader → LogReader

@@ -1,17 +1,16 @@
 // A log checked as it comes, in pieces of any length.
 ghost use Rattle.std.specs.Prelude.{◌≡◌, true, false, ◌++◌, ◌+◌, ◌≤◌, ◌<◌, length};
-ghost use Rattle.answer.specs.Answer.{number_of};
 ghost use Rattle.directory.specs.Directory.{directory_kept};
 ghost use Rattle.record.specs.Next.{step_of};
 ghost use Rattle.checker.specs.Check.{decides, check_in};
 ghost use Rattle.checker.specs.Checker.{unread, padded, is_open, checker_start, waits, open_kept_of, checker_kept, answered, counted, told, keeping, settled, piece_by, piece_taken, piece_kept, piece_of, report_now, unclosed, close_kept, close_of};
-ghost use Rattle.checker.specs.Inner.{Stands, Takes, Front, lesser};
+ghost use Rattle.checker.specs.Inner.{Stands, Takes, Front};
 
-use super::standing::{Check, Standing, Went};
+use super::standing::Standing;
 use super::walk::{check_all, one_step};
 use answer::Answer;
 use directory::Directory;
-use record::{LogReader, Step};
+use record::LogReader;
 use replay::Ran;
 
 // No action has more bytes.
@@ -51,7 +50,7 @@ fn stored(bytes: &[u8]) -> [u8; ROOM]
     ensures { result ≡ padded bytes.now }
 {
     let mut part = [0u8; ROOM];
-    output::copy_into(&mut part, 0, bytes);
+    part[..bytes.len()].copy_from_slice(bytes);
     part
 }
 
@@ -60,16 +59,10 @@ fn join(first: &[u8], second: &[u8]) -> [u8; ROOM]
     requires { length first.now + length second.now ≤ 1043 }
     ensures { result ≡ padded (first.now ++ second.now) }
 {
-    let mut part = [0u8; ROOM];
-    let at = output::copy_into(&mut part, 0, first);
-    output::copy_into(&mut part, at, second);
+    let mut part = stored(first);
+    let at = first.len();
+    part[at..at + second.len()].copy_from_slice(second);
     part
-}
-
-fn least(a: usize, b: usize) -> usize
-    ensures { result ≡ lesser a b }
-{
-    if a < b { a } else { b }
 }
 
 // Whether bytes are no whole action.
@@ -78,11 +71,8 @@ fn waits(d: Directory, bytes: &[u8], reader: LogReader) -> bool
     ensures { result ≡ waits (step_of d bytes.now reader) }
 {
     match reader.next_kept(d, bytes) {
-        Step::Refused(x) => {
-            let answer = x.answer;
-            answer.number() < 3
-        }
-        Step::Took(_) => false,
+        Err(x) => x.answer.number() < 3,
+        Ok(_) => false,
     }
 }
 
@@ -92,7 +82,7 @@ impl LogChecker {
         ensures { result ≡ checker_start directory first }
     {
         let checker = LogChecker {
-            directory: directory,
+            directory,
             standing: Standing::new(first),
             held: 0,
             part: [0u8; ROOM],
@@ -116,7 +106,7 @@ impl LogChecker {
         ensures { result ≡ answered answer self }
     {
         Checked {
-            answer: answer,
+            answer,
             fault_at: self.total,
             checker: self,
         }
@@ -125,11 +115,9 @@ impl LogChecker {
     fn told(self) -> Checked
         ensures { result ≡ told self }
     {
-        let ran = self.ran;
-        let answer = ran.answer;
         Checked {
-            answer: answer,
-            fault_at: ran.fault_at,
+            answer: self.ran.answer,
+            fault_at: self.ran.fault_at,
             checker: self,
         }
     }
@@ -138,17 +126,16 @@ impl LogChecker {
         requires { self.total + n < 9223372036854775808 }
         ensures { result ≡ counted self n }
     {
-        let mut c = self;
-        c.total = self.total + n;
-        c
+        LogChecker {
+            total: self.total + n,
+            ..self
+        }
     }
 
     fn settled(self, ran: Ran) -> LogChecker
         ensures { result ≡ settled self ran }
     {
-        let mut c = self;
-        c.ran = ran;
-        c
+        LogChecker { ran, ..self }
     }
 
     // The bytes that weren't read, for the next piece.
@@ -158,82 +145,56 @@ impl LogChecker {
     {
         let mut reader = s.reader;
         reader.position = 0;
-        let standing = s.reading(reader);
         let part = stored(bytes);
-        let mut c = self;
-        c.standing = standing;
-        c.held = bytes.len();
-        c.part = part;
-        c
+        LogChecker {
+            standing: s.reading(reader),
+            held: bytes.len(),
+            part,
+            ..self
+        }
     }
 
-    fn number(self) -> u8
-        ensures { result ≡ number_of self.ran.answer }
+    // Whether what a run reports is open still.
+    fn is_open(self) -> bool
+        ensures { result ≡ is_open self }
     {
-        let ran = self.ran;
-        let answer = ran.answer;
-        answer.number()
+        self.ran.answer == Answer::Done
     }
 
     // Whether what it reports stops a run.
     fn is_settled(self) -> bool
         ensures { result ≡ decides self.ran.answer }
     {
-        let n = self.number();
-        if n < 3 {
-            return false;
-        }
-        n <= 12
+        let n = self.ran.answer.number();
+        3 <= n && n <= 12
     }
 
-    fn unread_waits(self) -> bool
-        requires { (directory_kept self.directory ≡ true) × (self.held ≤ 1043) }
-        ensures { result ≡ waits (step_of self.directory (unread self) self.standing.reader) }
+    fn unread(&self) -> &[u8]
+        requires { self.now.held ≤ 1043 }
+        ensures { result.now ≡ unread self.now }
     {
-        let part = self.part;
-        let held = self.held;
-        let bytes: &[u8] = &part;
-        let standing = self.standing;
-        let reader = standing.reader;
-        waits(self.directory, &bytes[..held], reader)
+        &self.part[..self.held]
     }
 
+    #[tactic(auto, unfolding(crate::specs::Checker::open_kept_of))]
     fn open_kept(self) -> bool
         requires { directory_kept self.directory ≡ true }
         ensures { result ≡ open_kept_of self }
     {
-        if ROOM < self.held {
-            return false;
-        }
-        if self.total < self.held {
-            return false;
-        }
-        if self.standing.stands(self.total - self.held) {
-            return self.unread_waits();
-        }
-        false
+        self.held <= ROOM
+            && self.held <= self.total
+            && self.standing.stands(self.total - self.held)
+            && waits(self.directory, self.unread(), self.standing.reader)
     }
 
     // Whether it keeps its rules.
+    #[tactic(auto, unfolding(crate::specs::Checker::checker_kept))]
     pub fn kept(self) -> bool
         ensures { result ≡ checker_kept self }
     {
-        if !self.directory.kept() {
-            return false;
-        }
-        if LIMIT <= self.total {
-            return false;
-        }
-        if self.closed {
-            return true;
-        }
-        if self.is_settled() {
-            return true;
-        }
-        if self.number() != 0 {
-            return false;
-        }
-        self.open_kept()
+        self.directory.kept()
+            && self.total < LIMIT
+            && (self.closed || self.is_settled() || self.is_open() && self.open_kept())
     }
 
     // Bytes of which the first is byte `base` of all, from where the check stands in them.
@@ -242,12 +203,11 @@ impl LogChecker {
         ensures { result ≡ piece_by self bytes.now (check_in self.directory bytes.now base s) }
     {
         match check_all(self.directory, bytes, base, s) {
-            Check::Settled(ran) => self.settled(ran).told(),
-            Check::Waiting(last) => {
-                let reader = last.reader;
-                let at = reader.position;
+            Ok(last) => {
+                let at = last.reader.position;
                 self.keep(last, &bytes[at..]).answered(Answer::Done)
             }
+            Err(ran) => self.settled(ran).told(),
         }
     }
 
@@ -259,52 +219,41 @@ impl LogChecker {
         let before = self.total - self.held;
         let after = self.counted(bytes.len());
         match one_step(self.directory, front, before, self.standing) {
-            Went::Settled(ran) => after.settled(ran).told(),
-            Went::Waiting(s) => after.keep(s, front).answered(Answer::Done),
-            Went::On(s) => after.walked(bytes, self.total, s.back(self.held)),
+            Ok(Some(s)) => after.walked(bytes, self.total, s.back(self.held)),
+            Ok(None) => after.keep(self.standing, front).answered(Answer::Done),
+            Err(ran) => after.settled(ran).told(),
         }
     }
 
     // The unread bytes, and the piece's.
-    fn across(self, old: &[u8], bytes: &[u8]) -> Checked
-        requires { Takes self bytes.now × (old.now ≡ unread self) × (length old.now ≡ self.held) }
-        ensures { result ≡ piece_taken self bytes.now }
-    {
-        let more = least(ROOM - old.len(), bytes.len());
-        let part = join(old, &bytes[..more]);
-        let all: &[u8] = &part;
-        let n = old.len() + more;
-        self.stepped(&all[..n], bytes)
-    }
-
     fn taken(self, bytes: &[u8]) -> Checked
         requires { Takes self bytes.now }
         ensures { result ≡ piece_taken self bytes.now }
     {
-        let part = self.part;
-        let held = self.held;
-        let all: &[u8] = &part;
-        self.across(&all[..held], bytes)
+        let old = self.unread();
+        let more = (ROOM - old.len()).min(bytes.len());
+        let n = old.len() + more;
+        let part = join(old, &bytes[..more]);
+        self.stepped(&part[..n], bytes)
     }
 
     // A piece for a checker that keeps its rules.
+    #[tactic(auto, unfolding(crate::specs::Checker::piece_kept))]
     pub fn piece_kept(self, bytes: &[u8]) -> Checked
         requires { checker_kept self ≡ true }
         ensures { result ≡ piece_kept self bytes.now }
     {
-        if self.closed {
-            return self.answered(Answer::BadArgument);
+        if self.closed || LIMIT - self.total <= bytes.len() {
+            self.answered(Answer::BadArgument)
+        } else if self.is_open() {
+            self.taken(bytes)
+        } else {
+            self.counted(bytes.len()).told()
         }
-        if LIMIT - self.total <= bytes.len() {
-            return self.answered(Answer::BadArgument);
-        }
-        if self.number() == 0 {
-            return self.taken(bytes);
-        }
-        self.counted(bytes.len()).told()
     }
 
     // The next bytes of the log.
+    #[tactic(auto, unfolding(crate::specs::Checker::piece_of))]
     pub fn piece(self, bytes: &[u8]) -> Checked
         ensures { result ≡ piece_of self bytes.now }
     {
@@ -319,16 +268,15 @@ impl LogChecker {
         requires { (checker_kept self ≡ true) × (self.closed ≡ false) }
         ensures { result ≡ report_now self }
     {
-        if self.number() != 0 {
+        if !self.is_open() {
             return self.ran;
         }
-        let standing = self.standing;
-        let reader = standing.reader;
-        let place = self.total - self.held;
-        if reader.inside {
-            return standing.report(Answer::Cut, place);
-        }
-        standing.report(Answer::EndOfLog, place)
+        let answer = if self.standing.reader.inside {
+            Answer::Cut
+        } else {
+            Answer::EndOfLog
+        };
+        self.standing.report(answer, self.total - self.held)
     }
 
     fn no_run(self, answer: Answer) -> Closed
@@ -336,7 +284,7 @@ impl LogChecker {
     {
         Closed {
             ran: Ran {
-                answer: answer,
+                answer,
                 position: self.total,
                 count: 0,
                 fault_at: self.total,
@@ -345,6 +293,7 @@ impl LogChecker {
         }
     }
 
+    #[tactic(auto, unfolding(crate::specs::Checker::close_kept))]
     pub fn close_kept(self) -> Closed
         requires { checker_kept self ≡ true }
         ensures { result ≡ close_kept self }
@@ -352,16 +301,17 @@ impl LogChecker {
         if self.closed {
             return self.no_run(Answer::BadArgument);
         }
-        let ran = self.report();
-        let mut c = self;
-        c.closed = true;
         Closed {
-            ran: ran,
-            checker: c,
+            ran: self.report(),
+            checker: LogChecker {
+                closed: true,
+                ..self
+            },
         }
     }
 
     // No more pieces come.
+    #[tactic(auto, unfolding(crate::specs::Checker::close_of))]
     pub fn close(self) -> Closed
         ensures { result ≡ close_of self }
     {

@@ -1,4 +1,4 @@
-// Where a check stands, and what a step of it comes to.
+// Where a check stands.
 ghost use Rattle.std.specs.Prelude.{◌≡◌, ◌≤◌};
 ghost use Rattle.checker.specs.Check.{first_standing, reading_at, report_of, stands_before};
 ghost use Rattle.checker.specs.Inner.{back_reader};
@@ -16,20 +16,6 @@ pub struct Standing {
     pub reader: LogReader,
 }
 
-// After one step: on from there, more bytes are wanted, or what a run reports is settled.
-#[derive(Clone, Copy)]
-pub enum Went {
-    On(Standing),
-    Waiting(Standing),
-    Settled(Ran),
-}
-
-#[derive(Clone, Copy)]
-pub enum Check {
-    Waiting(Standing),
-    Settled(Ran),
-}
-
 impl Standing {
     pub fn new(first: u64) -> Standing
         ensures { result ≡ first_standing first }
@@ -45,16 +31,14 @@ impl Standing {
     pub fn reading(self, reader: LogReader) -> Standing
         ensures { result ≡ reading_at self reader }
     {
-        let mut s = self;
-        s.reader = reader;
-        s
+        Standing { reader, ..self }
     }
 
     pub fn report(self, answer: Answer, place: usize) -> Ran
         ensures { result ≡ report_of self answer place }
     {
         Ran {
-            answer: answer,
+            answer,
             position: self.start,
             count: self.count,
             fault_at: place,
@@ -67,30 +51,20 @@ impl Standing {
         ensures { result ≡ reading_at self (back_reader n self.reader) }
     {
         let mut reader = self.reader;
-        reader.position = reader.position - n;
+        reader.position -= n;
         self.reading(reader)
     }
 
     // Whether it is one before the unread bytes, of which the first is byte `before` of all.
+    #[tactic(auto, unfolding(crate::specs::Check::stands_before))]
     pub fn stands(self, before: usize) -> bool
         ensures { result ≡ stands_before before self }
     {
         let reader = self.reader;
-        if reader.position != 0 {
-            return false;
-        }
-        if !reader.validate {
-            return false;
-        }
-        if (self.start as u64) < self.count {
-            return false;
-        }
-        if before < self.start {
-            return false;
-        }
-        if reader.inside {
-            return true;
-        }
-        self.start == before
+        reader.position == 0
+            && reader.validate
+            && self.count <= self.start as u64
+            && self.start <= before
+            && (reader.inside || self.start == before)
     }
 }

@@ -80,11 +80,6 @@ module _ (d : Directory) (log : List ℕ) (at : ℕ) (s : Overlays) (next : ℕ)
       pub tested-ends : (next ≡ 0 → ⊥) → (x : Ending) → x ≡ end_read_by at s next (clearable (record_again d log at)) → x ≡ end_read_of d log at s next
       tested-ends n x e = e ∙ sym (ap (end_read_by at s next) (rules false (ne_eqb next 0 n)))
 
--- under another directory that is the same
-pub same-directory : (e d : Directory) (log : List ℕ) (at next : ℕ) (s : Overlays) (x : Ending) → e ≡ d → x ≡ end_read_by at s next (clearable (record_again e log at))
-    → x ≡ end_read_by at s next (clearable (record_again d log at))
-same-directory e d log at next s x q h = h ∙ ap (λ (y : Directory). end_read_by at s next (clearable (record_again y log at))) q
-
 -- the next id is above the record's
 pub raised : (next id : ℕ) → max next (id + 1) ≡ next_after next id
 raised next id = by (ltb id next) refl

@@ -48,12 +48,6 @@ module _ (d : Directory) (log out list : List ℕ) where
     pub all-within : (ls : List Line) → ls ≡ take l.count l.lines → AllWithin (length log) ls
     all-within ls e = rw (e ∙ h.lines) (covered-within (lines_cover d log))
 
-    pub all-fits : (ls : List Line) → ls ≡ take l.count l.lines → l.bytes ≤ length out → length (kept_bytes log ls) ≤ length out
-    all-fits ls e k = rw (e ∙ h.lines) (omega (arith, h.bytes))
-
-    pub lines-fit : (ls : List Line) → ls ≡ take l.count l.lines → length list ≡ 256 → 4 * length ls ≤ length list
-    lines-fit ls e k = rw (e ∙ h.lines) (omega (arith, h.room, h.count))
-
     pub all-put : (ls ms : List Line) → ls ≡ take l.count l.lines → ms ≡ take l.count l.lines → l.bytes ≤ length out
         → (out' list' : List ℕ) → out' ≡ put out 0 (kept_bytes log ls) → list' ≡ put list 0 (words_of_lines ms)
         → left_of (Ok (record { lines = l.count; written = l.bytes })) out' list' ≡ salvage_by log (lines_of d log) out list

@@ -1,4 +1,4 @@
--- What each turn keeps.
+-- What each turn keeps: it stands in the bytes, and the check from there is the check from the start.
 use mathlib.Core.Path.{◌≡◌}
 use lib.ListN.{length}
 use Prim.Native.Nat.{◌-◌}

@@ -1,37 +1,30 @@
 -- `stepped` meets its contract. Assumes nothing.
-use mathlib.Core.Path.{sym, ◌∙◌}
-use native.Mathlib.Omega.{arith}
 use Rattle.checker.proofs.Calls.{front-directory, front-after, front-held, front_length, front-stands, across_told, across_kept, on-back, on-stands, across_on_in}
 use Rattle.checker.proofs.checker.LogChecker.stepped.Goals as goal
 
--- src/checker.rt:263:22
 pub overflow_sub-before : goal.overflow_sub-before
-overflow_sub-before c = omega (arith, front-held c.args.self c.args.bytes.now c.args.front.now c.requires.0 c.requires.1)
+overflow_sub-before c = front-held c.args.self c.args.bytes.now c.args.front.now c.requires.0 c.requires.1
 
--- src/checker.rt:265:15
 pub one_step-requires : goal.one_step-requires
-one_step-requires c = (front-directory c.args.self c.args.bytes.now c.args.front.now c.requires.0 c.requires.1, front-stands c.args.self c.args.bytes.now c.args.front.now c.requires.0 c.requires.1)
+one_step-requires c = let a = c.args in (front-directory a.self a.bytes.now a.front.now c.requires.0 c.requires.1, front-stands a.self a.bytes.now a.front.now c.requires.0 c.requires.1)
 
--- src/checker.rt:267:33
 pub keep-requires : goal.keep-requires
 keep-requires c = front_length c.args.self c.args.bytes.now c.args.front.now c.requires.0 c.requires.1
 
--- src/checker.rt:268:60
 pub back-requires : goal.back-requires
-back-requires c = on-back c.args.self c.args.bytes.now c.args.front.now c.requires.0 c.requires.1 _ (sym c.in-On.is ∙ c.one_step.ensures)
+back-requires c = on-back c.args.self c.args.bytes.now c.args.front.now c.requires.0 c.requires.1 _ (rw c.in-Ok-Some.field-0-is at c.in-Ok-Some.ensures)
 
--- src/checker.rt:268:28
 pub walked-requires : goal.walked-requires
-walked-requires c = (front-after c.args.self c.args.bytes.now c.args.front.now c.requires.0 c.requires.1 _ c.counted-after.ensures, on-stands c.args.self c.args.bytes.now c.args.front.now c.requires.0 c.requires.1 _ (sym c.in-On.is ∙ c.one_step.ensures) _ c.back.ensures)
+walked-requires c =
+    let a = c.args in
+    (front-after a.self a.bytes.now a.front.now c.requires.0 c.requires.1 _ c.counted-after.ensures, on-stands a.self a.bytes.now a.front.now c.requires.0 c.requires.1 _ (rw c.in-Ok-Some.field-0-is at c.in-Ok-Some.ensures) _ c.back.ensures)
 
--- src/checker.rt:259:5
-pub returns-in-Settled : goal.returns-in-Settled
-returns-in-Settled c = across_told c.args.self c.args.bytes.now c.args.front.now c.requires.0 c.requires.1 _ (sym c.in-Settled.is ∙ c.one_step.ensures) _ _ _ c.counted-after.ensures c.settled.ensures c.told.ensures
+pub returns-in-Err : goal.returns-in-Err
+returns-in-Err c = across_told c.args.self c.args.bytes.now c.args.front.now c.requires.0 c.requires.1 _ c.in-Err.ensures _ _ _ c.counted-after.ensures c.settled.ensures c.told.ensures
 
--- src/checker.rt:259:5
-pub returns-in-Waiting : goal.returns-in-Waiting
-returns-in-Waiting c = across_kept c.args.self c.args.bytes.now c.args.front.now c.requires.0 c.requires.1 _ (sym c.in-Waiting.is ∙ c.one_step.ensures) _ _ _ c.counted-after.ensures c.keep.ensures c.answered.ensures
+pub returns-in-Ok-None : goal.returns-in-Ok-None
+returns-in-Ok-None c = across_kept c.args.self c.args.bytes.now c.args.front.now c.requires.0 c.requires.1 (rw c.in-Ok-None.field-0-is at c.in-Ok-None.ensures) _ _ _ c.counted-after.ensures c.keep.ensures c.answered.ensures
 
--- src/checker.rt:259:5
-pub returns-in-On : goal.returns-in-On
-returns-in-On c = across_on_in c.args.self c.args.bytes.now c.args.front.now c.requires.0 c.requires.1 _ (sym c.in-On.is ∙ c.one_step.ensures) _ _ _ c.counted-after.ensures c.back.ensures c.walked.ensures
+pub returns-in-Ok-Some : goal.returns-in-Ok-Some
+returns-in-Ok-Some c =
+    across_on_in c.args.self c.args.bytes.now c.args.front.now c.requires.0 c.requires.1 _ (rw c.in-Ok-Some.field-0-is at c.in-Ok-Some.ensures) _ _ _ c.counted-after.ensures c.back.ensures c.walked.ensures
