@@ -13,25 +13,15 @@ use Rattle.std.specs.Prelude.{if◌then◌else◌}
 use Rattle.directory.specs.Table.{same_kind_of, is_table, slot_length, size_of}
 use Rattle.directory.specs.Directory.{tables_of, find_from, find_table, sizes_of, start_of, image_length}
 use Rattle.directory.specs.declared.table.TableKind.{TableKind}
-use Rattle.directory.specs.declared.table.TableKind.TheVariants.{Index, Value, RefCount}
+use Rattle.directory.specs.declared.table.TableKind.TheVariants.{Value}
 use Rattle.directory.specs.declared.table.TableDescription.{TableDescription}
 use Rattle.directory.specs.declared.directory.Directory.{Directory}
 use Rattle.std.specs.Prelude as std
 use Rattle.std.specs.Prelude.{Some, None}
 use Rattle.std.proofs.lemmas.Option.{same_Some}
 use Rattle.record.specs.Record.{value_length}
+use Rattle.directory.proofs.Tables.{same_kind}
 use Rattle.effect.specs.Effect.{Place, place_of}
-
-same_kind : (k j : TableKind) → same_kind_of k j ≡ true → k ≡ j
-same_kind Index Index e = refl
-same_kind Value Value e = refl
-same_kind RefCount RefCount e = refl
-same_kind Index Value e = cc
-same_kind Index RefCount e = cc
-same_kind Value Index e = cc
-same_kind Value RefCount e = cc
-same_kind RefCount Index e = cc
-same_kind RefCount Value e = cc
 
 -- the table in which position p lies, where the first table begins at `base`
 unfoldable pub home : ℕ → List TableDescription → ℕ → Option Place

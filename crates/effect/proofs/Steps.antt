@@ -1,7 +1,7 @@
 -- One turn of each loop: what is left to store, applied to what is there, stays the same.
 -- Assumes nothing.
 use Prim.Native.Nat.{ℕ, zero, suc, ◌+◌, ◌-◌, ◌*◌, ◌^◌, ◌≤◌}
-use mathlib.Core.Path.{◌≡◌, refl, sym}
+use mathlib.Core.Path.{◌≡◌, refl, sym, ap}
 use mathlib.Core.List.{List, [], ◌∷◌, ◌++◌}
 use native.Mathlib.Nat.{zero-add, add-zero, sub-zero, suc-sub-suc, zero-mul, mul-one}
 use native.Mathlib.Omega.{arith}
@@ -9,6 +9,7 @@ use lib.Bits.{shifted_half, shifted_even}
 use lib.ListN.{length, take, drop, set}
 use lib.Seq.{sets, sets-eq, take-nil, drop-drop}
 use Rattle.std.proofs.Common.{append_assoc}
+use Rattle.words.specs.Words.{Passes}
 use Rattle.words.proofs.Runs.{set-half, set-odd}
 use Rattle.effect.specs.Effect.{slot_strokes, puts}
 
@@ -50,17 +51,19 @@ slots_set (suc o) (suc n) w at x es l h =
     rw (set-odd o x, set-half o x, suc-sub-suc, a, b, ← sets_take w (o * w) l es at, ← drop-drop (o * w) w es)
     (slots_set o n w (at + w) x (drop w es) (sets l at (take w es)) (omega arith))
 
--- a turn of the walk
-pub slots-run : (l es : List ℕ) (w at f slot m z o x : ℕ) → m ≡ (x * 2 ^ o + (2 ^ o - 1)) * 2 ^ z → slot + z + o ≤ 64
-    → puts (slot_strokes (64 - (slot + z + o)) w (at + (slot + z + o) * w) x (drop (f + o * w) es)) (sets l (at + (slot + z) * w) (take (o * w) (drop f es)))
-    ≡ puts (slot_strokes (64 - slot) w (at + slot * w) m (drop f es)) l
-slots-run l es w at f slot m z o x e h =
-    let a : 64 - (slot + z + o) ≡ 64 - slot - z - o = omega arith in
-    let b : at + (slot + z) * w ≡ at + slot * w + z * w = omega arith in
-    let c : at + (slot + z + o) * w ≡ at + slot * w + z * w + o * w = omega arith in
-    let s = slots_set o (64 - slot - z) w (at + slot * w + z * w) x (drop f es) l (omega arith) in
-    let t = slots-clear z (64 - slot) w (at + slot * w) (x * 2 ^ o + (2 ^ o - 1)) (drop f es) (omega arith) in
-    rw (a, b, c, ← drop-drop (o * w) f es, e, t) (sym s)
+-- a turn of the walk: a run is passed
+pub slots-run : (l es : List ℕ) (w at f : ℕ) {from rest a n after left : ℕ} → Passes from rest a n after left → after ≤ 64
+    → puts (slot_strokes (64 - after) w (at + after * w) left (drop (f + n * w) es)) (sets l (at + a * w) (take (n * w) (drop f es)))
+    ≡ puts (slot_strokes (64 - from) w (at + from * w) rest (drop f es)) l
+slots-run l es w at f {from} {rest} {a} {n} {after} {left} p h =
+    let z : ℕ = p.clear in
+    let b : at + a * w ≡ at + from * w + z * w = omega (arith, ap (λ (k : ℕ). k * w) p.begins) in
+    let c : at + after * w ≡ at + from * w + z * w + n * w = omega (arith, ap (λ (k : ℕ). k * w) p.begins, ap (λ (k : ℕ). k * w) p.ends) in
+    let d : 64 - after ≡ 64 - from - z - n = omega (arith, p.begins, p.ends) in
+    let k : z + n ≤ 64 - from = omega (arith, p.begins, p.ends) in
+    let s = slots_set n (64 - from - z) w (at + from * w + z * w) left (drop f es) l (omega arith) in
+    let t = slots-clear z (64 - from) w (at + from * w) (left * 2 ^ n + (2 ^ n - 1)) (drop f es) (omega arith) in
+    rw (b, c, d, ← drop-drop (n * w) f es, p.bits, t) (sym s)
 
 pub slots-none : (n w at : ℕ) (es : List ℕ) → slot_strokes n w at 0 es ≡ []
 unfolding slot_strokes

@@ -6,7 +6,8 @@ use native.Mathlib.Numerals.{add-one}
 use native.Mathlib.Omega.{arith}
 use lib.Bits.{block_half, block_odd, shifted_half}
 use lib.Count.{ones, under, count_trailing_zeros, ones_cat, ones-ones}
-use lib.Pow.{pow_pos, pow-lt, ones_lt, high}
+use lib.Pow.{pow_pos, pow-lt, ones_lt, high, shr_le}
+use Rattle.words.specs.Words.{Passes}
 
 -- a bit more that is shifted out
 halves : (n t : ℕ) → n / 2 ^ suc t ≡ n / 2 / 2 ^ t
@@ -78,6 +79,16 @@ turn slot m z o x s h e p =
       entries = λ w. rw (e, run_ones z o x) (add-mul o (ones x) w);
     }
 
+-- ---- a run that is passed, with w bytes for each bit
+
+pub passed-wide : {from rest at count after left : ℕ} → Passes from rest at count after left → after ≤ 64 → (w : ℕ) → at * w + count * w ≤ 64 * w
+passed-wide {from} {rest} {at} {count} {after} {left} p h w =
+    let e : at + count ≤ 64 = omega (arith, p.ends) in
+    rw (← add-mul) (mul-le-mul_right w e)
+
+pub passed-ones : {from rest at count after left : ℕ} → Passes from rest at count after left → (w : ℕ) → ones rest * w ≡ count * w + ones left * w
+passed-ones {from} {rest} {at} {count} {after} {left} p w = rw (p.bits, run_ones p.clear count left) (add-mul count (ones left) w)
+
 -- ---- the count of trailing zeros finds them
 
 -- t clear bits lie below the lowest set bit of n, which has k bits
@@ -141,3 +152,14 @@ run-whole m z o l e =
     let x : ℕ = m / 2 ^ z / 2 / 2 ^ o in
     let y : x * 2 ^ o * 2 + (2 ^ o * 2 - 1) ≡ m / 2 ^ z = omega (arith, above (m / 2 ^ z / 2) o e, l.odd, pow_pos o) in
     rw (add-one o, pow-suc 2 o, ← mul_assoc x, y) (sym l.clear)
+
+-- the lowest run of a mask, as the two counts find it
+pub found : (m o : ℕ) → 0 < m → m < 2 ^ 64 → o ≡ count_trailing_zeros 64 (2 ^ 64 - 1 - m / 2 ^ count_trailing_zeros 64 m / 2)
+    → m ≡ (m / 2 ^ count_trailing_zeros 64 m / 2 / 2 ^ o * 2 ^ (o + 1) + (2 ^ (o + 1) - 1)) * 2 ^ count_trailing_zeros 64 m
+found m o p h e =
+    let z : ℕ = count_trailing_zeros 64 m in
+    let a : ℕ = m / 2 ^ z / 2 in
+    let few : a + 1 < 2 ^ 64 = omega (arith, shr_le m z) in
+    let clear : Lowest 64 m z = lowest 64 m p h in
+    let set : Lowest 64 (a + 1) (count_trailing_zeros 64 (a + 1)) = lowest 64 (a + 1) (omega arith) few in
+    rw (e, ones-next 64 a (omega arith)) (run-whole m z (count_trailing_zeros 64 (a + 1)) clear set.clear)

@@ -1,98 +1,57 @@
--- `put_slots` meets its contract. The invariant: the slots that are left, put into the image as it is, give what the contract says.
--- Assumes nothing.
+-- `put_slots` meets its contract. Assumes nothing.
 use Prim.Native.Nat.{ℕ, ◌+◌, ◌-◌, ◌*◌, ◌≤◌}
 use mathlib.Core.Path.{◌≡◌, refl, sym, ap, ◌∙◌}
-use mathlib.Core.List.{List}
 use native.Mathlib.Omega.{arith}
 use lib.Count.{ones}
 use lib.ListN.{length, take, drop, length-take, length-drop}
 use lib.Seq.{length-sets}
-use Rattle.words.proofs.Runs.{Turn, turn}
+use Rattle.words.specs.declared.mask.BitRuns.{BitRuns}
+use Rattle.words.proofs.Runs.{passed-wide, passed-ones}
 use Rattle.effect.proofs.Steps.{stored, slots-first, slots-run, slots-last}
 use Rattle.effect.proofs.store.put_slots.Goals as goal
 
-pub loop-m-init : goal.loop-m-init
-loop-m-init c =
+pub loop-r-init : goal.loop-r-init
+loop-r-init c =
     let a = c.args in
+    let e = c.into_iter-r-iterator.ensures.into_iter_gives in
+    let first : c.into_iter-r-iterator.result.from ≡ 0 = ap (λ (s : BitRuns). s.from) e ∙ c.of-r-items.ensures.0 in
+    let all : c.into_iter-r-iterator.result.rest ≡ a.mask = ap (λ (s : BitRuns). s.rest) e ∙ c.of-r-items.ensures.1 in
     record {
-      puts = slots-first a.image.now a.entries.now a.width a.at a.mask;
+      can_next = tt;
+      is_finite = tt;
+      puts = rw (first, all) (slots-first a.image.now a.entries.now a.width a.at a.mask);
       long = refl;
-      slots = omega arith;
-      below = c.ranges.mask.fits;
-      held = omega (arith, c.requires.1);
+      held = rw all (omega (arith, c.requires.1));
     }
 
-pub overflow_add-slot : goal.overflow_add-slot
-overflow_add-slot c =
-    let run : Turn c.loop-m.slot c.loop-m.m c.next_run-r.result.clear c.next_run-r.result.set c.next_run-r.result.rest = let l = c.loop-m in turn l.slot l.m _ _ _ l.invariant.slots l.invariant.below c.next_run-r.ensures.0 c.next_run-r.ensures.1 in
-    omega (arith, run.slots)
-
-pub overflow_mul-p : goal.overflow_mul-p
-overflow_mul-p c =
-    let run : Turn c.loop-m.slot c.loop-m.m c.next_run-r.result.clear c.next_run-r.result.set c.next_run-r.result.rest = let l = c.loop-m in turn l.slot l.m _ _ _ l.invariant.slots l.invariant.below c.next_run-r.ensures.0 c.next_run-r.ensures.1 in
-    let lies : c.args.at + (c.loop-m.slot + c.next_run-r.result.clear) * c.args.width + c.next_run-r.result.set * c.args.width ≤ length c.args.image.now = omega (arith, run.wide c.args.width, c.requires.0) in
-    omega (arith, lies)
-
-pub overflow_add-p : goal.overflow_add-p
-overflow_add-p c =
-    let run : Turn c.loop-m.slot c.loop-m.m c.next_run-r.result.clear c.next_run-r.result.set c.next_run-r.result.rest = let l = c.loop-m in turn l.slot l.m _ _ _ l.invariant.slots l.invariant.below c.next_run-r.ensures.0 c.next_run-r.ensures.1 in
-    let lies : c.args.at + (c.loop-m.slot + c.next_run-r.result.clear) * c.args.width + c.next_run-r.result.set * c.args.width ≤ length c.args.image.now = omega (arith, run.wide c.args.width, c.requires.0) in
-    omega (arith, lies)
-
-pub overflow_mul-n : goal.overflow_mul-n
-overflow_mul-n c =
-    let run : Turn c.loop-m.slot c.loop-m.m c.next_run-r.result.clear c.next_run-r.result.set c.next_run-r.result.rest = let l = c.loop-m in turn l.slot l.m _ _ _ l.invariant.slots l.invariant.below c.next_run-r.ensures.0 c.next_run-r.ensures.1 in
-    let lies : c.args.at + (c.loop-m.slot + c.next_run-r.result.clear) * c.args.width + c.next_run-r.result.set * c.args.width ≤ length c.args.image.now = omega (arith, run.wide c.args.width, c.requires.0) in
-    omega (arith, lies)
-
-pub overflow_add-p-in-loop-m : goal.overflow_add-p-in-loop-m
-overflow_add-p-in-loop-m c =
-    let run : Turn c.loop-m.slot c.loop-m.m c.next_run-r.result.clear c.next_run-r.result.set c.next_run-r.result.rest = let l = c.loop-m in turn l.slot l.m _ _ _ l.invariant.slots l.invariant.below c.next_run-r.ensures.0 c.next_run-r.ensures.1 in
-    let lies : c.args.at + (c.loop-m.slot + c.next_run-r.result.clear) * c.args.width + c.next_run-r.result.set * c.args.width ≤ length c.args.image.now = omega (arith, run.wide c.args.width, c.requires.0) in
-    omega (arith, lies)
-
 pub slice_bounds-copy_from_slice-end : goal.slice_bounds-copy_from_slice-end
-slice_bounds-copy_from_slice-end c =
-    let run : Turn c.loop-m.slot c.loop-m.m c.next_run-r.result.clear c.next_run-r.result.set c.next_run-r.result.rest = let l = c.loop-m in turn l.slot l.m _ _ _ l.invariant.slots l.invariant.below c.next_run-r.ensures.0 c.next_run-r.ensures.1 in
-    let lies : c.args.at + (c.loop-m.slot + c.next_run-r.result.clear) * c.args.width + c.next_run-r.result.set * c.args.width ≤ length c.args.image.now = omega (arith, run.wide c.args.width, c.requires.0) in
-    omega (arith, lies, c.loop-m.invariant.long)
+slice_bounds-copy_from_slice-end c = omega (arith, passed-wide c.in-Some.ensures.steps c.next.new.self.within c.args.width, c.requires.0, c.loop-r.invariant.long)
 
-pub slice_bounds-copy_from_slice-end-in-loop-m : goal.slice_bounds-copy_from_slice-end-in-loop-m
-slice_bounds-copy_from_slice-end-in-loop-m c =
-    let run : Turn c.loop-m.slot c.loop-m.m c.next_run-r.result.clear c.next_run-r.result.set c.next_run-r.result.rest = let l = c.loop-m in turn l.slot l.m _ _ _ l.invariant.slots l.invariant.below c.next_run-r.ensures.0 c.next_run-r.ensures.1 in
-    let held : c.loop-m.f + c.next_run-r.result.set * c.args.width + ones c.next_run-r.result.rest * c.args.width ≤ length c.args.entries.now = omega (arith, run.entries c.args.width, c.loop-m.invariant.held) in
-    omega (arith, held)
+pub slice_bounds-copy_from_slice-end-in-loop-r : goal.slice_bounds-copy_from_slice-end-in-loop-r
+slice_bounds-copy_from_slice-end-in-loop-r c = omega (arith, passed-ones c.in-Some.ensures.steps c.args.width, c.loop-r.invariant.held)
 
-pub overflow_add-slot-in-loop-m : goal.overflow_add-slot-in-loop-m
-overflow_add-slot-in-loop-m c =
-    let run : Turn c.loop-m.slot c.loop-m.m c.next_run-r.result.clear c.next_run-r.result.set c.next_run-r.result.rest = let l = c.loop-m in turn l.slot l.m _ _ _ l.invariant.slots l.invariant.below c.next_run-r.ensures.0 c.next_run-r.ensures.1 in
-    omega (arith, run.slots)
-
-pub loop-m-preserved : goal.loop-m-preserved
-loop-m-preserved c =
-    let run : Turn c.loop-m.slot c.loop-m.m c.next_run-r.result.clear c.next_run-r.result.set c.next_run-r.result.rest = let l = c.loop-m in turn l.slot l.m _ _ _ l.invariant.slots l.invariant.below c.next_run-r.ensures.0 c.next_run-r.ensures.1 in
-    let lies : c.args.at + (c.loop-m.slot + c.next_run-r.result.clear) * c.args.width + c.next_run-r.result.set * c.args.width ≤ length c.args.image.now = omega (arith, run.wide c.args.width, c.requires.0) in
-    let held : c.loop-m.f + c.next_run-r.result.set * c.args.width + ones c.next_run-r.result.rest * c.args.width ≤ length c.args.entries.now = omega (arith, run.entries c.args.width, c.loop-m.invariant.held) in
-    let l = c.loop-m in
+pub loop-r-preserved : goal.loop-r-preserved
+loop-r-preserved c =
     let a = c.args in
-    let o : ℕ = c.next_run-r.result.set in
-    let p : ℕ = a.at + (l.slot + c.next_run-r.result.clear) * a.width in
-    let n : ℕ = o * a.width in
-    let part : List ℕ = take n (drop l.f a.entries.now) in
-    let long : length part ≡ n = simp (length-take, length-drop) (omega (arith, held)) in
+    let l = c.loop-r in
+    let passes = c.in-Some.ensures.steps in
+    let n : ℕ = c.in-Some.r.count * a.width in
+    let p : ℕ = a.at + c.in-Some.r.from * a.width in
+    let held : l.f + n + ones c.next.new.self.rest * a.width ≤ length a.entries.now = omega (arith, passed-ones passes a.width, l.invariant.held) in
+    let long : length (take n (drop l.f a.entries.now)) ≡ n = simp (length-take, length-drop) (omega (arith, held)) in
     let cut : l.f + n - l.f ≡ n = omega arith in
-    let e : c.copy_from_slice.new.self ≡ part = c.copy_from_slice.ensures.after ∙ ap (λ (k : ℕ). take k (drop l.f a.entries.now)) cut in
-    let s = stored l.image part p n (omega (arith, lies, l.invariant.long)) long in
+    let e : c.copy_from_slice.new.self ≡ take n (drop l.f a.entries.now) = c.copy_from_slice.ensures.after ∙ ap (λ (k : ℕ). take k (drop l.f a.entries.now)) cut in
+    let s = stored l.image (take n (drop l.f a.entries.now)) p n (omega (arith, passed-wide passes c.next.new.self.within a.width, l.invariant.long)) long in
     record {
-      puts = rw (e, s) (slots-run l.image a.entries.now a.width a.at l.f l.slot l.m _ _ _ c.next_run-r.ensures.0 run.slots ∙ l.invariant.puts);
+      can_next = tt;
+      is_finite = tt;
+      puts = rw (e, s) (slots-run l.image a.entries.now a.width a.at l.f passes c.next.new.self.within ∙ l.invariant.puts);
       long = rw (e, s) (simp length-sets l.invariant.long);
-      slots = run.slots;
-      below = run.below;
       held = held;
     }
 
 pub returns : goal.returns
 returns c =
-    let l = c.loop-m in
+    let l = c.loop-r in
     let a = c.args in
-    sym (slots-last l.image a.entries.now (64 - l.slot) a.width (a.at + l.slot * a.width) l.m l.f c.loop-m-test.false) ∙ l.invariant.puts
+    sym (slots-last l.image a.entries.now (64 - l.r-iterator.from) a.width (a.at + l.r-iterator.from * a.width) l.r-iterator.rest l.f (omega (arith, c.in-None.ensures.steps))) ∙ l.invariant.puts

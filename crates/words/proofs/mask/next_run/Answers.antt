@@ -3,7 +3,7 @@ use Rattle.std.proofs.Common.{◌+◌, ◌/◌, ◌^◌, ◌<◌, arith}
 use Rattle.std.specs.Int.Count.{count_trailing_zeros}
 use lib.Pow.{shr_le}
 use Rattle.words.proofs.Runs.{Lowest, lowest, ones-next, run-whole}
-use Rattle.words.proofs.next_run.Goals as goal
+use Rattle.words.proofs.mask.next_run.Goals as goal
 
 pub returns : goal.returns
 returns c =
