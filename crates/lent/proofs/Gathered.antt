@@ -1,4 +1,4 @@
--- `gathered` is the directory by value that holds just these tables, and grows by one description at a time. Assumes nothing.
+-- `gathered` is the directory by value that holds just these tables. Assumes nothing.
 use mathlib.Core.Path.{◌≡◌, refl, sym, ap, ◌∙◌}
 use mathlib.Core.Bool.{Bool, true, false, ◌&&◌}
 use mathlib.Core.List.{List, [], ◌∷◌, ◌++◌}
@@ -15,8 +15,6 @@ use Rattle.directory.specs.declared.table.TableKind.{TableKind}
 use Rattle.directory.specs.declared.table.TableDescription.{TableDescription}
 use Rattle.directory.specs.declared.directory.Directory.{Directory}
 use Rattle.lent.specs.Lent.{gathered}
-use Rattle.lent.specs.Inner.{with_one_more}
-use Rattle.lent.proofs.More.{one_more, no_more}
 
 module _ (ts : List TableDescription) where
   -- up to 16: the count is their number, and the tables are these, in their order
@@ -59,40 +57,3 @@ gathered-again d rows few behind =
     let n : length (tables_of d) ≡ d.count = length-take-le d.count d.tables (omega arith) in
     let short : length (tables_of d) ≤ 16 = omega arith in
     rw (le-leb (length (tables_of d)) 16 short, take_all 16 (tables_of d) short, n, ← behind, take-append-drop)
-
--- a count that has passed 15 leaves no room
-full : (n : ℕ) → 16 ≤ n → ltb (if leb n 16 then n else 17) 16 ≡ false
-full n h = go (leb n 16) refl
-  where
-    go : (b : Bool) → leb n 16 ≡ b → ltb (if leb n 16 then n else 17) 16 ≡ false
-    go true e = rw (e, le-ltb n 16 h)
-    go false e = rw e
-
--- one more behind them
-pub gathered-more : (ts : List TableDescription) (t : TableDescription) → with_one_more (gathered ts) t ≡ gathered (ts ++ t ∷ [])
-unfolding gathered with_one_more
-gathered-more ts t = go (ltb (length ts) 16) refl
-  where
-    grown : length (ts ++ t ∷ []) ≡ length ts + 1
-    grown = length-append ts (t ∷ [])
-
-    go : (b : Bool) → ltb (length ts) 16 ≡ b → with_one_more (gathered ts) t ≡ gathered (ts ++ t ∷ [])
-    go true e =
-        let h : length ts < 16 = ltb-true _ _ e in
-        let k : length (ts ++ t ∷ []) ≤ 16 = omega (arith, grown) in
-        rw (le-leb (length ts) 16 (omega arith), e, one_more 16 no_tables.tables refl ts t h, le-leb (length (ts ++ t ∷ [])) 16 k, grown)
-    go false e =
-        let h : 16 ≤ length ts = ltb-false _ _ e in
-        let k : 16 < length (ts ++ t ∷ []) = omega (arith, grown) in
-        rw (full (length ts) h, no_more 16 no_tables.tables refl ts t h, lt-leb (length (ts ++ t ∷ [])) 16 k)
-
--- a slice's descriptions one after the other: none, the next, all
-pub gathered_none : no_tables ≡ gathered []
-unfolding gathered
-gathered_none = refl
-
-pub gathered_next : (ts : List TableDescription) (i : ℕ) (z : TableDescription) → i < length ts → with_one_more (gathered (take i ts)) (get_or ts i z) ≡ gathered (take (i + 1) ts)
-gathered_next ts i z h = gathered-more (take i ts) (get_or ts i z) ∙ ap gathered (sym (ap (λ (k : ℕ). take k ts) (add-one i) ∙ take-suc ts i z h))
-
-pub gathered-all : (ts : List TableDescription) → gathered (take (length ts) ts) ≡ gathered ts
-gathered-all ts = ap gathered (take-length ts)

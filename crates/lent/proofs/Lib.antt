@@ -1,4 +1,4 @@
 -- Laws of the gathered directory.
 pub mod Gathered
+pub mod Gathering
 pub mod Many
-pub mod More

@@ -24,8 +24,7 @@ pub fn insert_index(
     ensures { made_of result words.new bytes.new
         ≡ inserted Index (gathered tables.now) (change_of list words.old bytes.old) table.0 index sub «data».now }
 {
-    let d = gather(tables);
-    list.insert_index(d, words, bytes, table, index, sub, data)
+    list.insert_index(gather(tables), words, bytes, table, index, sub, data)
 }
 
 pub fn insert_value(
@@ -40,8 +39,7 @@ pub fn insert_value(
     ensures { made_of result words.new bytes.new
         ≡ inserted Value (gathered tables.now) (change_of list words.old bytes.old) table.0 index 0 «data».now }
 {
-    let d = gather(tables);
-    list.insert_value(d, words, bytes, table, index, data)
+    list.insert_value(gather(tables), words, bytes, table, index, data)
 }
 
 pub fn insert_ref_count(
@@ -57,8 +55,7 @@ pub fn insert_ref_count(
     ensures { made_of result words.new bytes.new
         ≡ inserted RefCount (gathered tables.now) (change_of list words.old bytes.old) table.0 index sub «data».now }
 {
-    let d = gather(tables);
-    list.insert_ref_count(d, words, bytes, table, index, sub, data)
+    list.insert_ref_count(gather(tables), words, bytes, table, index, sub, data)
 }
 
 pub fn drop_table(
@@ -71,8 +68,7 @@ pub fn drop_table(
     ensures { made_of result words.now bytes.now
         ≡ table_dropped (gathered tables.now) (change_of list words.now bytes.now) id.0 }
 {
-    let d = gather(tables);
-    list.drop_table(d, words, bytes, id)
+    list.drop_table(gather(tables), words, bytes, id)
 }
 
 pub fn drop_ref_count_table(
@@ -85,8 +81,7 @@ pub fn drop_ref_count_table(
     ensures { made_of result words.now bytes.now
         ≡ count_table_dropped (gathered tables.now) (change_of list words.now bytes.now) id.0 }
 {
-    let d = gather(tables);
-    list.drop_ref_count_table(d, words, bytes, id)
+    list.drop_ref_count_table(gather(tables), words, bytes, id)
 }
 
 pub fn record_size(
@@ -97,6 +92,5 @@ pub fn record_size(
 ) -> Sized
     ensures { result ≡ sized (gathered tables.now) (change_of list words.now bytes.now) }
 {
-    let d = gather(tables);
-    list.record_size(d, words, bytes)
+    list.record_size(gather(tables), words, bytes)
 }

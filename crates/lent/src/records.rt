@@ -25,8 +25,7 @@ pub fn flush_to_file(
     ensures { flushed_of result out.new
         ≡ flush_to_file (gathered tables.now) (change_of list words.now bytes.now) out.old }
 {
-    let d = gather(tables);
-    writer::flush_to_file(list, d, words, bytes, out)
+    writer::flush_to_file(list, gather(tables), words, bytes, out)
 }
 
 pub fn end_read(
@@ -41,8 +40,7 @@ pub fn end_read(
     ensures { end_read_of_of result words.new bytes.new
         ≡ end_read_of (gathered tables.now) log.now position (overlays_of overlays words.old bytes.old) next }
 {
-    let d = gather(tables);
-    clearing::end_read(d, log, position, overlays, words, bytes, next)
+    clearing::end_read(gather(tables), log, position, overlays, words, bytes, next)
 }
 
 pub fn end_record<'a>(
@@ -60,8 +58,7 @@ pub fn end_record<'a>(
     ensures { end_state_of result words.new bytes.new out.new
         ≡ end_record (gathered tables.now) (handed_of list list_words.now list_bytes.now overlays words.old bytes.old queues next out.old) }
 {
-    let d = gather(tables);
     ending::end_record(
-        d, list, list_words, list_bytes, overlays, words, bytes, queues, next, out,
+        gather(tables), list, list_words, list_bytes, overlays, words, bytes, queues, next, out,
     )
 }

@@ -4,32 +4,32 @@ ghost use Rattle.directory.specs.Directory.{find_table, directory_kept, start_of
 ghost use Rattle.lent.specs.Lent.{gathered};
 
 use super::slice::gather;
-use directory::{Found, TableDescription, TableKind};
+use directory::{TableDescription, TableKind};
 
-pub fn find(tables: &[TableDescription], kind: TableKind, number: u16) -> Found
+pub fn find(
+    tables: &[TableDescription],
+    kind: TableKind,
+    number: u16,
+) -> Option<(usize, TableDescription)>
     ensures { result ≡ find_table (gathered tables.now) kind number }
 {
-    let d = gather(tables);
-    d.find(kind, number)
+    gather(tables).find(kind, number)
 }
 
 pub fn kept(tables: &[TableDescription]) -> bool
     ensures { result ≡ directory_kept (gathered tables.now) }
 {
-    let d = gather(tables);
-    d.kept()
+    gather(tables).kept()
 }
 
 pub fn start(tables: &[TableDescription], row: usize) -> usize
     ensures { result ≡ start_of (gathered tables.now) row }
 {
-    let d = gather(tables);
-    d.start(row)
+    gather(tables).start(row)
 }
 
 pub fn image_length(tables: &[TableDescription]) -> usize
     ensures { result ≡ image_length (gathered tables.now) }
 {
-    let d = gather(tables);
-    d.image_length()
+    gather(tables).image_length()
 }
