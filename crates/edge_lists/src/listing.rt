@@ -1,11 +1,11 @@
 // A change list's calls.
-ghost use Rattle.std.specs.Prelude.{◌≡◌, true};
+ghost use Rattle.std.specs.Prelude.{◌≡◌, true, Ok};
 ghost use Rattle.answer.specs.Answer.{number_of};
 ghost use Rattle.directory.specs.declared.table.TableKind.TheVariants.{Index, Value, RefCount};
 ghost use Rattle.change.specs.Change.{change_of, new_list, change_ruled, change_kept};
 ghost use Rattle.change.specs.Insert.{inserted_kept, inserted};
 ghost use Rattle.change.specs.Drop.{table_dropped_kept, table_dropped, count_table_dropped_kept, count_table_dropped};
-ghost use Rattle.change.specs.Size.{sized_kept, sized};
+ghost use Rattle.change.specs.Size.{record_size, sized};
 ghost use Rattle.change.specs.Values.{values_of_kept, values_of};
 ghost use Rattle.writer.specs.Flush.{flush_to_file_kept, flush_to_file};
 ghost use Rattle.host_words.specs.Tables.{directory_from};
@@ -13,35 +13,51 @@ ghost use Rattle.host_words.specs.Head.{head_room, head_after, HeadLeft};
 ghost use Rattle.host_words.specs.Change.{list_size, list_from, list_words_of};
 ghost use Rattle.edge_lists.specs.Listing.{DropLeft, InsertLeft, SizeLeft, ValuesLeft};
 
-use change::{Changed, LocalValues, LogChange, Sized};
+use answer::Answer;
+use change::{Changed, LocalValues, LogChange};
 use directory::TableKind::{Index, RefCount, Value};
 use directory::{IndexTableId, RefCountTableId, TableKind, ValueTableId};
-use host_words::{directory_of, head_room, keep_list, list_of, number};
+use host_words::{directory_of, keep, list_of, list_words, make};
 
-// What a call hands back, stored where the host lent room for it: one for both doors.
+// What a call hands back, stored where the host lent room for it.
 fn keep_changed(list: &mut [u64], done: Changed) -> u64
     ensures { HeadLeft list_size done.answer (list_words_of done.list) list.old result list.new }
 {
-    let answer = done.answer;
-    let left = done.list;
-    keep_list(list, answer, left)
+    keep(list, done.answer, &list_words(done.list))
 }
 
-fn keep_size(done: Sized, size: &mut u64) -> u64
+// A length, 0 where it was refused.
+fn keep_size(done: Result<usize, Answer>, size: &mut u64) -> u64
     ensures { SizeLeft done result size.new }
 {
-    *size = done.length as u64;
-    let answer = done.answer;
-    number(answer)
+    match done {
+        Ok(length) => {
+            *size = length as u64;
+            0
+        }
+        Err(answer) => {
+            *size = 0;
+            u64::from(answer.number())
+        }
+    }
 }
 
-fn keep_values(done: LocalValues, from: &mut u64, to: &mut u64) -> u64
+// The places of a table's values, 0 where they were refused.
+fn keep_values(done: Result<LocalValues, Answer>, from: &mut u64, to: &mut u64) -> u64
     ensures { ValuesLeft done result from.new to.new }
 {
-    *from = done.from as u64;
-    *to = done.to as u64;
-    let answer = done.answer;
-    number(answer)
+    match done {
+        Ok(values) => {
+            *from = values.from as u64;
+            *to = values.to as u64;
+            0
+        }
+        Err(answer) => {
+            *from = 0;
+            *to = 0;
+            u64::from(answer.number())
+        }
+    }
 }
 
 // The one path of the three kinds' inserts.
@@ -58,8 +74,8 @@ fn insert(
 ) -> u64
     ensures { InsertLeft (inserted kind (directory_from tables.now) (change_of (list_from list.old) items.old chunks.old) table index sub «data».now) list.old result list.new items.new chunks.new }
 {
-    let d = directory_of(tables);
-    let done = list_of(list).insert(d, items, chunks, kind, table, index, sub, data);
+    let directory = directory_of(tables);
+    let done = list_of(list).insert(directory, items, chunks, kind, table, index, sub, data);
     keep_changed(list, done)
 }
 
@@ -77,8 +93,8 @@ fn insert_kept(
     requires { change_kept (directory_from tables.now) (change_of (list_from list.old) items.old chunks.old) ≡ true }
     ensures { InsertLeft (inserted_kept kind (directory_from tables.now) (change_of (list_from list.old) items.old chunks.old) table index sub «data».now) list.old result list.new items.new chunks.new }
 {
-    let d = directory_of(tables);
-    let done = list_of(list).insert_kept(d, items, chunks, kind, table, index, sub, data);
+    let directory = directory_of(tables);
+    let done = list_of(list).insert_kept(directory, items, chunks, kind, table, index, sub, data);
     keep_changed(list, done)
 }
 
@@ -87,8 +103,7 @@ pub extern "C" fn hongsathep_list_new(list: &mut [u64], id: u64) -> u64
     ensures answer { result ≡ number_of (head_room list_size list.old) }
     ensures list { list.new ≡ head_after list_size (number_of (head_room list_size list.old)) list.old (list_words_of (new_list id)) }
 {
-    let answer = head_room(list, 38);
-    keep_list(list, answer, LogChange::new(id))
+    make(list, &list_words(LogChange::new(id)))
 }
 
 #[unsafe(no_mangle)]
@@ -134,8 +149,8 @@ pub extern "C" fn hongsathep_drop_table(
 ) -> u64
     ensures { DropLeft (table_dropped (directory_from tables.now) (change_of (list_from list.old) items.now chunks.now) table) list.old result list.new }
 {
-    let d = directory_of(tables);
-    let done = list_of(list).drop_table(d, items, chunks, IndexTableId(table));
+    let directory = directory_of(tables);
+    let done = list_of(list).drop_table(directory, items, chunks, IndexTableId(table));
     keep_changed(list, done)
 }
 
@@ -150,8 +165,8 @@ pub extern "C" fn hongsathep_drop_table_kept(
     requires { change_kept (directory_from tables.now) (change_of (list_from list.old) items.now chunks.now) ≡ true }
     ensures { DropLeft (table_dropped_kept (directory_from tables.now) (change_of (list_from list.old) items.now chunks.now) table) list.old result list.new }
 {
-    let d = directory_of(tables);
-    let done = list_of(list).drop_table_kept(d, items, chunks, IndexTableId(table));
+    let directory = directory_of(tables);
+    let done = list_of(list).drop_table_kept(directory, items, chunks, IndexTableId(table));
     keep_changed(list, done)
 }
 
@@ -211,10 +226,10 @@ pub extern "C" fn hongsathep_local_values_changes_kept(
     to: &mut u64,
 ) -> u64
     requires { change_ruled (change_of (list_from list.now) items.now chunks.now) ≡ true }
-    ensures { ValuesLeft (values_of_kept (change_of (list_from list.now) items.now chunks.now) table) result from.new to.new }
+    ensures { ValuesLeft (Ok (values_of_kept (change_of (list_from list.now) items.now chunks.now) table)) result from.new to.new }
 {
-    let done = list_of(list).local_values_changes_kept(items, chunks, ValueTableId(table));
-    keep_values(done, from, to)
+    let values = list_of(list).local_values_changes_kept(items, chunks, ValueTableId(table));
+    keep_values(Ok(values), from, to)
 }
 
 #[unsafe(no_mangle)]
@@ -264,8 +279,8 @@ pub extern "C" fn hongsathep_drop_ref_count_table(
 ) -> u64
     ensures { DropLeft (count_table_dropped (directory_from tables.now) (change_of (list_from list.old) items.now chunks.now) table) list.old result list.new }
 {
-    let d = directory_of(tables);
-    let done = list_of(list).drop_ref_count_table(d, items, chunks, RefCountTableId(table));
+    let directory = directory_of(tables);
+    let done = list_of(list).drop_ref_count_table(directory, items, chunks, RefCountTableId(table));
     keep_changed(list, done)
 }
 
@@ -280,8 +295,13 @@ pub extern "C" fn hongsathep_drop_ref_count_table_kept(
     requires { change_kept (directory_from tables.now) (change_of (list_from list.old) items.now chunks.now) ≡ true }
     ensures { DropLeft (count_table_dropped_kept (directory_from tables.now) (change_of (list_from list.old) items.now chunks.now) table) list.old result list.new }
 {
-    let d = directory_of(tables);
-    let done = list_of(list).drop_ref_count_table_kept(d, items, chunks, RefCountTableId(table));
+    let directory = directory_of(tables);
+    let done = list_of(list).drop_ref_count_table_kept(
+        directory,
+        items,
+        chunks,
+        RefCountTableId(table),
+    );
     keep_changed(list, done)
 }
 
@@ -307,10 +327,9 @@ pub extern "C" fn hongsathep_record_size_kept(
     size: &mut u64,
 ) -> u64
     requires { change_ruled (change_of (list_from list.now) items.now chunks.now) ≡ true }
-    ensures { SizeLeft (sized_kept (change_of (list_from list.now) items.now chunks.now)) result size.new }
+    ensures { SizeLeft (Ok (record_size (change_of (list_from list.now) items.now chunks.now))) result size.new }
 {
-    let done = list_of(list).record_size_kept(items, chunks);
-    keep_size(done, size)
+    keep_size(Ok(list_of(list).record_size_kept(items, chunks)), size)
 }
 
 #[unsafe(no_mangle)]
