@@ -1,6 +1,6 @@
 -- The reader's calls over words: what a step comes to as numbers (document 01, "The opening of a record": "A step answers with the action, the
 -- place of its payload and the cursor after it, or a refusal.").
-use Rattle.std.specs.Prelude.{◌≡◌, Bool, List, ℕ, eqb, length, Result, Ok, Err}
+use Rattle.std.specs.Prelude.{◌≡◌, Bool, List, ℕ, length, Result, Ok, Err}
 use Rattle.std.specs.Prelude.{if◌then◌else◌}
 use Rattle.answer.specs.Answer.{number_of}
 use Rattle.answer.specs.declared.answer.Answer.{Answer}

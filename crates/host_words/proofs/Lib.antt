@@ -4,6 +4,5 @@ pub mod Laid
 pub mod Parts
 pub mod Laws
 pub mod Broken
-pub mod Heads
 pub mod RoundTrip
 pub mod Rows

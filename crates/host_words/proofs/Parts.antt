@@ -1,23 +1,22 @@
 -- A list's words read part by part, and refused where a drop names no table. Assumes nothing.
-use mathlib.Core.Path.{◌≡◌, refl, sym, ap, ap₂, ◌∙◌}
+use mathlib.Core.Path.{◌≡◌, refl, sym, ap, ◌∙◌}
 use mathlib.Core.Bool.{Bool, true, false, ◌&&◌}
 use mathlib.Core.List.{List, [], ◌∷◌}
-use Prim.Native.Nat.{ℕ, suc, ◌+◌, ◌≤◌, ◌<◌}
+use Prim.Native.Nat.{ℕ, ◌+◌, ◌≤◌, ◌<◌}
 use native.Mathlib.Omega.{arith}
 use borrow.Author.Tests.{eq-eqb, ne_eqb, lt-ltb, le-ltb}
-use lib.Dec.{eqb, ltb}
-use lib.ListN.{length, take, drop, get_or, length-take, length-drop}
+use lib.Dec.{ltb}
+use lib.ListN.{length, take, drop, get_or, length-take}
 use native.Mathlib.Numerals.{add-one}
 use lib.Seq.{take_all, drop-cons, drop-drop, get_or-drop, get_or-take}
-use Rattle.std.specs.Prelude.{Option, Some, None, Result, Ok, Err}
+use Rattle.std.specs.Prelude.{Some, None, Result, Ok, Err}
 use Rattle.std.specs.Result.{OkIff, result_ok}
 use Rattle.std.specs.Prelude.{if◌then◌else◌}
 use Rattle.std.proofs.lemmas.Option.{same_Some}
 use Rattle.numbers.specs.Numbers.{all_below}
 use Rattle.memory.specs.declared.counts.Counts.{Counts}
 use Rattle.change.specs.declared.drops.Drops.{Drops}
-use Rattle.change.specs.declared.change.LogChange.{LogChange}
-use Rattle.host_words.specs.Change.{tables_from, drops_from, counts_from, list_formed, list_in}
+use Rattle.host_words.specs.Change.{tables_from, counts_from, list_formed}
 use Rattle.host_words.proofs.Laws.{and-false}
 use Rattle.host_words.specs.Inner.{drops_read, list_read}
 

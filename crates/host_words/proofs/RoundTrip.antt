@@ -1,12 +1,12 @@
 -- Words that were stored load as what was stored: `load (store v) ≡ v`. What a state's types say of it (lengths of arrays, ranges) is asked.
 -- Assumes nothing.
-use mathlib.Core.Path.{◌≡◌, refl, sym, ap, ap₂, ◌∙◌}
+use mathlib.Core.Path.{◌≡◌, refl, sym, ap, ◌∙◌}
 use mathlib.Core.Bool.{Bool, true, false}
-use mathlib.Core.List.{List, ◌∷◌, ◌++◌}
+use mathlib.Core.List.{List, ◌++◌}
 use Prim.Native.Nat.{ℕ, ◌+◌, ◌<◌}
 use native.Mathlib.Omega.{arith}
 use borrow.Author.Tests.{lt-ltb, eq-eqb}
-use lib.Dec.{ltb, eqb}
+use lib.Dec.{ltb}
 use lib.ListN.{length, take, drop, get_or, length-append}
 use lib.Seq.{take_all, take_at, drop_at, drop-drop, get_or-drop}
 use Rattle.words.proofs.Choices.{if_true}
@@ -14,11 +14,10 @@ use Rattle.numbers.specs.Numbers.{one_if, all_below}
 use Rattle.numbers.proofs.Laws.{both}
 use Rattle.record.specs.declared.reader.LogReader.{LogReader}
 use Rattle.memory.specs.declared.overlays.LogOverlays.{LogOverlays}
-use Rattle.change.specs.declared.drops.Drops.{Drops}
 use Rattle.change.specs.declared.change.LogChange.{LogChange}
 use Rattle.host_words.specs.Head.{flag_from}
 use Rattle.host_words.specs.Reader.{reader_formed, reader_from, reader_words}
-use Rattle.host_words.specs.Change.{tables_from, drops_from, list_formed, list_in, list_from, drops_words, list_words_of}
+use Rattle.host_words.specs.Change.{tables_from, list_formed, list_from, drops_words, list_words_of}
 use Rattle.host_words.specs.Overlays.{overlays_head, overlays_from, overlays_words}
 
 pub flag_round : (b : Bool) → flag_from (one_if b) ≡ b

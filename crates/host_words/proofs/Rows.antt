@@ -1,20 +1,18 @@
 -- Laws of a directory from words: a row behind another, the rows that are left, a directory that breaks a rule stays one. Assumes nothing.
 use mathlib.Core.Path.{◌≡◌, refl, sym, ap, ◌∙◌}
 use mathlib.Core.Bool.{Bool, true, false, ◌&&◌}
-use mathlib.Core.List.{List, [], ◌∷◌, ◌++◌}
-use Prim.Native.Nat.{ℕ, zero, suc, ◌+◌, ◌-◌, ◌*◌, ◌/◌, ◌%◌, ◌≤◌, ◌<◌}
+use mathlib.Core.List.{List, ◌++◌}
+use Prim.Native.Nat.{ℕ, zero, suc, ◌+◌, ◌*◌, ◌/◌, ◌%◌, ◌<◌}
 use native.Mathlib.Omega.{arith}
-use borrow.Author.Tests.{ltb-true, lt-ltb, le-ltb, eq-eqb, ne_eqb}
-use lib.Dec.{ltb, eqb}
-use lib.ListN.{length, get_or, length-append, drop}
-use Rattle.numbers.proofs.Laws.{left-of, right_of}
+use borrow.Author.Tests.{eq-eqb, ne_eqb}
+use lib.Dec.{ltb}
+use lib.ListN.{length, get_or, length-append}
 use Rattle.directory.specs.Directory.{no_tables}
 use Rattle.directory.specs.declared.directory.Directory.{Directory}
 use Rattle.std.specs.Prelude.{Option, Some, None}
 use Rattle.std.specs.Prelude.{if◌then◌else◌}
 use Rattle.host_words.specs.Inner.{row_added, directory_or_broken}
 use Rattle.host_words.specs.Tables.{row_formed, row_from, broken_directory, table_added, with_row, rows_from, directory_from}
-use Rattle.host_words.proofs.Laws.{and-false}
 use Rattle.std.proofs.lemmas.List.{get_or_append_left}
 use Rattle.host_words.proofs.RoundTrip.{past-at}
 

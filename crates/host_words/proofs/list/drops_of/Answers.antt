@@ -1,8 +1,6 @@
 -- A word more, unless it is no table's number. Assumes nothing.
-use Rattle.std.proofs.Common.{◌≡◌, ◌-◌, ◌<◌, length, sym, ap, ◌∙◌, arith}
-use Prim.Native.Nat.{ℕ, ◌+◌}
-use mathlib.Core.List.{List}
-use lib.ListN.{take, drop, get_or, set, length-drop, length-set}
+use Rattle.std.proofs.Common.{◌≡◌, ◌-◌, length, sym, ap, ◌∙◌, arith}
+use lib.ListN.{take, drop, length-drop, length-set}
 use lib.Seq.{take_all, get_or-drop}
 use Rattle.words.proofs.Choices.{if_false}
 use Rattle.numbers.specs.Numbers.{all_below}

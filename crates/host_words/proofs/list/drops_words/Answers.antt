@@ -1,6 +1,6 @@
 -- Each table's number as a word, behind their count. Assumes nothing.
 use Rattle.std.proofs.Common.{rules, ◌≡◌, ℕ, length, ap, ◌∙◌, arith}
-use mathlib.Core.List.{List, [], ◌∷◌, ◌++◌, append-nil}
+use mathlib.Core.List.{List, ◌∷◌, append-nil}
 use Rattle.host_words.proofs.Arrays.{alike}
 use Rattle.host_words.proofs.list.drops_words.Goals as goal
 

@@ -1,5 +1,5 @@
 -- The id, the counts and both kinds' drops, one behind the other. Assumes nothing.
-use Rattle.std.proofs.Common.{rules, ◌≡◌, length, arith}
+use Rattle.std.proofs.Common.{rules, ◌≡◌, length}
 use Rattle.host_words.proofs.Laid.{laid}
 use Rattle.host_words.proofs.list.list_words.Goals as goal
 

@@ -2,7 +2,7 @@
 use Rattle.std.proofs.Common.{ℕ, sym, ap, ◌∙◌, arith}
 use Rattle.std.specs.declared.slice.ChunksExact.{ChunksExact}
 use Rattle.host_words.specs.Inner.{directory_or_broken}
-use Rattle.host_words.proofs.Rows.{rows_left, row_refused, row_taken, row_whole, rows_none, directory-odd, directory-whole}
+use Rattle.host_words.proofs.Rows.{row_refused, row_taken, row_whole, rows_none, directory-odd, directory-whole}
 use Rattle.host_words.proofs.tables.loaded.Goals as goal
 
 pub returns-then-words-ne0 : goal.returns-then-words-ne0
