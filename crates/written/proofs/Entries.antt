@@ -1,4 +1,5 @@
 -- Each entry that the writer writes is read as its action. Assumes nothing.
+use Rattle.std.specs.Prelude.{Option, Some, None}
 use mathlib.Core.Path.{◌≡◌, refl, sym, ap, ap₂, ◌∙◌}
 use mathlib.Core.Bool.{true, false, ◌&&◌}
 use mathlib.Core.List.{List, [], ◌++◌, append_assoc, append-nil}
@@ -15,8 +16,6 @@ use Rattle.directory.specs.declared.table.TableKind.{TableKind}
 use Rattle.directory.specs.declared.table.TableKind.TheVariants.{Index, Value, RefCount}
 use Rattle.directory.specs.declared.table.TableDescription.{TableDescription}
 use Rattle.directory.specs.declared.directory.Directory.{Directory}
-use Rattle.directory.specs.declared.directory.Found.{Found}
-use Rattle.directory.specs.declared.directory.Found.TheVariants.{At, Nothing}
 use Rattle.record.specs.Format.{Format, got, read_at}
 use Rattle.record.specs.Record.{Item, insert_of, masked_item, dropped_item, inside_by}
 use Rattle.record.specs.Next.{is_end}
@@ -39,7 +38,7 @@ pub record Fitting (d : Directory) (kind : TableKind) (t i m : ℕ) : Type 0 whe
   pub small : t < 65536
   pub row : ℕ
   pub table : TableDescription
-  pub found : find_table d kind t ≡ At row table
+  pub found : find_table d kind t ≡ Some (row, table)
   pub below : i < table.count
   pub mark : mark_fits kind table m ≡ true
   pub ruled : mark_ruled kind m ≡ true
@@ -47,11 +46,11 @@ pub record Fitting (d : Directory) (kind : TableKind) (t i m : ℕ) : Type 0 whe
 pub fitting : (d : Directory) (kind : TableKind) (t i m : ℕ) → t < 65536 → mark_ruled kind m ≡ true → key_fits kind (find_table d kind t) i m ≡ true → Fitting d kind t i m
 fitting d kind t i m small ruled e = by (find_table d kind t) refl
   where
-    by : (f : Found) → find_table d kind t ≡ f → Fitting d kind t i m
-    by (At row T) g =
+    by : (f : Option (ℕ × TableDescription)) → find_table d kind t ≡ f → Fitting d kind t i m
+    by (Some (row, T)) g =
         let k : (ltb i T.count && mark_fits kind T m) ≡ true = rw g at e in
         record { small = small; row = row; table = T; found = g; below = ltb-true i T.count (left-of (ltb i T.count) _ k); mark = right_of (ltb i T.count) _ k; ruled = ruled }
-    by Nothing g = let z : ◌≡◌ {A = ℕ} 0 1 = cc (rw g at e) in absurd (omega arith)
+    by None g = let z : ◌≡◌ {A = ℕ} 0 1 = cc (rw g at e) in absurd (omega arith)
 
 -- what lies under an index is a chunk, or a value as long as the mark says
 pub unit_kept : (kind : TableKind) (T : TableDescription) (m : ℕ) → mark_fits kind T m ≡ true → unit_of kind T.length ≡ unit_of kind m
@@ -122,9 +121,9 @@ module _ (d : Directory) (kind : TableKind) (tag : ℕ) (action : ℕ → LogAct
   pub drop_reads : (t : ℕ) → t < 65536 → stands (tables_of d) kind t ≡ true → Reads d (le 1 tag ++ le 2 t) (written (action t) [])
   drop_reads t small e = by (find_table d kind t) refl
     where
-      by : (f : Found) → find_table d kind t ≡ f → Reads d (le 1 tag ++ le 2 t) (written (action t) [])
-      by Nothing q = let z : ◌≡◌ {A = ℕ} 0 1 = cc (there Nothing d kind t (sym q), e) in absurd (omega arith)
-      by (At row T) q = record {
+      by : (f : Option (ℕ × TableDescription)) → find_table d kind t ≡ f → Reads d (le 1 tag ++ le 2 t) (written (action t) [])
+      by None q = let z : ◌≡◌ {A = ℕ} 0 1 = cc (rw q at (there d kind t), e) in absurd (omega arith)
+      by (Some (row, T)) q = record {
         head = le 1 tag ++ le 2 t;
         is = sym (append-nil (le 1 tag ++ le 2 t));
         goes = goes t;

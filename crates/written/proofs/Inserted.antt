@@ -1,5 +1,6 @@
 -- FROM AN INSERT TO THE TABLES: what a lookup finds in a list is what the tables hold once the list was written and replayed, so what was
 -- inserted is there. Assumes nothing.
+use Rattle.std.specs.Prelude.{Ok}
 use mathlib.Core.Path.{◌≡◌, refl, sym, ap, ap₂, ◌∙◌}
 use mathlib.Core.Bool.{Bool, true, false}
 use mathlib.Core.List.{List, [], ◌∷◌, map}
@@ -26,7 +27,6 @@ use Rattle.overlay.specs.Entries.{Entry, entry_at, entries_of, find_entry}
 use Rattle.memory.specs.Parts.{of_kind}
 use Rattle.change.specs.Change.{Change, change_kept}
 use Rattle.change.specs.Insert.{mark_of, plan_in, inserted, new_entry}
-use Rattle.change.specs.declared.plans.Plan.TheVariants.{Go}
 use Rattle.change.proofs.Kept.{insert-kept}
 use Rattle.change.proofs.Meaning.{insert_lookup}
 use Rattle.writer.specs.Typed.{Typed}
@@ -130,7 +130,7 @@ module _
     (kept : change_kept d l ≡ true)  -- directory and list keep their rules
     (long : length image ≡ image_length d)  -- the image has the directory's length
     (number index sub : ℕ) (bytes : List ℕ) (small : number < 65536) (word : index < 18446744073709551616) (old : ℕ)
-    (go : plan_in kind (of_kind kind l.parts) (find_table d kind number) number index sub bytes ≡ Go old)  -- the insert is refused nothing
+    (go : plan_in kind (of_kind kind l.parts) (find_table d kind number) number index sub bytes ≡ Ok old)  -- the insert is refused nothing
   where
     abbrev after : Change
     after = (inserted kind d l number index sub bytes).change
@@ -156,7 +156,7 @@ module _
 -- A value that was inserted, written and replayed stands in the tables.
 pub inserted-value : (d : Directory) (l : Change) (more image : List ℕ) (kept : change_kept d l ≡ true) (long : length image ≡ image_length d)
     (number index : ℕ) (bytes : List ℕ) (small : number < 65536) (word : index < 18446744073709551616) (old : ℕ)
-    (go : plan_in Value l.parts.value (find_table d Value number) number index 0 bytes ≡ Go old)  -- the insert is refused nothing
+    (go : plan_in Value l.parts.value (find_table d Value number) number index 0 bytes ≡ Ok old)  -- the insert is refused nothing
     → (let after : Change = (inserted Value d l number index 0 bytes).change in
     Typed after → (j : ℕ) → j < length bytes → get_or (image_left d after more image) (start_under d Value number index + j) 0 ≡ get_or bytes j 0)
 inserted-value d l more image kept long number index bytes small word old go words j h =

@@ -1,4 +1,5 @@
 -- What the actions of a list say of a byte, taken together: a drop of its table comes last, and no two keys reach it. Assumes nothing.
+use Rattle.std.specs.Prelude.{Option, Some, None}
 use mathlib.Core.Path.{◌≡◌, refl, sym, ap, ap₂, ◌∙◌, subst}
 use mathlib.Core.Bool.{true, false}
 use mathlib.Core.List.{List, [], ◌++◌}
@@ -13,9 +14,8 @@ use Rattle.directory.specs.Table.{size_of}
 use Rattle.directory.specs.Directory.{find_table, start_of, image_length}
 use Rattle.directory.specs.declared.table.TableKind.{TableKind}
 use Rattle.directory.specs.declared.table.TableKind.TheVariants.{Index, Value, RefCount}
+use Rattle.directory.specs.declared.table.TableDescription.{TableDescription}
 use Rattle.directory.specs.declared.directory.Directory.{Directory}
-use Rattle.directory.specs.declared.directory.Found.{Found}
-use Rattle.directory.specs.declared.directory.Found.TheVariants.{At, Nothing}
 use Rattle.record.specs.Record.{drop_index, drop_ref_count}
 use Rattle.effect.specs.Effect.{Written, Place, place_of}
 use Rattle.effect.specs.Meaning.{of_drop, says_of, says, last_said, SizedBy, Sized}
@@ -98,20 +98,20 @@ module _ (d : Directory) (p : ℕ) where
   pub table_in_lem : (kind : TableKind) (t : ℕ) → table_start d kind t ≤ p → p < table_start d kind t + table_size d kind t → In d kind t p
   table_in_lem kind t h k = by (find_table d kind t) refl
     where
-      by : (f : Found) → find_table d kind t ≡ f → In d kind t p
-      by (At row T) q = record { place = _; is = place_at d kind t row T q; from = rw q at h; to = rw q at k }
-      by Nothing q = let k' = rw q at k in absurd (omega arith)
+      by : (f : Option (ℕ × TableDescription)) → find_table d kind t ≡ f → In d kind t p
+      by (Some (row, T)) q = record { place = _; is = place_at d kind t row T q; from = rw q at h; to = rw q at k }
+      by None q = let k' = rw q at k in absurd (omega arith)
 
   pub in_table : (kind : TableKind) (t : ℕ) → In d kind t p → (table_start d kind t ≤ p) × (p < table_start d kind t + table_size d kind t)
   in_table kind t x = by (find_table d kind t) refl
     where
-      by : (f : Found) → find_table d kind t ≡ f → (table_start d kind t ≤ p) × (p < table_start d kind t + table_size d kind t)
-      by (At row T) q =
+      by : (f : Option (ℕ × TableDescription)) → find_table d kind t ≡ f → (table_start d kind t ≤ p) × (p < table_start d kind t + table_size d kind t)
+      by (Some (row, T)) q =
           let e : x.place ≡ record { at = start_of d row; table = T } = cc (x.is, place_at d kind t row T q) in
           let a = ap (λ (P : Place). P.at) e in
           let b = ap (λ (P : Place). size_of P.table) e in
           rw q (omega (arith, x.from), omega (arith, x.to))
-      by Nothing q = absurd (not_none x.is (place_none d kind t q))
+      by None q = absurd (not_none x.is (place_none d kind t q))
 
   drop_says : (kind : TableKind) (t : ℕ) → In d kind t p → of_drop (place_of d kind t) p ≡ some 0
   unfolding of_drop

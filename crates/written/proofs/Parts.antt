@@ -1,4 +1,5 @@
 -- What the reader makes of each part of a record that the writer wrote. Assumes nothing.
+use Rattle.std.specs.Prelude.{Some}
 use mathlib.Core.Path.{◌≡◌, refl, sym, ap, ◌∙◌}
 use mathlib.Core.Bool.{Bool}
 use mathlib.Core.List.{List, ◌++◌}
@@ -12,9 +13,8 @@ use Rattle.directory.specs.declared.table.TableKind.{TableKind}
 use Rattle.directory.specs.declared.table.TableKind.TheVariants.{Value}
 use Rattle.directory.specs.declared.table.TableDescription.{TableDescription}
 use Rattle.directory.specs.declared.directory.Directory.{Directory}
-use Rattle.directory.specs.declared.directory.Found.TheVariants.{At}
 use Rattle.record.specs.Format.{got, read_at}
-use Rattle.record.specs.Record.{insert_of, key, chunk, masked_item, value, valued_item, table, dropped_item}
+use Rattle.record.specs.Record.{insert_of, key, chunk, masked_item, value, valued_item, dropped_item}
 use Rattle.answer.specs.declared.answer.Answer.TheVariants.{NoIndex}
 use Rattle.record.specs.declared.action.LogAction.{LogAction}
 use Rattle.record.specs.declared.item.Key.{Key}
@@ -28,13 +28,13 @@ use Rattle.written.proofs.Here.{Here, on, room, number}
 abbrev pub key_of : ℕ → ℕ → TableDescription → Key
 key_of t i T = record { table = t; index = i; description = T }
 
-module _ (d : Directory) (kind : TableKind) (t : ℕ) (row : ℕ) (T : TableDescription) (small : t < 65536) (found : find_table d kind t ≡ At row T) {log : List ℕ} {at : ℕ} where
+module _ (d : Directory) (kind : TableKind) (t : ℕ) (row : ℕ) (T : TableDescription) (small : t < 65536) (found : find_table d kind t ≡ Some (row, T)) {log : List ℕ} {at : ℕ} where
   -- "table 2, index 8"
   module _ (i : ℕ) (word : i < 18446744073709551616) (below : i < T.count) where
     pub key-read : (b : List ℕ) → Here log at (le 2 t ++ (le 8 i ++ b)) → read_at (key d kind) at log ≡ got (key_of t i T) (at + 10)
     key-read b h =
         let h₂ : Here log (at + 2) (le 8 i ++ b) = on (le 2 t) (le 8 i ++ b) 2 (length-le 2 t) h in
-        key_met at log d kind t i (At row T) (omega (arith, room (le 2 t) (le 8 i ++ b) 2 (length-le 2 t) h, room (le 8 i) b 8 (length-le 8 i) h₂))
+        key_met at log d kind t i (Some (row, T)) (omega (arith, room (le 2 t) (le 8 i ++ b) 2 (length-le 2 t) h, room (le 8 i) b 8 (length-le 8 i) h₂))
         (number 2 t (le 8 i ++ b) (omega arith) h) (number 8 i b (omega arith) h₂) (sym found)
         ∙ ap (λ (x : Bool). tested x (got (key_of t i T) (at + 10)) NoIndex) (lt-ltb i T.count below)
 
@@ -60,10 +60,10 @@ module _ (d : Directory) (kind : TableKind) (t : ℕ) (row : ℕ) (T : TableDesc
       → read_at (dropped_item d kind action) at log ≡ got (record { action = action t; payload = 0 }) (at + 2 + 0)
   dropped-read action b h =
       sym (dropped_met at log d kind action t
-      (sym (table_met at log d kind t (At row T) (room (le 2 t) b 2 (length-le 2 t) h) (number 2 t b (omega arith) h) (sym found))))
+      (sym (table_met at log d kind t (Some (row, T)) (room (le 2 t) b 2 (length-le 2 t) h) (number 2 t b (omega arith) h) (sym found))))
 
 -- a value of the table's length
-pub valued_read : (d : Directory) (t row : ℕ) (T : TableDescription) (small : t < 65536) (found : find_table d Value t ≡ At row T) {log : List ℕ} {at : ℕ}
+pub valued_read : (d : Directory) (t row : ℕ) (T : TableDescription) (small : t < 65536) (found : find_table d Value t ≡ Some (row, T)) {log : List ℕ} {at : ℕ}
     (i : ℕ) (word : i < 18446744073709551616) (below : i < T.count) (v b : List ℕ) → length v ≡ T.length → Here log at (le 2 t ++ (le 8 i ++ (v ++ b)))
     → read_at (valued_item d) at log ≡ got (record { action = insert_of Value t i; payload = T.length }) (at + 10 + T.length)
 unfolding valued_item

@@ -19,7 +19,6 @@ use Rattle.answer.specs.declared.answer.Answer.TheVariants.{WrongSum}
 use Rattle.record.specs.declared.action.LogAction.TheVariants.{BeginRecord, EndRecord}
 use Rattle.record.specs.declared.reader.LogReader.{LogReader}
 use Rattle.record.specs.declared.reader.Stepped.{Stepped}
-use Rattle.record.specs.declared.reader.Step.TheVariants.{Took}
 use Rattle.record.proofs.Parts.{tested, inside_met, ended_met, opening_met, begun_met}
 use Rattle.effect.specs.Effect.{Written, written}
 use Rattle.replay.specs.Replay.{Walked, walked, add_first, record_at}
@@ -30,6 +29,7 @@ use Rattle.keys.specs.Keys.{every, all_under_of}
 use Rattle.output.specs.Put.{le, joined}
 use Rattle.output.proofs.Laws.{length-le}
 use Rattle.written.proofs.Here.{Here, front, on, room, number, tag_at}
+use Rattle.std.specs.Prelude.{Ok}
 
 -- a validating reader inside a record
 abbrev pub reader : ℕ → ℕ → ℕ → LogReader
@@ -59,7 +59,7 @@ module _ (d : Directory) (log : List ℕ) (at id register : ℕ) (e b : List ℕ
     reader = reader (at + length e) id (updated register e);
   }
 
-  taken : step_of d log (reader at id register) ≡ Took step
+  taken : step_of d log (reader at id register) ≡ Ok step
   unfolding step_of reader_after forward_to
   taken =
       let n : at + length e - at ≡ length e = omega arith in
@@ -140,7 +140,7 @@ module _ (d : Directory) (log : List ℕ) (at id : ℕ) (b : List ℕ) where
       last d log (reader at id register) _ (if_false (ltb (length log) at) _ _ (le-ltb (length log) at h.fits) ∙ ap (stepped log (reader at id register)) q) refl
 
   opens : id < 18446744073709551616 → Here log at (le 1 1 ++ (le 8 id ++ b))
-      → step_of d log (reader_at at true) ≡ Took (record { action = BeginRecord; start = at + 9; length = 0; reader = reader (at + 9) id (updated all_ones (le 1 1 ++ le 8 id)) })
+      → step_of d log (reader_at at true) ≡ Ok (record { action = BeginRecord; start = at + 9; length = 0; reader = reader (at + 9) id (updated all_ones (le 1 1 ++ le 8 id)) })
   unfolding step_of forward_to opening_by
   opens word h =
       let h₁ : Here log (at + 1) (le 8 id ++ b) = on (le 1 1) (le 8 id ++ b) 1 (length-le 1 1) h in

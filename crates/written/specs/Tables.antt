@@ -1,13 +1,12 @@
 -- Where in the image a change list's keys and drops lie (document 01, "The directory and the tables": "The tables lie in one lent image in
 -- directory order without gaps"), and which bytes they reach.
-use Rattle.std.specs.Prelude.{◌≡◌, true, List, [], ◌++◌, ℕ, ◌+◌, ◌*◌, ◌≤◌, ◌<◌, take, get_or}
+use Rattle.std.specs.Prelude.{◌≡◌, true, List, [], ◌++◌, ℕ, ◌+◌, ◌*◌, ◌≤◌, ◌<◌, take, get_or, Option, Some, None}
 use Rattle.directory.specs.Table.{slot_length, size_of}
 use Rattle.directory.specs.Directory.{find_table, start_of}
 use Rattle.directory.specs.declared.table.TableKind.{TableKind}
 use Rattle.directory.specs.declared.table.TableKind.TheVariants.{Index, Value, RefCount}
+use Rattle.directory.specs.declared.table.TableDescription.{TableDescription}
 use Rattle.directory.specs.declared.directory.Directory.{Directory}
-use Rattle.directory.specs.declared.directory.Found.{Found}
-use Rattle.directory.specs.declared.directory.Found.TheVariants.{At, Nothing}
 use Rattle.effect.specs.Meaning.{bit}
 use Rattle.replay.specs.Replay.{judged, image_after}
 use Rattle.numbers.specs.Numbers.{has}
@@ -39,19 +38,19 @@ abbrev pub place_mark : TableKind → Change → ℕ → ℕ
 place_mark kind l q = mark_at (of_kind kind l.parts).rows q
 
 -- where a table begins, its length, and that of one chunk or slot; 0 if there is none
-abbrev pub start_in : Directory → Found → ℕ
-start_in d (At row t) = start_of d row
-start_in d Nothing = 0
+abbrev pub start_in : Directory → Option (ℕ × TableDescription) → ℕ
+start_in d (Some (row, t)) = start_of d row
+start_in d None = 0
 
 -- how long a table is that was found; 0 if there is none
-abbrev pub size_in : Found → ℕ
-size_in (At row t) = size_of t
-size_in Nothing = 0
+abbrev pub size_in : Option (ℕ × TableDescription) → ℕ
+size_in (Some (row, t)) = size_of t
+size_in None = 0
 
 -- how long a slot of a table is that was found; 0 if there is none
-abbrev pub slot_in : Found → ℕ
-slot_in (At row t) = slot_length t
-slot_in Nothing = 0
+abbrev pub slot_in : Option (ℕ × TableDescription) → ℕ
+slot_in (Some (row, t)) = slot_length t
+slot_in None = 0
 
 -- where the table of a kind and a number begins
 abbrev pub table_start : Directory → TableKind → ℕ → ℕ
