@@ -3,12 +3,14 @@
 use mathlib.Core.Path.{◌≡◌, refl, sym, ap, ap₂, ◌∙◌}
 use mathlib.Core.Logic.{◌⊎◌, inl, inr, ⊎_elim}
 use mathlib.Core.List.{List, [], ◌∷◌, ◌++◌, append_assoc, append-nil}
-use Prim.Native.Nat.{ℕ, zero, suc, ◌+◌, ◌^◌, ◌≤◌, ◌<◌, ◌/◌, zero-le, suc-le-suc}
+use Prim.Native.Nat.{ℕ, zero, suc, ◌+◌, ◌-◌, ◌^◌, ◌≤◌, ◌<◌, ◌/◌, zero-le, suc-le-suc}
 use native.Mathlib.Nat.{add-zero, add_assoc, pow-suc}
 use native.Mathlib.Numerals.{add-one}
 use native.Mathlib.Omega.{arith}
 use lib.ListN.{length, take, drop, set, get_or, length-append, take-append-drop, drop_of_length-le}
-use lib.Seq.{take_all, take_at, drop_at, drop-drop, drop-cons, get_or-take, length-take-le, set_split}
+use lib.Seq.{take_all, take-length, take_at, drop_at, drop-drop, drop-cons, get_or-take, length-take-le, set_split}
+use borrow.Rule.Slice.PartMut.{put_mid}
+use Rattle.std.proofs.lemmas.Slice.{put_mid-paste}
 use Rattle.words.specs.Words.{little}
 use Rattle.output.specs.Put.{put, Wrote, le, joined}
 
@@ -52,6 +54,14 @@ put-put l at a b = ⊎_elim (near-put l at a b) (far-put l at a b) (le_or_le at 
 set-put : (l : List ℕ) (at b : ℕ) → at < length l → set l at b ≡ put l at (b ∷ [])
 unfolding put
 set-put l at b h = set_split l at b h ∙ rw (append_assoc, add-one)
+
+-- bytes copied over a part (`copy_from_slice`)
+pub copied : (l : List ℕ) (at : ℕ) (bs copy : List ℕ) → copy ≡ bs → put_mid at (at + length bs - at) l copy ≡ put l at bs
+unfolding put
+copied l at bs copy e =
+    let k : length bs ≡ at + length bs - at = omega arith in
+    let whole : take (length bs) bs ≡ bs = take-length bs in
+    put_mid-paste at (at + length bs - at) l copy bs (length bs) e k refl ∙ rw whole
 
 -- one write after another, and what is left of a write
 pub wrote_nil : (l : List ℕ) (at : ℕ) → Wrote l at [] l at

@@ -10,14 +10,11 @@ pub fn put_le(out: &mut [u8], at: usize, x: u64, n: usize) -> usize
     ensures { Wrote out.old at (le n x) out.new result }
 {
     let mut v = x;
-    let mut o = at;
-    let end = at + n;
-    while o < end {
+    for o in at..at + n {
         out[o] = (v % 256) as u8;
-        v = v / 256;
-        o += 1;
+        v /= 256;
     }
-    o
+    at + n
 }
 
 // All of src.
@@ -25,33 +22,30 @@ pub fn copy_into(out: &mut [u8], at: usize, src: &[u8]) -> usize
     requires { at + length src.now ≤ length out.old }
     ensures { Wrote out.old at src.now out.new result }
 {
-    let mut i: usize = 0;
-    while i < src.len() {
-        out[at + i] = src[i];
-        i += 1;
-    }
-    at + i
+    let end = at + src.len();
+    out[at..end].copy_from_slice(src);
+    end
 }
 
 pub fn put_u8(out: &mut [u8], at: usize, x: u8) -> usize
     requires { at + 1 ≤ length out.old }
     ensures { Wrote out.old at (le 1 x) out.new result }
 {
-    put_le(out, at, x as u64, 1)
+    put_le(out, at, u64::from(x), 1)
 }
 
 pub fn put_u16(out: &mut [u8], at: usize, x: u16) -> usize
     requires { at + 2 ≤ length out.old }
     ensures { Wrote out.old at (le 2 x) out.new result }
 {
-    put_le(out, at, x as u64, 2)
+    put_le(out, at, u64::from(x), 2)
 }
 
 pub fn put_u32(out: &mut [u8], at: usize, x: u32) -> usize
     requires { at + 4 ≤ length out.old }
     ensures { Wrote out.old at (le 4 x) out.new result }
 {
-    put_le(out, at, x as u64, 4)
+    put_le(out, at, u64::from(x), 4)
 }
 
 pub fn put_u64(out: &mut [u8], at: usize, x: u64) -> usize

@@ -1,10 +1,5 @@
 -- `put_le` meets its contract. The invariant: the bytes of what is left of the number are left to write. Assumes nothing.
-use mathlib.Core.Path.{◌≡◌, refl}
-use mathlib.Core.List.{List}
-use Prim.Native.Nat.{ℕ, suc, ◌+◌, ◌-◌, ◌<◌, ◌%◌, ◌/◌}
-use native.Mathlib.Omega.{arith}
-use borrow.Author.Rules.{rules}
-use lib.ListN.{length, set, length-set}
+use Rattle.std.proofs.Common.{◌≡◌, ◌+◌, ◌-◌, ◌<◌, ◌%◌, ◌/◌, List, ℕ, suc, length, set, arith}
 use Rattle.output.specs.Put.{Wrote, le}
 use Rattle.output.proofs.Laws.{rest, stored, all_left, none_left}
 use Rattle.output.proofs.put_le.Goals as goal
@@ -19,13 +14,15 @@ turn l o e v f z h k w =
 pub loop-o-init : goal.loop-o-init
 loop-o-init c =
     let e : c.args.at + c.args.n - c.args.at ≡ c.args.n = omega arith in
-    (search rules, refl, rw e (all_left _ _ _))
+    rw e (all_left _ _ _)
 
 pub loop-o-preserved : goal.loop-o-preserved
-loop-o-preserved c = (search rules, simp length-set (search rules), turn _ _ _ _ _ _ (search rules) (search rules) c.loop-o.invariant.2)
+loop-o-preserved c = turn _ _ (c.args.at + c.args.n) _ _ _ (omega arith) (omega arith) c.loop-o.invariant
 
 pub returns : goal.returns
 unfolding le
 returns c =
     let e : c.args.at + c.args.n - c.loop-o.o ≡ 0 = omega arith in
-    none_left (rw e at c.loop-o.invariant.2)
+    let o : c.loop-o.o ≡ c.args.at + c.args.n = omega arith in
+    let w : Wrote c.args.out.now c.args.at (le c.args.n c.args.x) c.loop-o.out c.loop-o.o = none_left (rw e at c.loop-o.invariant) in
+    rw o at w
