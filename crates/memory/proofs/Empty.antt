@@ -13,7 +13,7 @@ use Rattle.overlay.proofs.Ruled.{makes}
 use Rattle.overlay.proofs.Parts.{rows_long, order-long}
 use Rattle.memory.specs.declared.span.Holder.{Holder}
 use Rattle.memory.specs.declared.span.Holder.TheVariants as holder
-use Rattle.memory.specs.Parts.{span_of, words_all, bytes_all, no_counts, count_of, words_in, bytes_in, part_of, parts_of, of_kind, parts_kept}
+use Rattle.memory.specs.Parts.{span_of, words_all, bytes_all, no_counts, count_of, words_in, part_of, parts_of, parts_kept}
 use Rattle.memory.proofs.Stored.{part-long}
 use Rattle.memory.proofs.Spans.{lies, of_parts, all-makes}
 

@@ -36,18 +36,10 @@ impl Counts {
         ensures { result ≡ with_count kind self n }
     {
         match kind {
-            TableKind::Index => {
-                self.index = n;
-                self
-            }
-            TableKind::Value => {
-                self.value = n;
-                self
-            }
-            TableKind::RefCount => {
-                self.ref_count = n;
-                self
-            }
+            TableKind::Index => self.index = n,
+            TableKind::Value => self.value = n,
+            TableKind::RefCount => self.ref_count = n,
         }
+        self
     }
 }

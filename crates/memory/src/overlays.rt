@@ -21,12 +21,14 @@ impl LogOverlays {
         }
     }
 
+    #[tactic(auto, unfolding(crate::specs::Overlays::last_id_of))]
     pub fn last_record_id(self, col: u64) -> u64
         ensures { result ≡ last_id_of self col }
     {
         if col < 8 {
-            return self.last_record_ids[col as usize];
+            self.last_record_ids[col as usize]
+        } else {
+            u64::MAX
         }
-        18446744073709551615
     }
 }

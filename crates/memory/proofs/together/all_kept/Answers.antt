@@ -1,56 +1,35 @@
 -- `all_kept` meets its contract: two lengths, then the three kinds in turn. Assumes nothing.
-use mathlib.Core.Path.{◌≡◌, sym, ◌∙◌}
-use lib.ListN.{length}
-use Rattle.memory.specs.Parts.{words_all, bytes_all}
+use Rattle.std.proofs.Common.{◌≡◌, ◌∙◌, sym, true, false}
 use Rattle.memory.proofs.Kept.{other-words, other-bytes, index-fails, value-fails, last_says}
 use Rattle.memory.proofs.together.all_kept.Goals as goal
+use Rattle.memory.proofs.together.all_kept.Goals.{then-words-words_all-via-then-words-words_all, then-words-words_all-via-else-words-words_all+then-bytes-bytes_all, then-kept_in, else-kept_in}
 
 pub returns-then-words-words_all : goal.returns-then-words-words_all
 returns-then-words-words_all c =
     let a = c.args in
-    other-words a.holder a.counts a.words.now a.bytes.now (λ e. c.if-words-words_all.true (e ∙ sym c.words_all.ensures))
+    elim c.then-words-words_all.branch [
+      | then-words-words_all-via-then-words-words_all w ↦ other-words a.holder a.counts a.words.now a.bytes.now (λ e. w.if-words-words_all.true (e ∙ sym c.words_all.ensures))
+      | then-words-words_all-via-else-words-words_all+then-bytes-bytes_all w ↦ other-bytes a.holder a.counts a.words.now a.bytes.now (λ e. w.if-bytes-bytes_all.true (e ∙ sym w.bytes_all.ensures))
+    ]
 
-pub returns-then-bytes-bytes_all : goal.returns-then-bytes-bytes_all
-returns-then-bytes-bytes_all c =
+pub returns-then-kept_in-2 : goal.returns-then-kept_in-2
+returns-then-kept_in-2 c =
     let a = c.args in
-    other-bytes a.holder a.counts a.words.now a.bytes.now (λ e. c.if-bytes-bytes_all.true (e ∙ sym c.bytes_all.ensures))
+    elim c.if-kept_in.branch [
+      | then-kept_in w ↦
+          c.kept_in-then-kept_in-2.ensures
+          ∙ last_says a.holder a.counts a.words.now a.bytes.now (c.if-words-words_all.false ∙ c.words_all.ensures) (c.if-bytes-bytes_all.false ∙ c.bytes_all.ensures) (sym c.kept_in.ensures ∙ w.if-kept_in.true) (sym w.kept_in-then-kept_in.ensures ∙ sym w.value-is ∙ c.if-kept_in-2.true)
+      | else-kept_in w ↦ let z : true ≡ false = sym c.if-kept_in-2.true ∙ w.value-is ∙ w.if-kept_in.false in cc
+    ]
 
-pub kept_in-requires : goal.kept_in-requires
-kept_in-requires c =
-    let words_long : length c.args.words.now ≡ words_all c.args.holder = c.if-words-words_all.false ∙ c.words_all.ensures in
-    let bytes-long : length c.args.bytes.now ≡ bytes_all c.args.holder = c.if-bytes-bytes_all.false ∙ c.bytes_all.ensures in
-    (words_long, bytes-long)
-
-pub returns-then-not-kept_in : goal.returns-then-not-kept_in
-returns-then-not-kept_in c =
-    let words_long : length c.args.words.now ≡ words_all c.args.holder = c.if-words-words_all.false ∙ c.words_all.ensures in
-    let bytes-long : length c.args.bytes.now ≡ bytes_all c.args.holder = c.if-bytes-bytes_all.false ∙ c.bytes_all.ensures in
+pub returns-else-kept_in-2 : goal.returns-else-kept_in-2
+returns-else-kept_in-2 c =
     let a = c.args in
-    index-fails a.holder a.counts a.words.now a.bytes.now words_long bytes-long (sym c.kept_in.ensures ∙ c.if-not-kept_in.true)
-
-pub kept_in-requires-2 : goal.kept_in-requires-2
-kept_in-requires-2 c =
-    let words_long : length c.args.words.now ≡ words_all c.args.holder = c.if-words-words_all.false ∙ c.words_all.ensures in
-    let bytes-long : length c.args.bytes.now ≡ bytes_all c.args.holder = c.if-bytes-bytes_all.false ∙ c.bytes_all.ensures in
-    (words_long, bytes-long)
-
-pub returns-then-not-kept_in-2 : goal.returns-then-not-kept_in-2
-returns-then-not-kept_in-2 c =
-    let words_long : length c.args.words.now ≡ words_all c.args.holder = c.if-words-words_all.false ∙ c.words_all.ensures in
-    let bytes-long : length c.args.bytes.now ≡ bytes_all c.args.holder = c.if-bytes-bytes_all.false ∙ c.bytes_all.ensures in
-    let a = c.args in
-    value-fails a.holder a.counts a.words.now a.bytes.now words_long bytes-long (sym c.kept_in.ensures ∙ c.if-not-kept_in.false) (sym c.kept_in-2.ensures ∙ c.if-not-kept_in-2.true)
-
-pub kept_in-requires-3 : goal.kept_in-requires-3
-kept_in-requires-3 c =
-    let words_long : length c.args.words.now ≡ words_all c.args.holder = c.if-words-words_all.false ∙ c.words_all.ensures in
-    let bytes-long : length c.args.bytes.now ≡ bytes_all c.args.holder = c.if-bytes-bytes_all.false ∙ c.bytes_all.ensures in
-    (words_long, bytes-long)
-
-pub returns : goal.returns
-returns c =
-    let words_long : length c.args.words.now ≡ words_all c.args.holder = c.if-words-words_all.false ∙ c.words_all.ensures in
-    let bytes-long : length c.args.bytes.now ≡ bytes_all c.args.holder = c.if-bytes-bytes_all.false ∙ c.bytes_all.ensures in
-    let a = c.args in
-    c.kept_in-3.ensures
-    ∙ last_says a.holder a.counts a.words.now a.bytes.now words_long bytes-long (sym c.kept_in.ensures ∙ c.if-not-kept_in.false) (sym c.kept_in-2.ensures ∙ c.if-not-kept_in-2.false)
+    elim c.if-kept_in.branch [
+      | then-kept_in w ↦
+          c.if-kept_in-2.false
+          ∙ value-fails a.holder a.counts a.words.now a.bytes.now (c.if-words-words_all.false ∙ c.words_all.ensures) (c.if-bytes-bytes_all.false ∙ c.bytes_all.ensures) (sym c.kept_in.ensures ∙ w.if-kept_in.true) (sym w.kept_in-then-kept_in.ensures ∙ sym w.value-is ∙ c.if-kept_in-2.false)
+      | else-kept_in w ↦
+          c.if-kept_in-2.false
+          ∙ index-fails a.holder a.counts a.words.now a.bytes.now (c.if-words-words_all.false ∙ c.words_all.ensures) (c.if-bytes-bytes_all.false ∙ c.bytes_all.ensures) (sym c.kept_in.ensures ∙ w.if-kept_in.false)
+    ]
