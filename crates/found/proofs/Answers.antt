@@ -4,114 +4,106 @@ use mathlib.Core.Bool.{Bool, true, false}
 use mathlib.Core.List.{List, [], map}
 use mathlib.Core.Path.{◌≡◌, refl, sym, ap, ◌∙◌}
 use native.Mathlib.Omega.{arith}
-use lib.ListN.{take, length}
-use lib.Seq.{paste-zero}
+use lib.ListN.{length}
 use lib.Dec.{ltb}
 use borrow.Author.Tests.{lt-ltb, le-ltb, ltb-false}
-use Rattle.numbers.specs.Numbers.{has, all_below, distinct, over}
+use Rattle.std.specs.Prelude.{Result, Ok, Err, IfOk}
+use Rattle.numbers.specs.Numbers.{has, all_below, distinct}
 use Rattle.answer.specs.declared.answer.Answer.{Answer}
-use Rattle.answer.specs.declared.answer.Answer.TheVariants.{Done, NoRoom, ShortOutput, UsedUp, BadState}
+use Rattle.answer.specs.declared.answer.Answer.TheVariants.{NoRoom, ShortOutput, UsedUp, BadState}
 use Rattle.found.specs.Names.{said_by}
-use Rattle.found.specs.Logs.{LogFile, file_number, taken_numbers, removed, in_order_of, belong, found_kept, answered, to_replay, log_files, ordered}
-use Rattle.found.specs.Inner.{files_in, Gathered}
+use Rattle.found.specs.Logs.{file_number, taken_numbers, removed, sort_into, in_order_of, belong, found_kept, files_told, to_replay, log_files, ordered}
+use Rattle.found.specs.Found.{found_files, numbers_in, removed_in, kept_in}
+use Rattle.found.specs.declared.sorted.LogFile.{LogFile}
 use Rattle.found.specs.declared.logs.LogFiles.{LogFiles}
-use Rattle.found.specs.declared.sorted.Sorted.{Sorted}
-use Rattle.found.proofs.SortLaws.{too_many, few, kept-numbers}
-use Rattle.found.proofs.Found.{found-once, order_below, order-once, said_below, lower}
+use Rattle.found.proofs.SortLaws.{length_sorted}
+use Rattle.found.proofs.Found.{numbers_found, removed_found, kept_found, found-once, order_below, order-once, said_below, lower}
 use Rattle.found.proofs.Order.{in_order}
 
--- a refusal tells of none to remove
-pub told_none : (d l : List ℕ) (f : LogFiles) (a : Answer) → f ≡ answered a 0 [] → d ≡ over d l f.remove_count
-told_none d l f a e = paste-zero d 0 l ∙ ap (λ (x : LogFiles). over d l x.remove_count) (sym e)
-
-pub told-all : (d d' l : List ℕ) (k : ℕ) (fs : List LogFile) (f : LogFiles) → d' ≡ over d l k → f ≡ answered Done k fs → d' ≡ over d l f.remove_count
-told-all d d' l k fs f e g = e ∙ ap (λ (x : LogFiles). over d l x.remove_count) (sym g)
-
 module _ (n m l h : List ℕ) (r : ℕ) where
-  pub logs-apart : belong n m l h ≡ false → log_files n m l h r ≡ answered BadState 0 []
+  pub logs-apart : belong n m l h ≡ false → log_files n m l h r ≡ Err BadState
   unfolding log_files found_kept
   logs-apart e = rw e
 
   module _ (b : belong n m l h ≡ true) where
-    pub logs-twice : distinct (taken_numbers (said_by n m)) ≡ false → log_files n m l h r ≡ answered BadState 0 []
+    pub logs-twice : distinct (numbers_in (found_files n m l h)) ≡ false → log_files n m l h r ≡ Err BadState
     unfolding log_files found_kept
-    logs-twice o = rw (b, o)
+    logs-twice o = rw (b, ap distinct (sym (numbers_found n m l h)) ∙ o)
 
-    module _ (o : distinct (taken_numbers (said_by n m)) ≡ true) (s : Sorted) (g : Gathered s (in_order_of (said_by n m) l h)) where
-      pub logs-many : 64 < s.count → log_files n m l h r ≡ answered NoRoom 0 []
+    module _ (o : distinct (numbers_in (found_files n m l h)) ≡ true) where
+      once : distinct (taken_numbers (said_by n m)) ≡ true
+      once = ap distinct (sym (numbers_found n m l h)) ∙ o
+
+      ordered_as : sort_into [] (kept_in (found_files n m l h)) ≡ in_order_of (said_by n m) l h
+      unfolding in_order_of
+      ordered_as = ap (sort_into []) (kept_found n m l h)
+
+      pub logs-many : 64 < length (kept_in (found_files n m l h)) → log_files n m l h r ≡ Err NoRoom
       unfolding log_files found_kept to_replay
-      logs-many k = rw (b, o, lt-ltb 64 _ (too_many s (in_order_of (said_by n m) l h) g k))
+      logs-many k = rw (b, once, lt-ltb 64 (length (in_order_of (said_by n m) l h)) (omega (arith, ap length ordered_as, length_sorted [] (kept_in (found_files n m l h)))))
 
-      module _ (ln : length s.numbers ≡ 64) (li : length s.ids ≡ 64) (k : s.count ≤ 64) where
-        same : has 4294967295 (map file_number (in_order_of (said_by n m) l h)) ≡ has 4294967295 (take s.count s.numbers)
-        same = ap (has 4294967295) (kept-numbers s ln li k (in_order_of (said_by n m) l h) g)
+      module _ (fs : List LogFile) (e : fs ≡ sort_into [] (kept_in (found_files n m l h))) (k : length fs ≤ 64) where
+        files-are : in_order_of (said_by n m) l h ≡ fs
+        files-are = sym (e ∙ ordered_as)
 
-        fits : length (in_order_of (said_by n m) l h) ≤ 64
-        fits = few s (in_order_of (said_by n m) l h) g k
-
-        pub logs-used : has 4294967295 (take s.count s.numbers) ≡ true → log_files n m l h r ≡ answered UsedUp 0 []
+        pub logs-used : has 4294967295 (map file_number fs) ≡ true → log_files n m l h r ≡ Err UsedUp
         unfolding log_files found_kept to_replay
-        logs-used u = rw (b, o, le-ltb 64 _ fits, same ∙ u)
+        logs-used u = rw (b, once, files-are, le-ltb 64 (length fs) k, u)
 
-        module _ (u : has 4294967295 (take s.count s.numbers) ≡ false) where
-          pub logs-short : r < length (removed (said_by n m) l) → log_files n m l h r ≡ answered ShortOutput 0 []
+        module _ (u : has 4294967295 (map file_number fs) ≡ false) where
+          pub logs-short : r < length (removed_in (found_files n m l h)) → log_files n m l h r ≡ Err ShortOutput
           unfolding log_files found_kept to_replay
-          logs-short f = rw (b, o, le-ltb 64 _ fits, same ∙ u, lt-ltb r _ f)
+          logs-short f = rw (b, once, files-are, le-ltb 64 (length fs) k, u, lt-ltb r (length (removed (said_by n m) l)) (omega (arith, ap length (removed_found n m l h))))
 
-          pub logs-done : length (removed (said_by n m) l) ≤ r → log_files n m l h r ≡ answered Done (length (removed (said_by n m) l)) (files_in s)
+          pub logs-done : length (removed_in (found_files n m l h)) ≤ r → log_files n m l h r ≡ Ok (files_told (length (removed_in (found_files n m l h))) fs)
           unfolding log_files found_kept to_replay
-          logs-done f = rw (b, o, le-ltb 64 _ fits, same ∙ u, le-ltb r _ f) (ap (answered Done (length (removed (said_by n m) l))) (sym (g.held fits)))
+          logs-done f =
+              rw (b, once, files-are, le-ltb 64 (length fs) k, u, le-ltb r (length (removed (said_by n m) l)) (omega (arith, ap length (removed_found n m l h))))
+              (ap (λ (x : ℕ). Ok (files_told x fs)) (ap length (sym (removed_found n m l h))))
 
-          pub logs-below : all_below 4294967295 (take s.count s.numbers) ≡ true
+          pub logs-below : all_below 4294967295 (map file_number fs) ≡ true
           logs-below =
-              ap (all_below 4294967295) (sym (kept-numbers s ln li k (in_order_of (said_by n m) l h) g))
-              ∙ lower 4294967295 4294967296 (map file_number (in_order_of (said_by n m) l h)) refl (order_below (said_by n m) l h 4294967296 (said_below n m)) (same ∙ u)
+              lower 4294967295 4294967296 (map file_number fs) refl
+              (ap (λ (x : List LogFile). all_below 4294967296 (map file_number x)) (sym files-are) ∙ order_below (said_by n m) l h 4294967296 (said_below n m)) u
 
 -- ---- what is always so
 -- at most 64 files, none twice, in order
 pub record Told (f : LogFiles) : Type 0 where
-  pub answer : Answer
   pub toRemove : ℕ
   pub files : List LogFile
-  pub told : f ≡ answered answer toRemove files
+  pub told : f ≡ files_told toRemove files
   pub few : length files ≤ 64
   pub once : distinct (map file_number files) ≡ true
   pub ordered : ordered files ≡ true
 
-none : (a : Answer) (f : LogFiles) → f ≡ answered a 0 [] → Told f
-none a f e = record { answer = a; toRemove = 0; files = []; told = e; few = omega arith; once = refl; ordered = refl }
-
 module _ (n m l h : List ℕ) (r : ℕ) where
-  pub logs-told : Told (log_files n m l h r)
+  -- by what is refused, or the files that are told
+  logs-by : (P : Result LogFiles Answer → Type 0) → ((a : Answer) → P (Err a))
+      → (found_kept n m l h ≡ true → length (in_order_of (said_by n m) l h) ≤ 64 → P (Ok (files_told (length (removed (said_by n m) l)) (in_order_of (said_by n m) l h)))) → P (log_files n m l h r)
   unfolding log_files to_replay
-  logs-told = by (found_kept n m l h) refl (ltb 64 (length (in_order_of (said_by n m) l h))) refl (has 4294967295 (map file_number (in_order_of (said_by n m) l h))) refl (ltb r (length (removed (said_by n m) l))) refl
+  logs-by P f g =
+      by (found_kept n m l h) refl (ltb 64 (length (in_order_of (said_by n m) l h))) refl (has 4294967295 (map file_number (in_order_of (said_by n m) l h))) refl (ltb r (length (removed (said_by n m) l))) refl
     where
       by : (a : Bool) → found_kept n m l h ≡ a → (b : Bool) → ltb 64 (length (in_order_of (said_by n m) l h)) ≡ b
-          → (c : Bool) → has 4294967295 (map file_number (in_order_of (said_by n m) l h)) ≡ c → (d : Bool) → ltb r (length (removed (said_by n m) l)) ≡ d → Told (log_files n m l h r)
-      by false e b f c g d k = none BadState _ (rw e)
-      by true e true f c g d k = none NoRoom _ (rw (e, f))
-      by true e false f true g d k = none UsedUp _ (rw (e, f, g))
-      by true e false f false g true k = none ShortOutput _ (rw (e, f, g, k))
-      by true e false f false g false k = record {
-        answer = Done;
+          → (c : Bool) → has 4294967295 (map file_number (in_order_of (said_by n m) l h)) ≡ c → (d : Bool) → ltb r (length (removed (said_by n m) l)) ≡ d → P (log_files n m l h r)
+      by false e b z c y d k = rw e (f BadState)
+      by true e true z c y d k = rw (e, z) (f NoRoom)
+      by true e false z true y d k = rw (e, z, y) (f UsedUp)
+      by true e false z false y true k = rw (e, z, y, k) (f ShortOutput)
+      by true e false z false y false k = rw (e, z, y, k) (g e (ltb-false 64 _ z))
+
+  pub logs-told : IfOk (log_files n m l h r) Told
+  logs-told =
+      logs-by (λ (x : Result LogFiles Answer). IfOk x Told) (λ a. tt)
+      (λ e k. record {
         toRemove = length (removed (said_by n m) l);
         files = in_order_of (said_by n m) l h;
-        told = rw (e, f, g, k);
-        few = ltb-false 64 _ f;
+        told = refl;
+        few = k;
         once = order-once (said_by n m) l h (found-once n m l h e);
         ordered = in_order (said_by n m) l h;
-      }
+      })
 
   -- they are all told where nothing is refused
-  pub logs-all : (log_files n m l h r).answer ≡ Done → log_files n m l h r ≡ answered Done (length (removed (said_by n m) l)) (in_order_of (said_by n m) l h)
-  unfolding log_files to_replay
-  logs-all = by (found_kept n m l h) refl (ltb 64 (length (in_order_of (said_by n m) l h))) refl (has 4294967295 (map file_number (in_order_of (said_by n m) l h))) refl (ltb r (length (removed (said_by n m) l))) refl
-    where
-      by : (a : Bool) → found_kept n m l h ≡ a → (b : Bool) → ltb 64 (length (in_order_of (said_by n m) l h)) ≡ b
-          → (c : Bool) → has 4294967295 (map file_number (in_order_of (said_by n m) l h)) ≡ c → (d : Bool) → ltb r (length (removed (said_by n m) l)) ≡ d → (log_files n m l h r).answer ≡ Done
-          → log_files n m l h r ≡ answered Done (length (removed (said_by n m) l)) (in_order_of (said_by n m) l h)
-      by false e b f c g d k y = let z : BadState ≡ Done = rw e at y in let w : ◌≡◌ {A = ℕ} 0 1 = cc in absurd (omega arith)
-      by true e true f c g d k y = let z : NoRoom ≡ Done = rw (e, f) at y in let w : ◌≡◌ {A = ℕ} 0 1 = cc in absurd (omega arith)
-      by true e false f true g d k y = let z : UsedUp ≡ Done = rw (e, f, g) at y in let w : ◌≡◌ {A = ℕ} 0 1 = cc in absurd (omega arith)
-      by true e false f false g true k y = let z : ShortOutput ≡ Done = rw (e, f, g, k) at y in let w : ◌≡◌ {A = ℕ} 0 1 = cc in absurd (omega arith)
-      by true e false f false g false k y = rw (e, f, g, k)
+  pub logs-all : IfOk (log_files n m l h r) (λ (f : LogFiles). f ≡ files_told (length (removed (said_by n m) l)) (in_order_of (said_by n m) l h))
+  logs-all = logs-by (λ (x : Result LogFiles Answer). IfOk x (λ (f : LogFiles). f ≡ files_told (length (removed (said_by n m) l)) (in_order_of (said_by n m) l h))) (λ a. tt) (λ e k. refl)

@@ -7,10 +7,9 @@ use native.Mathlib.Omega.{arith}
 use lib.ListN.{get_or, take, drop, length, length-drop}
 use lib.Dec.{ltb, leb, eqb}
 use borrow.Author.Tests.{ltb-true, ltb-false, leb-true, eqb-true, eqb-false}
-use Rattle.std.specs.Prelude.{if◌then◌else◌}
+use Rattle.std.specs.Prelude.{if◌then◌else◌, Some, None}
 use Rattle.numbers.proofs.Laws.{left-of, right_of}
 use Rattle.found.specs.Names.{begins_log, no_leading_zero, is_digit, all_digits, value_from, decimal_from, log_name}
-use Rattle.found.specs.declared.name.LogName.TheVariants.{Log, Other}
 use Rattle.found.proofs.NameLaws.{drop_next, value-le, begins-long}
 
 -- ---- digits
@@ -61,12 +60,12 @@ record Taken (name : List ℕ) (n : ℕ) : Type 0 where
   digits : all_digits (drop 3 name) ≡ true
   value : value_from 0 (drop 3 name) ≡ n
 
-taken_facts : (name : List ℕ) (n : ℕ) → log_name name ≡ Log n → Taken name n
+taken_facts : (name : List ℕ) (n : ℕ) → log_name name ≡ Some n → Taken name n
 unfolding log_name decimal_from
 taken_facts name n = by (begins_log name) refl (no_leading_zero (drop 3 name)) refl (all_digits (drop 3 name)) refl (ltb (value_from 0 (drop 3 name)) 4294967296)
   where
     by : (a : Bool) → begins_log name ≡ a → (b : Bool) → no_leading_zero (drop 3 name) ≡ b → (c : Bool) → all_digits (drop 3 name) ≡ c → (d : Bool)
-        → (if a && b then (if c && d then Log (value_from 0 (drop 3 name)) else Other) else Other) ≡ Log n → Taken name n
+        → (if a && b then (if c && d then Some (value_from 0 (drop 3 name)) else None) else None) ≡ Some n → Taken name n
     by true e true f true g true h = record { begins = e; plain = f; digits = g; value = cc }
     by true e true f true g false h = let q : ◌≡◌ {A = ℕ} 0 1 = cc in absurd (omega arith)
     by true e true f false g d h = let q : ◌≡◌ {A = ℕ} 0 1 = cc in absurd (omega arith)
@@ -84,7 +83,7 @@ begins-is name e =
     let z = eqb-true (get_or name 2 0) 103 (right_of (eqb (get_or name 1 0) 111) _ b) in
     drop_next name 0 (omega arith) ∙ rw (x, drop_next name 1 (omega arith), y, drop_next name 2 (omega arith), z)
 
-pub same_name : (a b : List ℕ) (n : ℕ) → log_name a ≡ Log n → log_name b ≡ Log n → a ≡ b
+pub same_name : (a b : List ℕ) (n : ℕ) → log_name a ≡ Some n → log_name b ≡ Some n → a ≡ b
 same_name a b n e f =
     begins-is a p.begins ∙ ap (λ (t : List ℕ). 108 ∷ 111 ∷ 103 ∷ t) (same_digits (drop 3 a) (drop 3 b) 0 0 (by (ltb (length a) (length b)) refl (ltb (length b) (length a)) refl) p.digits q.digits v).1
     ∙ sym (begins-is b q.begins)

@@ -1,61 +1,42 @@
--- The files found, one at a time: where each name stands, what it says, and what comes of its file. Assumes nothing.
-use Prim.Native.Nat.{ℕ, zero, suc, ◌+◌, ◌*◌, ◌≤◌, ◌<◌}
-use mathlib.Core.Bool.{Bool, true, false}
-use mathlib.Core.List.{List, [], ◌∷◌, ◌++◌, append_assoc}
+-- The files found, one at a time. Assumes nothing.
+use Prim.Native.Nat.{ℕ, zero, suc, ◌+◌, ◌≤◌, ◌<◌}
+use mathlib.Core.Bool.{Bool, true, false, ◌||◌}
+use mathlib.Core.List.{List, [], ◌∷◌, ◌++◌}
 use mathlib.Core.Path.{◌≡◌, refl, sym, ap, ◌∙◌}
 use native.Mathlib.Omega.{arith}
 use native.Mathlib.Numerals.{add-one}
 use native.Mathlib.Nat.{not-suc-le-zero, le_of_suc-le-suc}
-use lib.ListN.{get_or, set, take, drop, length, length-map, length-append, drop_of_length-le}
-use lib.Seq.{paste, length-paste, take-paste, drop-paste, take_all, take-length, drop-drop, get_or-drop, set_split, append_snoc}
-use lib.Dec.{ltb, eqb}
+use lib.ListN.{get_or, take, drop, length, length-take}
+use lib.Seq.{take_all}
+use lib.Dec.{eqb}
 use borrow.Author.Tests.{eq-eqb, ne_eqb, eqb-true, eqb-false}
-use Rattle.std.specs.Prelude.{if◌then◌else◌}
-use Rattle.words.specs.Words.{little_at}
-use Rattle.numbers.specs.Numbers.{has, distinct}
-use Rattle.found.specs.Names.{log_name, cut, said_by}
-use Rattle.found.specs.Logs.{taken_number, taken_numbers, removed_one, removed, kept_one, kept_files, total}
-use Rattle.found.specs.Inner.{said_again}
-use Rattle.found.specs.declared.name.LogName.{LogName}
-use Rattle.found.specs.declared.name.LogName.TheVariants.{Log, Other}
+use Rattle.std.specs.Prelude.{if◌then◌else◌, Option, Some, None}
+use Rattle.std.specs.List.{list_any}
+use Rattle.std.specs.Prelude.{filter}
+use Rattle.std.specs.Option.{option_eq, is_some}
+use Rattle.numbers.specs.Numbers.{has, some_of}
+use Rattle.found.specs.Logs.{total, removed_one, kept_one, in_front, sort_into}
+use Rattle.found.specs.Found.{found_files, numbers_in, removed_in, kept_in}
+use Rattle.found.specs.declared.sorted.LogFile.{LogFile}
+use Rattle.found.specs.Inner.{files_in, files_left}
+use Rattle.found.specs.declared.sorted.Sorted.{Sorted}
+use Rattle.found.specs.declared.files.FoundFile.{FoundFile}
+use Rattle.found.specs.declared.files.FoundFiles.{FoundFiles}
+use Rattle.found.proofs.SortLaws.{length_sorted}
 
 -- ---- where the names stand
-total-next : (l : List ℕ) (i : ℕ) → i < length l → total (take (suc i) l) ≡ total (take i l) + get_or l i 0
-total-next [] i h = absurd (not-suc-le-zero h)
-total-next (n ∷ l) zero h = omega arith
-total-next (n ∷ l) (suc i) h = omega (arith, total-next l i (le_of_suc-le-suc h))
+pub total-next : (l : List ℕ) (i : ℕ) → i < length l → total (take (i + 1) l) ≡ total (take i l) + get_or l i 0
+total-next l i h = ap (λ (m : ℕ). total (take m l)) (add-one i) ∙ by l i h
+  where
+    by : (l : List ℕ) (i : ℕ) → i < length l → total (take (suc i) l) ≡ total (take i l) + get_or l i 0
+    by [] i h = absurd (not-suc-le-zero h)
+    by (n ∷ l) zero h = omega arith
+    by (n ∷ l) (suc i) h = omega (arith, by l i (le_of_suc-le-suc h))
 
-total-le : (l : List ℕ) (i : ℕ) → total (take i l) ≤ total l
+pub total-le : (l : List ℕ) (i : ℕ) → total (take i l) ≤ total l
 total-le l zero = omega arith
 total-le [] (suc i) = omega arith
 total-le (n ∷ l) (suc i) = omega (arith, total-le l i)
-
-cut-length : (names nameLengths : List ℕ) → length (cut names nameLengths) ≡ length nameLengths
-cut-length names [] = refl
-cut-length names (n ∷ l) = ap suc (cut-length (drop n names) l)
-
-cut_at : (names nameLengths : List ℕ) (i : ℕ) → i < length nameLengths
-    → drop i (said_by names nameLengths) ≡ log_name (take (get_or nameLengths i 0) (drop (total (take i nameLengths)) names)) ∷ drop (suc i) (said_by names nameLengths)
-unfolding said_by
-cut_at names [] i h = absurd (not-suc-le-zero h)
-cut_at names (n ∷ l) zero h = refl
-cut_at names (n ∷ l) (suc i) h =
-    cut_at (drop n names) l i (le_of_suc-le-suc h)
-    ∙ ap (λ (t : List ℕ). log_name (take (get_or l i 0) t) ∷ drop (suc i) (said_by (drop n names) l)) (drop-drop (total (take i l)) n names)
-
-said_length : (names nameLengths : List ℕ) → length (said_by names nameLengths) ≡ length nameLengths
-unfolding said_by
-said_length names l = length-map (cut names l) log_name ∙ cut-length names l
-
-said_end : (names l : List ℕ) (i : ℕ) → length l ≤ i → drop i (said_by names l) ≡ []
-said_end names l i h = drop_of_length-le (said_by names l) {i = i} (omega (arith, said_length names l))
-
-module _ (l : List ℕ) (i at : ℕ) (h : i < length l) (e : at ≡ total (take i l)) where
-  pub name-fits : at + get_or l i 0 ≤ total l
-  name-fits = omega (arith, total-next l i h, total-le l (suc i))
-
-  pub name-end : at + get_or l i 0 ≡ total (take (i + 1) l)
-  name-end = rw (e, add-one i) (sym (total-next l i h))
 
 -- the lengths make up so many bytes if nothing is left of them
 module _ (l : List ℕ) (i left bytes : ℕ) (e : left + total (take i l) ≡ bytes) where
@@ -70,121 +51,50 @@ module _ (l : List ℕ) (i left bytes : ℕ) (e : left + total (take i l) ≡ by
       by false f = sym (ne_eqb (total l) bytes (λ g. eqb-false left 0 f (omega (arith, all))))
 
   pub made-short : i < length l → left < get_or l i 0 → eqb (total l) bytes ≡ false
-  made-short h k = ne_eqb (total l) bytes (λ g. omega (arith, total-next l i h, total-le l (suc i)))
+  made-short h k = ne_eqb (total l) bytes (λ g. omega (arith, total-next l i h, total-le l (i + 1)))
 
--- ---- a name, and its file
-at_front : (l : List ℕ) (i : ℕ) → get_or (drop i l) 0 0 ≡ get_or l i 0
-at_front l i = get_or-drop i l 0 0 ∙ ap (λ (m : ℕ). get_or l m 0) (omega arith)
+-- ---- a name's number among others
+abbrev pub says : ℕ → FoundFile → Bool
+says n f = option_eq eqb f.number (Some n)
 
-pub alone : (n v : ℕ) → eqb n v ≡ has v (n ∷ [])
-alone n v = by (eqb n v)
+pub any_says : (n : ℕ) (fs : List FoundFile) → list_any (says n) fs ≡ has n (numbers_in fs)
+any_says n [] = refl
+any_says n (f ∷ fs) = ap (λ (b : Bool). says n f || b) (any_says n fs) ∙ by f.number
   where
-    by : (b : Bool) → b ≡ (if b then true else false)
-    by true = refl
-    by false = refl
-
-hit : (v : ℕ) (t : LogName) (l : List ℕ) → has v (taken_number t) ≡ true → has v (taken_number t ++ l) ≡ true
-hit v (Log n) l f = by (eqb n v) f
-  where
-    by : (b : Bool) → (if b then true else false) ≡ true → (if b then true else has v l) ≡ true
-    by true e = refl
-    by false e = let z : ◌≡◌ {A = ℕ} 0 1 = cc in absurd (omega arith)
-hit v Other l e = let z : ◌≡◌ {A = ℕ} 0 1 = cc in absurd (omega arith)
-
-skip : (v : ℕ) (t : LogName) (l : List ℕ) → has v (taken_number t) ≡ false → has v (taken_number t ++ l) ≡ has v l
-skip v (Log n) l f = by (eqb n v) f
-  where
-    by : (b : Bool) → (if b then true else false) ≡ false → (if b then true else has v l) ≡ has v l
-    by true e = let z : ◌≡◌ {A = ℕ} 0 1 = cc in absurd (omega arith)
-    by false e = refl
-skip v Other l e = refl
-
-fails : (t : LogName) (l : List ℕ) → said_again t l ≡ true → distinct (taken_number t ++ l) ≡ false
-fails (Log n) l e = rw e
-fails Other l e = let z : ◌≡◌ {A = ℕ} 0 1 = cc in absurd (omega arith)
-
-goes : (t : LogName) (l : List ℕ) → said_again t l ≡ false → distinct (taken_number t ++ l) ≡ distinct l
-goes (Log n) l e = rw e
-goes Other l e = refl
-
-module _ (names l : List ℕ) (i at : ℕ) (h : i < length l) (e : at ≡ total (take i l)) (t : LogName) (et : t ≡ log_name (take (get_or l i 0) (drop at names))) where
-  next : drop i (said_by names l) ≡ t ∷ drop (i + 1) (said_by names l)
-  next = rw (et, e, add-one i) (cut_at names l i h)
-
-  taken_next : taken_numbers (drop i (said_by names l)) ≡ taken_number t ++ taken_numbers (drop (i + 1) (said_by names l))
-  unfolding taken_numbers
-  taken_next = rw next
-
-  pub again-hit : (v : ℕ) → has v (taken_number t) ≡ true → has v (taken_numbers (drop i (said_by names l))) ≡ true
-  again-hit v f = ap (has v) taken_next ∙ hit v t (taken_numbers (drop (i + 1) (said_by names l))) f
-
-  pub again-skip : (v : ℕ) → has v (taken_number t) ≡ false → has v (taken_numbers (drop i (said_by names l))) ≡ has v (taken_numbers (drop (i + 1) (said_by names l)))
-  again-skip v f = ap (has v) taken_next ∙ skip v t (taken_numbers (drop (i + 1) (said_by names l))) f
-
-  pub twice-fails : said_again t (taken_numbers (drop (i + 1) (said_by names l))) ≡ true → distinct (taken_numbers (drop i (said_by names l))) ≡ false
-  twice-fails f = ap distinct taken_next ∙ fails t (taken_numbers (drop (i + 1) (said_by names l))) f
-
-  pub twice-goes : said_again t (taken_numbers (drop (i + 1) (said_by names l))) ≡ false
-      → distinct (taken_numbers (drop i (said_by names l))) ≡ distinct (taken_numbers (drop (i + 1) (said_by names l)))
-  twice-goes f = ap distinct taken_next ∙ goes t (taken_numbers (drop (i + 1) (said_by names l))) f
-
-  module _ (lengths : List ℕ) where
-    pub removed-next : removed (drop i (said_by names l)) (drop i lengths) ≡ removed_one t (get_or lengths i 0) ++ removed (drop (i + 1) (said_by names l)) (drop (i + 1) lengths)
-    unfolding removed
-    removed-next = rw (next, at_front lengths i, drop-drop 1 i lengths)
-
-    pub kept_next : (heads : List ℕ) (id : ℕ) → id ≡ little_at 8 heads (9 * i + 1)
-        → kept_files (drop i (said_by names l)) (drop i lengths) (drop (9 * i) heads)
-        ≡ kept_one t (get_or lengths i 0) id ++ kept_files (drop (i + 1) (said_by names l)) (drop (i + 1) lengths) (drop (9 * (i + 1)) heads)
-    unfolding kept_files
-    kept_next heads id f = rw (next, at_front lengths i, drop-drop 1 i lengths, nine, drop-drop 1 (9 * i) heads, f)
+    by : (t : Option ℕ) → (option_eq eqb t (Some n) || has n (numbers_in fs)) ≡ has n (some_of t ++ numbers_in fs)
+    by None = refl
+    by (Some v) = either (eqb v n)
       where
-        nine : drop 9 (drop (9 * i) heads) ≡ drop (9 * (i + 1)) heads
-        nine = let e : 9 * i + 9 ≡ 9 * (i + 1) = omega arith in drop-drop 9 (9 * i) heads ∙ ap (λ (m : ℕ). drop m heads) e
+        either : (b : Bool) → (b || has n (numbers_in fs)) ≡ (if b then true else has n (numbers_in fs))
+        either true = refl
+        either false = refl
 
-module _ (names l : List ℕ) (i : ℕ) (h : length l ≤ i) where
-  pub taken-end : taken_numbers (drop i (said_by names l)) ≡ []
-  unfolding taken_numbers
-  taken-end = rw (said_end names l i h)
+-- ---- a file more than there is room for
+pub too_many : (l : List LogFile) (f : FoundFile) (k : LogFile) (fs rest all : List FoundFile) → length l ≡ 64 → fs ≡ f ∷ rest → Some k ≡ kept_one f.number f.size f.id
+    → sort_into l (kept_in fs) ≡ sort_into [] (kept_in all) → 64 < length (kept_in all)
+too_many l f k fs rest all e g h i =
+    let a : length (kept_in fs) ≡ suc (length (kept_in rest)) = ap (λ (x : List FoundFile). length (kept_in x)) g ∙ ap (λ (o : Option LogFile). length (in_front o (kept_in rest))) (sym h) in
+    omega (arith, e, a, ap length i, length_sorted l (kept_in fs), length_sorted [] (kept_in all))
 
-  pub removed-end : (lengths : List ℕ) → removed (drop i (said_by names l)) lengths ≡ []
-  unfolding removed
-  removed-end lengths = rw (said_end names l i h)
+pub few : (s : Sorted) → length (files_in s) ≤ 64
+few s = omega (arith, length-take s.count s.files, s.room)
 
-  pub kept-end : (lengths heads : List ℕ) → kept_files (drop i (said_by names l)) lengths heads ≡ []
-  unfolding kept_files
-  kept-end lengths heads = rw (said_end names l i h)
+-- ---- those to remove
+abbrev pub goes : FoundFile → Bool
+goes f = is_some (removed_one f.number f.size)
 
--- ---- telling
--- one list told behind another
-told_more : (r a b : List ℕ) (c : ℕ) → c ≤ length r → paste (paste r c a (length a)) (c + length a) b (length b) ≡ paste r c (a ++ b) (length (a ++ b))
-told_more r a b c h =
-    let k = take-paste r c a (length a) h (omega arith) in
-    let m : c + length a + length b ≡ c + length (a ++ b) = omega (arith, length-append a b) in
-    let d : drop (c + length a + length b) (paste r c a (length a)) ≡ drop (c + length (a ++ b)) r =
-    sym (drop-drop (length b) (c + length a) (paste r c a (length a))) ∙ ap (drop (length b)) (drop-paste r c a (length a) h (omega arith))
-    ∙ drop-drop (length b) (c + length a) r ∙ ap (λ (j : ℕ). drop j r) m in
-    rw (k, d, take-length a, take-length b, take-length (a ++ b)) (ap (λ (s : List ℕ). s ++ drop (c + length (a ++ b)) r) (append_assoc (take c r) a b))
-
--- a turn of the loop that tells: `one` is told, and `rest` is left
-module _ (r r' one rest all : List ℕ) (c c' : ℕ) (h : c + length one ≤ length r) (ec : c' ≡ c + length one) (er : r' ≡ paste r c one (length one))
-    (ea : all ≡ one ++ rest) where
-  pub told-next : paste r' c' rest (length rest) ≡ paste r c all (length all)
-  told-next = rw (ec, er, ea) (told_more r one rest c (omega arith))
-
-  pub told-count : c' + length rest ≡ c + length all
-  told-count = omega (arith, ap length ea, length-append one rest)
-
-  pub told-length : length r' ≡ length r
-  told-length = ap length er ∙ length-paste r c one (length one) h (omega arith)
-
-pub removed-few : (t : LogName) (n : ℕ) → length (removed_one t n) ≤ 1
-removed-few (Log v) n = by (ltb n 9)
+pub goes_removed : (fs : List FoundFile) → length (filter goes fs) ≡ length (removed_in fs)
+goes_removed [] = refl
+goes_removed (f ∷ fs) = by (removed_one f.number f.size) (goes_removed fs)
   where
-    by : (b : Bool) → length (if b then v ∷ [] else []) ≤ 1
-    by true = omega arith
-    by false = omega arith
-removed-few Other n = omega arith
+    by : (o : Option ℕ) → length (filter goes fs) ≡ length (removed_in fs)
+        → length (if is_some o then f ∷ filter goes fs else filter goes fs) ≡ length (some_of o ++ removed_in fs)
+    by None e = e
+    by (Some v) e = ap suc e
 
-pub told-one : (r : List ℕ) (c v : ℕ) → c < length r → set r c v ≡ paste r c (v ∷ []) 1
-told-one r c v h = set_split r c v h ∙ rw (add-one c) (sym (append_snoc (take c r) v (drop (suc c) r)))
+found-length : (n m l h : List ℕ) → length (found_files n m l h) ≡ length m
+found-length n [] l h = refl
+found-length n (k ∷ m) l h = ap suc (found-length (drop k n) m (drop 1 l) (drop 9 h))
+
+pub as_many : (s : FoundFiles) → length (files_left s) ≡ length s.name_lengths.now
+as_many s = found-length s.names.now s.name_lengths.now s.lengths.now s.heads.now

@@ -2,4 +2,5 @@
 pub mod Listed
 pub mod Names
 pub mod Logs
+pub mod Found
 pub mod Inner
