@@ -1,13 +1,12 @@
 -- `clean_logs`: how many are moved, and what its parts come to. Assumes nothing.
 use Prim.Native.Nat.{ℕ, ◌+◌, ◌≤◌}
-use mathlib.Core.Path.{◌≡◌, refl, ap, ◌∙◌}
+use mathlib.Core.Path.{◌≡◌, ap, ◌∙◌}
 use native.Mathlib.Omega.{arith}
 use lib.ListN.{length}
 use lib.Dec.{ltb}
 use lib.Seq.{length-take-le}
 use Rattle.numbers.specs.Queue.{list_of, first_of, without_first, all_sorted_in}
 use Rattle.numbers.specs.declared.queue.NumberQueue.{NumberQueue}
-use Rattle.numbers.proofs.Laws.{least-le}
 use Rattle.numbers.proofs.QueueLists.{all_sorted_count}
 use Rattle.answer.specs.declared.answer.Answer.TheVariants.{Done}
 use Rattle.files.specs.Moves.{with_cleanup, with_pool}
@@ -18,7 +17,7 @@ use Rattle.files.specs.Queues.{QueuesTyped}
 use Rattle.files.proofs.Rule.{Room}
 
 pub moved-count : (q : Queues) (n : ℕ) → (first_of n q.cleanup_queue).count ≤ q.cleanup_queue.count
-moved-count q n = (least-le n q.cleanup_queue.count _ refl).1
+moved-count q n = omega arith
 
 pub moved_length : (q : Queues) (n : ℕ) → QueuesTyped q → Room q → length (list_of (first_of n q.cleanup_queue)) ≡ (first_of n q.cleanup_queue).count
 moved_length q n s r =

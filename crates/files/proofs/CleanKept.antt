@@ -5,9 +5,8 @@ use mathlib.Core.List.{List}
 use mathlib.Core.Path.{◌≡◌, refl, sym, ap, ◌∙◌}
 use native.Mathlib.Omega.{arith}
 use lib.ListN.{length, take, drop, take-append-drop}
-use Rattle.numbers.specs.Numbers.{times, ascends, insert_all, least}
+use Rattle.numbers.specs.Numbers.{times, ascends, insert_all}
 use Rattle.numbers.specs.Queue.{list_of, first_of, without_first}
-use Rattle.numbers.proofs.Laws.{least-le, least-rest}
 use Rattle.numbers.proofs.QueueLists.{first-list, without_list, all_sorted_count, all_sorted_list, all_sorted_length}
 use Rattle.numbers.proofs.Sort.{times-append, times-all, times-lacks, has-times, times-distinct, distinct-times, all-ascends, ascends_take}
 use Rattle.files.specs.Queues.{pool_of, cleanup_of, appending_size, files_of, QueuesTyped}
@@ -82,9 +81,7 @@ module _ (q : Queues) (n : ℕ) (s : QueuesTyped q) (k : Kept q) where
   pub cleaned_kept : Kept (cleanup_pooled q n)
   unfolding cleanup_pooled appending_size
   cleaned_kept =
-      let l = least-le 16 (pooled q n).count (least 16 (pooled q n).count) refl in
-      let m = least-rest n q.cleanup_queue.count in
       still_kept q (cleanup_pooled q n) k
-      (record { read = k.room.read; cleanup = omega (arith, k.room.cleanup); pool = l.0; replay = k.room.replay; all = omega (arith, k.room.all, l.1, pooled-size, m) })
+      (record { read = k.room.read; cleanup = omega (arith, k.room.cleanup); pool = omega arith; replay = k.room.replay; all = omega (arith, k.room.all, pooled-size) })
       refl (λ v. omega (arith, cleaned_times v))
       (ap ascends new-pool ∙ ascends_take 16 (list_of (pooled q n)) pooled-rises) k.size

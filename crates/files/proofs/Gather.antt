@@ -1,11 +1,11 @@
 -- A queue that grows at its end: how many it holds, and which. Assumes nothing.
 use Prim.Native.Nat.{ℕ, ◌+◌, ◌≤◌}
-use mathlib.Core.Bool.{Bool}
 use mathlib.Core.List.{List, [], ◌++◌}
 use mathlib.Core.Path.{◌≡◌, ap, ◌∙◌}
 use native.Mathlib.Omega.{arith}
 use lib.ListN.{length}
-use Rattle.numbers.specs.Numbers.{some_of, one_if}
+use Rattle.numbers.specs.Numbers.{some_of}
+use Rattle.std.specs.Prelude.{Option}
 use Rattle.numbers.specs.Queue.{list_of, no_numbers, pushed_if, appended}
 use Rattle.numbers.specs.declared.queue.NumberQueue.{NumberQueue}
 use Rattle.numbers.proofs.QueueLists.{push_if_list, push_if_count, push_if_length, append-list, append-length}
@@ -23,12 +23,14 @@ holds-new r e = record {
 }
 
 module _ (r r' : NumberQueue) (n : ℕ) (l : List ℕ) (h : Holds r n l) where
-  pub holds_push : (b : Bool) (v : ℕ) → r' ≡ pushed_if r b v → n + one_if b ≤ 64 → Holds r' (n + one_if b) (l ++ some_of b v)
-  holds_push b v e k = record {
-    count = ap (λ (x : NumberQueue). x.count) e ∙ push_if_count r b v ∙ ap (λ (m : ℕ). m + one_if b) h.count;
-    long = ap (λ (x : NumberQueue). length x.numbers) e ∙ push_if_length r b v ∙ h.long;
-    list = ap list_of e ∙ push_if_list r b v (omega (arith, h.count, h.long)) ∙ ap (λ (m : List ℕ). m ++ some_of b v) h.list;
-  }
+  pub holds_push : (some got : Option ℕ) → got ≡ some → r' ≡ pushed_if r got → n + length (some_of some) ≤ 64 → Holds r' (n + length (some_of some)) (l ++ some_of some)
+  holds_push some got g f k =
+      let e : r' ≡ pushed_if r some = f ∙ ap (pushed_if r) g in
+      record {
+        count = ap (λ (x : NumberQueue). x.count) e ∙ push_if_count r some ∙ ap (λ (m : ℕ). m + length (some_of some)) h.count;
+        long = ap (λ (x : NumberQueue). length x.numbers) e ∙ push_if_length r some ∙ h.long;
+        list = ap list_of e ∙ push_if_list r some (omega (arith, h.count, h.long)) ∙ ap (λ (m : List ℕ). m ++ some_of some) h.list;
+      }
 
   pub holds-append : (s : NumberQueue) → r' ≡ appended r s → length s.numbers ≡ 64 → n + s.count ≤ 64 → Holds r' (n + s.count) (l ++ list_of s)
   holds-append s e f k =

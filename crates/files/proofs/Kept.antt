@@ -6,6 +6,7 @@ use mathlib.Core.Path.{◌≡◌, refl, ap, ◌∙◌}
 use native.Mathlib.Omega.{arith}
 use lib.ListN.{length}
 use lib.Dec.{eqb}
+use Rattle.std.specs.Prelude.{Option}
 use borrow.Author.Tests.{eqb-true, eqb-false, ne_eqb}
 use Rattle.numbers.specs.Numbers.{times, ascends, some_of, one_if}
 use Rattle.numbers.specs.Queue.{list_of, pushed, pushed_if, appended, front_of_of, without_first}
@@ -13,19 +14,19 @@ use Rattle.numbers.specs.declared.queue.NumberQueue.{NumberQueue}
 use Rattle.numbers.proofs.Laws.{one-true, one-false}
 use Rattle.numbers.proofs.QueueLists.{push_list, push_if_list, push_if_count, push_if_length, append-list, without_list, without_length, front-list}
 use Rattle.numbers.proofs.Sort.{times-append, times-under, under-times, times-distinct, distinct-times, ascends_drop}
-use Rattle.files.specs.Queues.{pool_of, appending_of, reading_of, appending_size, files_of, QueuesTyped}
+use Rattle.files.specs.Queues.{reading_number, pool_of, appending_of, reading_of, appending_size, files_of, QueuesTyped}
 use Rattle.files.specs.Moves.{appending_queued, reading_cleaned, front_read, front_replayed, replay_cleaned}
 use Rattle.files.specs.Calls.{without_pool, goes_on_of, made_new, from_pool}
 use Rattle.files.specs.declared.queues.Queues.{Queues}
-use Rattle.files.proofs.Rule.{Kept, whole, still_kept}
+use Rattle.files.proofs.Rule.{Kept, whole, still_kept, one-some}
 
 -- ---- how often a number stands in a queue that changed at an end
 module _ (x : ℕ) (q : NumberQueue) where
   times-pushed : (v : ℕ) → q.count < length q.numbers → times x (list_of (pushed q v)) ≡ times x (list_of q) + times x (v ∷ [])
   times-pushed v h = ap (times x) (push_list q v h) ∙ times-append x (list_of q) (v ∷ [])
 
-  times-one : (b : Bool) (v : ℕ) → q.count + one_if b ≤ length q.numbers → times x (list_of (pushed_if q b v)) ≡ times x (list_of q) + times x (some_of b v)
-  times-one b v h = ap (times x) (push_if_list q b v h) ∙ times-append x (list_of q) (some_of b v)
+  times-one : (some : Option ℕ) → q.count + length (some_of some) ≤ length q.numbers → times x (list_of (pushed_if q some)) ≡ times x (list_of q) + times x (some_of some)
+  times-one some h = ap (times x) (push_if_list q some h) ∙ times-append x (list_of q) (some_of some)
 
   times-both : (r : NumberQueue) → q.count + r.count ≤ length q.numbers → r.count ≤ length r.numbers → times x (list_of (appended q r)) ≡ times x (list_of q) + times x (list_of r)
   times-both r h k = ap (times x) (append-list q r h k) ∙ times-append x (list_of q) (list_of r)
@@ -53,27 +54,27 @@ module _ (q : Queues) (s : QueuesTyped q) (k : Kept q) where
         refl (λ v. omega (arith, queued_times v)) k.pool (omega arith)
 
   -- ---- the file being read to cleanup
-  cleaned_room : q.cleanup_queue.count + one_if q.reading.some ≤ 64
-  cleaned_room = omega (arith, k.room.all)
+  cleaned_room : q.cleanup_queue.count + length (some_of (reading_number q)) ≤ 64
+  cleaned_room = omega (arith, k.room.all, one-some q.reading.some q.reading.id)
 
   pub reading_times : (v : ℕ) → times v (files_of (reading_cleaned q)) ≡ times v (files_of q)
   unfolding reading_cleaned
   reading_times v =
-      omega (arith, whole v q, whole v (reading_cleaned q), times-one v q.cleanup_queue q.reading.some q.reading.id (rw s.cleanup cleaned_room))
+      omega (arith, whole v q, whole v (reading_cleaned q), times-one v q.cleanup_queue (reading_number q) (rw s.cleanup cleaned_room))
 
   pub reading_kept : Kept (reading_cleaned q)
   unfolding reading_cleaned appending_size
   reading_kept =
-      let n = push_if_count q.cleanup_queue q.reading.some q.reading.id in
+      let n = push_if_count q.cleanup_queue (reading_number q) in
       still_kept q (reading_cleaned q) k
-      (record { read = k.room.read; cleanup = omega (arith, n, cleaned_room); pool = k.room.pool; replay = k.room.replay; all = omega (arith, n, k.room.all) })
+      (record { read = k.room.read; cleanup = omega (arith, n, cleaned_room); pool = k.room.pool; replay = k.room.replay; all = omega (arith, n, k.room.all, one-some q.reading.some q.reading.id) })
       refl (λ v. omega (arith, reading_times v)) k.pool k.size
 
   pub reading_sized : QueuesTyped (reading_cleaned q)
   unfolding reading_cleaned
   reading_sized = record {
     read = s.read;
-    cleanup = push_if_length q.cleanup_queue q.reading.some q.reading.id ∙ s.cleanup;
+    cleanup = push_if_length q.cleanup_queue (reading_number q) ∙ s.cleanup;
     pool = s.pool;
     replay = s.replay;
   }

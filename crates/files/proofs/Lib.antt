@@ -9,5 +9,6 @@ pub mod KeepsRules
 pub mod NoneLost
 pub mod ReadOf
 pub mod ReadKept
+pub mod Mapped
 pub mod OpenKept
 pub mod QueueOrder

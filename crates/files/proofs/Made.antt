@@ -8,7 +8,7 @@ use Rattle.numbers.specs.Queue.{no_numbers, pushed, pushed_if, appended, front_o
 use Rattle.numbers.specs.declared.queue.NumberQueue.{NumberQueue}
 use Rattle.answer.specs.declared.answer.Answer.{Answer}
 use Rattle.answer.specs.declared.answer.Answer.TheVariants.{Done}
-use Rattle.files.specs.Queues.{appending_size}
+use Rattle.files.specs.Queues.{reading_number, appending_size}
 use Rattle.files.specs.Moves.{queues_of, no_appending, no_reading, reading_file, no_files, with_appending, with_read_queue, with_reading, with_cleanup, with_pool, with_replay, appending_queued, reading_cleaned, front_read, first_ids, front_replayed, replay_cleaned}
 use Rattle.files.specs.Calls.{not_cleaned, kill_logs_kept, grown, from_pool, took_from}
 use Rattle.files.specs.declared.queues.Appending.{Appending}
@@ -29,7 +29,7 @@ module _ (q : Queues) where
   unfolding appending_queued
   queued_as l a e f = rw (e, f)
 
-  pub cleaned_as : (l : NumberQueue) (r : Reading) → l ≡ pushed_if q.cleanup_queue q.reading.some q.reading.id → r ≡ no_reading
+  pub cleaned_as : (l : NumberQueue) (r : Reading) → l ≡ pushed_if q.cleanup_queue (reading_number q) → r ≡ no_reading
       → with_reading (with_cleanup q l) r ≡ reading_cleaned q
   unfolding reading_cleaned
   cleaned_as l r e f = rw (e, f)
@@ -57,7 +57,7 @@ module _ (q : Queues) where
       → ◌≡◌ {A = Cleaned} (record { answer = a; more = false; empty = e; remove = r; queues = q }) (not_cleaned a q)
   not_cleaned_as a e r f g = rw (f, g)
 
-  pub killed_as : (m e : NumberQueue) (r : Reading) → m ≡ pushed_if q.log_pool q.reading.some q.reading.id → e ≡ emptied q.log_pool → r ≡ no_reading
+  pub killed_as : (m e : NumberQueue) (r : Reading) → m ≡ pushed_if q.log_pool (reading_number q) → e ≡ emptied q.log_pool → r ≡ no_reading
       → ◌≡◌ {A = Killed} (record { answer = Done; remove = m; queues = with_reading (with_pool q e) r }) (kill_logs_kept q)
   killed_as m e r f g h = rw (f, g, h)
 

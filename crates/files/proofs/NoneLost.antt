@@ -14,7 +14,7 @@ use Rattle.numbers.specs.Numbers.{times}
 use Rattle.numbers.specs.Queue.{list_of}
 use Rattle.numbers.proofs.Laws.{one-le}
 use Rattle.numbers.proofs.QueueLists.{push_if_list}
-use Rattle.files.specs.Queues.{appending_size, files_of, queues_kept, QueuesTyped}
+use Rattle.files.specs.Queues.{reading_number, appending_size, files_of, queues_kept, QueuesTyped}
 use Rattle.files.specs.Moves.{with_dirty, reading_cleaned, replay_cleaned}
 use Rattle.files.specs.Calls.{flushes, flush_one_kept, flush_one, replay_next_kept, replay_next, clear_replay_logs, clean_logs_kept, clean_logs, kill_logs, file_set_full, files_used_up, goes_on_of, made_new, from_pool, taken_by, take_file_kept, take_file, file_made}
 use Rattle.files.specs.declared.queues.Queues.{Queues}
@@ -24,7 +24,7 @@ use Rattle.files.specs.declared.writing.Flushed.{Flushed}
 use Rattle.files.specs.declared.writing.Taken.{Taken}
 use Rattle.files.specs.declared.cleaning.Cleaned.{Cleaned}
 use Rattle.files.specs.declared.cleaning.Killed.{Killed}
-use Rattle.files.proofs.Rule.{Kept, kept_facts, sized_appending, door}
+use Rattle.files.proofs.Rule.{Kept, kept_facts, sized_appending, door, one-some}
 use Rattle.files.proofs.Kept.{queued_times, reading_times, reading_kept, reading_sized, replayed-times, replay-times, killed_times, goes-times, pool-times, made-times}
 use Rattle.files.proofs.CleanKept.{cleaned_times}
 
@@ -91,7 +91,7 @@ module _ (q : Queues) (s : QueuesTyped q) (v : ℕ) where
   unfolding kill_logs
   kill_logs_lem =
       door (λ (r : Killed). times v (files_of r.queues) + times v (list_of r.remove) ≡ times v (files_of q)) (queues_kept q)
-      (λ ok. rw (push_if_list q.log_pool q.reading.some q.reading.id (omega (arith, (kept_facts q ok).room.pool, s.pool, one-le q.reading.some))) (killed_times q s (kept_facts q ok) v))
+      (λ ok. rw (push_if_list q.log_pool (reading_number q) (omega (arith, (kept_facts q ok).room.pool, s.pool, one-le q.reading.some, one-some q.reading.some q.reading.id))) (killed_times q s (kept_facts q ok) v))
       (omega arith)
 
   -- what is left of a choice, by the answer that it comes to

@@ -1,12 +1,13 @@
 -- `open` and `read_next` keep the rules and lose no number, and what `open` is to replay is in order. Document 01: "Replay order is by id, ties by
 -- number (added). .. The same taken name twice gives 13, then more than 64 kept files 9, then a kept 2^32-1 gives 12."; "0 makes that the one
 -- being read, 1 sends the file to cleanup, other answers move nothing". Assumes nothing.
-use Prim.Native.Nat.{ℕ, ◌+◌, ◌≤◌}
+use Prim.Native.Nat.{ℕ, zero, suc, ◌+◌, ◌-◌, ◌≤◌}
 use mathlib.Core.Bool.{Bool, true, false}
-use mathlib.Core.List.{List, map}
+use mathlib.Core.List.{List, ◌∷◌, map, map-append}
 use mathlib.Core.Path.{◌≡◌, refl, ap, ◌∙◌}
 use native.Mathlib.Omega.{arith}
-use lib.ListN.{length, length-map}
+use lib.ListN.{take, length, length-map, replicate}
+use Rattle.numbers.specs.Queue.{list_of}
 use lib.Dec.{eqb}
 use borrow.Author.Tests.{eqb-false, eqb-true}
 use Rattle.std.specs.Prelude.{if◌then◌else◌}
@@ -14,18 +15,22 @@ use Rattle.numbers.specs.Numbers.{times, all_below, distinct}
 use Rattle.answer.specs.Answer.{number_of}
 use Rattle.record.specs.Next.{reader_at, opening_of}
 use Rattle.answer.specs.declared.answer.Answer.{Answer}
-use Rattle.answer.specs.declared.answer.Answer.TheVariants.{Done, EndOfLog}
+use Rattle.answer.specs.declared.answer.Answer.TheVariants.{EndOfLog}
 use Rattle.record.specs.declared.reader.LogReader.{LogReader}
 use Rattle.found.specs.Names.{said_by}
-use Rattle.found.specs.Logs.{LogFile, file_number, file_id, taken_numbers, removed, kept_files, in_order_of, ordered, how_many, next_from, answered}
+use Rattle.found.specs.Logs.{file_number, file_id, taken_numbers, removed, kept_files, in_order_of, ordered, how_many, next_from, files_told, log_files}
+use Rattle.found.specs.Listed.{listed}
+use Rattle.found.specs.declared.sorted.LogFile.{LogFile}
+use Rattle.found.specs.declared.logs.LogFiles.{LogFiles}
 use Rattle.found.proofs.Listed.{filled}
 use Rattle.found.proofs.SortLaws.{pairs_map, next-above}
 use Rattle.found.proofs.Found.{order-times}
 use Rattle.found.proofs.Order.{same_files}
-use Rattle.found.proofs.Answers.{logs-told, logs-all}
-use Rattle.files.specs.Queues.{appending_size, files_of, queues_kept, QueuesTyped}
-use Rattle.files.specs.Moves.{reading_cleaned}
-use Rattle.files.specs.Open.{opened_with, open_logs, replay_files}
+use Rattle.found.proofs.Answers.{Told, logs-told, logs-all}
+use Rattle.files.specs.Queues.{replay_of, appending_size, files_of, queues_kept, QueuesTyped}
+use Rattle.files.specs.Moves.{first_ids, reading_cleaned}
+use Rattle.files.specs.Open.{opened_with, opened_by, open_logs, replay_files}
+use Rattle.files.specs.declared.open.Opened.{Opened}
 use Rattle.files.specs.Read.{now_reading, not_read, read_by, read_next_kept, read_next}
 use Rattle.files.specs.Inner.{has_file}
 use Rattle.files.specs.declared.queues.Queues.{Queues}
@@ -34,18 +39,33 @@ use Rattle.files.proofs.Rule.{Kept, kept_facts, kept-makes, behind-door}
 use Rattle.files.proofs.Kept.{reading_kept, reading_times}
 use Rattle.files.proofs.ReadOf.{has_reading, has-waiting, next_reading, next-none, next-front}
 use Rattle.files.proofs.ReadKept.{now_kept, now_sized, now_times}
-use Rattle.std.specs.Prelude.{Result, Ok, Err}
+use Rattle.std.specs.Prelude.{Result, Ok, Err, IfOk}
 use Rattle.record.specs.declared.reader.Stepped.{Stepped}
 use Rattle.answer.specs.declared.answer.Refusal.{Refusal}
 
-module _ (answer : Answer) (n : ℕ) (files : List LogFile) where
-  opened_files : files_of (opened_with (answered answer n files)) ≡ map file_number files
-  unfolding files_of
-  opened_files = filled 64 (length files) (map file_number files) (length-map files file_number)
+-- a function of each of a list in an array
+map_replicate : {A B : Type 0} (f : A → B) (n : ℕ) (a : A) → map f (replicate n a) ≡ replicate n (f a)
+map_replicate f zero a = refl
+map_replicate {B = B} f (suc n) a = ap (λ (l : List B). f a ∷ l) (map_replicate f n a)
 
-  opened-kept : length files ≤ 64 → distinct (map file_number files) ≡ true → queues_kept (opened_with (answered answer n files)) ≡ true
+map_listed : {A B : Type 0} (f : A → B) (a : A) (n : ℕ) (l : List A) → map f (listed a n l) ≡ listed (f a) n (map f l)
+unfolding listed
+map_listed f a n l = map-append f l (replicate (n - length l) a) ∙ rw (length-map l f, map_replicate f (n - length l) a)
+
+module _ (n : ℕ) (files : List LogFile) where
+  numbers_told : replay_of (opened_with (files_told n files)) ≡ map file_number files
+  numbers_told = ap (take (length files)) (map_listed file_number (record { id = 0; number = 0 }) 64 files) ∙ filled 0 64 (length files) (map file_number files) (length-map files file_number)
+
+  ids_told : list_of (first_ids (opened_with (files_told n files))) ≡ map file_id files
+  ids_told = ap (take (length files)) (map_listed file_id (record { id = 0; number = 0 }) 64 files) ∙ filled 0 64 (length files) (map file_id files) (length-map files file_id)
+
+  opened_files : files_of (opened_with (files_told n files)) ≡ map file_number files
+  unfolding files_of
+  opened_files = numbers_told
+
+  opened-kept : length files ≤ 64 → distinct (map file_number files) ≡ true → queues_kept (opened_with (files_told n files)) ≡ true
   unfolding appending_size
-  opened-kept h d = kept-makes (opened_with (answered answer n files)) (record {
+  opened-kept h d = kept-makes (opened_with (files_told n files)) (record {
     room = record { read = omega arith; cleanup = omega arith; pool = omega arith; replay = h; all = omega arith };
     below = ap (all_below (next_from 0 (map file_number files))) opened_files ∙ next-above 0 (map file_number files);
     once = ap distinct opened_files ∙ d;
@@ -53,36 +73,49 @@ module _ (answer : Answer) (n : ℕ) (files : List LogFile) where
     size = omega arith;
   })
 
-  opened_queue : replay_files (opened_with (answered answer n files)) ≡ files
-  opened_queue =
-      rw (filled 64 (length files) (map file_number files) (length-map files file_number), filled 64 (length files) (map file_id files) (length-map files file_id))
-      (pairs_map files)
+  opened_queue : replay_files (opened_with (files_told n files)) ≡ files
+  opened_queue = rw (numbers_told, ids_told) (pairs_map files)
 
 module _ (names nameLengths lengths heads : List ℕ) (room : ℕ) where
-  pub open_keeps : queues_kept (open_logs names nameLengths lengths heads room).queues ≡ true
+  -- what holds of the queues of any files that are told
+  told-by : (P : Queues → Type 0) (T : LogFiles → Type 0) (r : Result LogFiles Answer) → IfOk r T → ((f : LogFiles) → T f → P (opened_with f)) → IfOk (opened_by r) (λ (o : Opened). P o.queues)
+  told-by P T (Ok f) h g = g f h
+  told-by P T (Err a) h g = tt
+
+  pub open_keeps : IfOk (open_logs names nameLengths lengths heads room) (λ (o : Opened). queues_kept o.queues ≡ true)
   unfolding open_logs
-  open_keeps = let t = logs-told names nameLengths lengths heads room in rw t.told (opened-kept t.answer t.toRemove t.files t.few t.once)
+  open_keeps =
+      told-by (λ (q : Queues). queues_kept q ≡ true) Told (log_files names nameLengths lengths heads room) (logs-told names nameLengths lengths heads room)
+      (λ f t. rw t.told (opened-kept t.toRemove t.files t.few t.once))
 
   -- "Replay order is by id, ties by number"
-  pub open_ordered : ordered (replay_files (open_logs names nameLengths lengths heads room).queues) ≡ true
+  pub open_ordered : IfOk (open_logs names nameLengths lengths heads room) (λ (o : Opened). ordered (replay_files o.queues) ≡ true)
   unfolding open_logs
-  open_ordered = let t = logs-told names nameLengths lengths heads room in rw t.told (ap ordered (opened_queue t.answer t.toRemove t.files) ∙ t.ordered)
+  open_ordered =
+      told-by (λ (q : Queues). ordered (replay_files q) ≡ true) Told (log_files names nameLengths lengths heads room) (logs-told names nameLengths lengths heads room)
+      (λ f t. rw t.told (ap ordered (opened_queue t.toRemove t.files) ∙ t.ordered))
 
-  module _ (d : (open_logs names nameLengths lengths heads room).answer ≡ Done) where
-    -- the files kept, in another order: as many pass any test
-    pub open_same : (p : LogFile → Bool) → how_many p (replay_files (open_logs names nameLengths lengths heads room).queues) ≡ how_many p (kept_files (said_by names nameLengths) lengths heads)
-    unfolding open_logs
-    open_same p =
-        rw (logs-all names nameLengths lengths heads room d) (ap (how_many p) (opened_queue Done (length (removed (said_by names nameLengths) lengths)) (in_order_of (said_by names nameLengths) lengths heads)) ∙ same_files p (said_by names nameLengths) lengths heads)
+  -- the files kept, in another order: as many pass any test
+  pub open_same : (p : LogFile → Bool)
+      → IfOk (open_logs names nameLengths lengths heads room) (λ (o : Opened). how_many p (replay_files o.queues) ≡ how_many p (kept_files (said_by names nameLengths) lengths heads))
+  unfolding open_logs
+  open_same p =
+      let k = length (removed (said_by names nameLengths) lengths) in
+      let fs = in_order_of (said_by names nameLengths) lengths heads in
+      told-by (λ (q : Queues). how_many p (replay_files q) ≡ how_many p (kept_files (said_by names nameLengths) lengths heads)) (λ (f : LogFiles). f ≡ files_told k fs)
+      (log_files names nameLengths lengths heads room) (logs-all names nameLengths lengths heads room)
+      (λ f e. rw e (ap (how_many p) (opened_queue k fs) ∙ same_files p (said_by names nameLengths) lengths heads))
 
-    -- each file found under a taken name is to be replayed or to be removed
-    pub open_loses_none : (v : ℕ)
-        → times v (files_of (open_logs names nameLengths lengths heads room).queues) + times v (removed (said_by names nameLengths) lengths) ≡ times v (taken_numbers (said_by names nameLengths))
-    unfolding open_logs
-    open_loses_none v =
-        rw (logs-all names nameLengths lengths heads room d)
-        (ap (λ (l : List ℕ). times v l + times v (removed (said_by names nameLengths) lengths)) (opened_files Done (length (removed (said_by names nameLengths) lengths)) (in_order_of (said_by names nameLengths) lengths heads))
-        ∙ order-times (said_by names nameLengths) lengths heads v)
+  -- each file found under a taken name is to be replayed or to be removed
+  pub open_loses_none : (v : ℕ)
+      → IfOk (open_logs names nameLengths lengths heads room) (λ (o : Opened). times v (files_of o.queues) + times v (removed (said_by names nameLengths) lengths) ≡ times v (taken_numbers (said_by names nameLengths)))
+  unfolding open_logs
+  open_loses_none v =
+      let k = length (removed (said_by names nameLengths) lengths) in
+      let fs = in_order_of (said_by names nameLengths) lengths heads in
+      told-by (λ (q : Queues). times v (files_of q) + times v (removed (said_by names nameLengths) lengths) ≡ times v (taken_numbers (said_by names nameLengths))) (λ (f : LogFiles). f ≡ files_told k fs)
+      (log_files names nameLengths lengths heads room) (logs-all names nameLengths lengths heads room)
+      (λ f e. rw e (ap (λ (l : List ℕ). times v l + times v (removed (said_by names nameLengths) lengths)) (opened_files k fs) ∙ order-times (said_by names nameLengths) lengths heads v))
 
 module _ (q : Queues) (s : QueuesTyped q) (ok : queues_kept q ≡ true) where
   k : Kept q

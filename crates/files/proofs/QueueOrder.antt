@@ -9,19 +9,20 @@ use lib.ListN.{length, take, drop}
 use lib.Dec.{eqb}
 use borrow.Author.Tests.{ltb-true, ne_eqb}
 use Rattle.std.specs.Prelude.{IsSomeAnd}
+use Rattle.std.specs.Bool.{then_some}
 use Rattle.words.proofs.Choices.{if_true, if_false}
 use Rattle.numbers.specs.Numbers.{some_of, insert_all, ascends}
 use Rattle.numbers.specs.Queue.{list_of, front_of_of}
 use Rattle.numbers.proofs.Laws.{one-true}
 use Rattle.numbers.proofs.QueueLists.{push_list, push_if_list, push_if_count, push_if_length, append-list, first-list, front-list}
-use Rattle.files.specs.Queues.{appending_of, read_queue_of, reading_of, cleanup_of, pool_of, replay_of, appending_size, queues_kept, QueuesTyped}
+use Rattle.files.specs.Queues.{reading_number, appending_of, read_queue_of, reading_of, cleanup_of, pool_of, replay_of, appending_size, queues_kept, QueuesTyped}
 use Rattle.files.specs.Moves.{appending_queued, reading_cleaned, front_read, front_replayed, replay_cleaned}
 use Rattle.files.specs.Calls.{flushes, flush_one_kept, replay_next_kept, clear_replay_logs_kept, clean_logs_kept, from_pool}
 use Rattle.files.specs.Read.{now_reading}
 use Rattle.files.specs.declared.queues.Queues.{Queues}
 use Rattle.files.specs.declared.reading.ReplayNext.{ReplayNext}
 use Rattle.files.specs.declared.writing.Flushed.{Flushed}
-use Rattle.files.proofs.Rule.{Kept, kept_facts, sized_appending}
+use Rattle.files.proofs.Rule.{Kept, kept_facts, sized_appending, one-some}
 use Rattle.files.proofs.ReadOf.{now_front}
 use Rattle.files.proofs.CleanKept.{pooled-list, new-pool, new-cleanup, removed-list, pooled-rises}
 
@@ -40,7 +41,7 @@ module _ (q : Queues) (s : QueuesTyped q) (ok : queues_kept q ≡ true) where
     flush_at-end =
         let a = sized_appending q min (ltb-true min (appending_size q) h) in
         let n : q.read_queue.count < length q.read_queue.numbers = omega (arith, k.room.all, one-true q.appending.some a, s.read) in
-        ap read_queue_of flush_moves ∙ push_list q.read_queue q.appending.id n ∙ ap (λ (b : Bool). read_queue_of q ++ some_of b q.appending.id) (sym a)
+        ap read_queue_of flush_moves ∙ push_list q.read_queue q.appending.id n ∙ ap (λ (b : Bool). read_queue_of q ++ some_of (then_some b q.appending.id)) (sym a)
 
     pub flush_none-left : appending_of (flush_one_kept q min).queues ≡ []
     unfolding appending_queued
@@ -49,7 +50,7 @@ module _ (q : Queues) (s : QueuesTyped q) (ok : queues_kept q ≡ true) where
   -- "`replay_next` sends reading to cleanup", to its end
   pub reading_to-end : cleanup_of (reading_cleaned q) ≡ cleanup_of q ++ reading_of q
   unfolding reading_cleaned
-  reading_to-end = push_if_list q.cleanup_queue q.reading.some q.reading.id (omega (arith, k.room.all, s.cleanup))
+  reading_to-end = push_if_list q.cleanup_queue (reading_number q) (omega (arith, k.room.all, s.cleanup, one-some q.reading.some q.reading.id))
 
   -- ".. then takes the front of the replay queue": the file told is the front, it is the one being read, and the others stay in their order
   module _ (some : 0 < q.replay_queue.count) where
@@ -84,9 +85,9 @@ module _ (q : Queues) (s : QueuesTyped q) (ok : queues_kept q ≡ true) where
   pub clear_in_order : cleanup_of (clear_replay_logs_kept q).queues ≡ (cleanup_of q ++ reading_of q) ++ replay_of q
   unfolding replay_cleaned reading_cleaned
   clear_in_order =
-      let c = push_if_count q.cleanup_queue q.reading.some q.reading.id in
-      let l = push_if_length q.cleanup_queue q.reading.some q.reading.id in
-      append-list (reading_cleaned q).cleanup_queue q.replay_queue (omega (arith, c, l, k.room.all, s.cleanup)) (omega (arith, k.room.replay, s.replay))
+      let c = push_if_count q.cleanup_queue (reading_number q) in
+      let l = push_if_length q.cleanup_queue (reading_number q) in
+      append-list (reading_cleaned q).cleanup_queue q.replay_queue (omega (arith, c, l, k.room.all, s.cleanup, one-some q.reading.some q.reading.id)) (omega (arith, k.room.replay, s.replay))
       ∙ ap (λ (m : List ℕ). m ++ replay_of q) reading_to-end
 
   pub clear-leaves-none : replay_of (clear_replay_logs_kept q).queues ≡ []

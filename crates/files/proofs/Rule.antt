@@ -5,12 +5,14 @@ use mathlib.Core.List.{List, ◌++◌}
 use mathlib.Core.Path.{◌≡◌, refl, sym, ap, ◌∙◌}
 use native.Mathlib.Omega.{arith}
 use lib.Dec.{leb}
+use lib.ListN.{length}
+use Rattle.std.specs.Bool.{then_some}
 use borrow.Author.Tests.{ltb-true, lt-ltb, le-leb, leb-true, leb-false, lt-leb, eq-eqb}
 use Rattle.std.specs.Prelude.{if◌then◌else◌}
-use Rattle.numbers.specs.Numbers.{times, all_below, distinct, ascends, one_if}
+use Rattle.numbers.specs.Numbers.{times, all_below, distinct, ascends, some_of, one_if}
 use Rattle.numbers.proofs.Laws.{both, left-of, right_of, one-true}
 use Rattle.numbers.proofs.Sort.{times-append, less-distinct, less-under}
-use Rattle.files.specs.Queues.{pool_of, cleanup_of, read_queue_of, replay_of, appending_of, reading_of, appending_size, files_of, file_count, room_kept, queues_kept}
+use Rattle.files.specs.Queues.{reading_number, pool_of, cleanup_of, read_queue_of, replay_of, appending_of, reading_of, appending_size, files_of, file_count, room_kept, queues_kept}
 use Rattle.numbers.proofs.QueueLists.{push_if_count}
 use Rattle.files.specs.Moves.{reading_cleaned}
 use Rattle.files.specs.Calls.{needs_new, lacks_number, files_used_up}
@@ -137,6 +139,11 @@ leb_moved s s' l e h = by (leb 9223372036854775808 (s + l)) refl
     by true f = le-leb (9223372036854775808 - s') l (omega (arith, leb-true 9223372036854775808 (s + l) f))
     by false f = lt-leb (9223372036854775808 - s') l (omega (arith, leb-false 9223372036854775808 (s + l) f))
 
+-- a number is one number, if it is there
+pub one-some : (b : Bool) (n : ℕ) → length (some_of (then_some b n)) ≡ one_if b
+one-some true n = refl
+one-some false n = refl
+
 -- what the file being read leaves as it was when it goes to cleanup
 pub cleaned_replay : (q : Queues) → (reading_cleaned q).replay_queue.count ≡ q.replay_queue.count
 unfolding reading_cleaned
@@ -144,7 +151,7 @@ cleaned_replay q = refl
 
 pub cleaned_cleanup : (q : Queues) → (reading_cleaned q).cleanup_queue.count ≡ q.cleanup_queue.count + one_if q.reading.some
 unfolding reading_cleaned
-cleaned_cleanup q = push_if_count q.cleanup_queue q.reading.some q.reading.id
+cleaned_cleanup q = push_if_count q.cleanup_queue (reading_number q) ∙ ap (λ (n : ℕ). q.cleanup_queue.count + n) (one-some q.reading.some q.reading.id)
 
 -- ---- the two doors of a call: what holds of the answer behind the test, and of the refusal, holds of the call
 module _ {A : Type 0} (P : A → Type 0) {x : A} where

@@ -7,7 +7,7 @@ use Rattle.numbers.specs.Queue.{list_of, no_numbers, pushed_if, front_of_of, fir
 use Rattle.numbers.specs.declared.queue.NumberQueue.{NumberQueue}
 use Rattle.answer.specs.declared.answer.Answer.{Answer}
 use Rattle.answer.specs.declared.answer.Answer.TheVariants.{Done, NoRoom, UsedUp, BadState}
-use Rattle.files.specs.Queues.{appending_size, file_count, queues_kept}
+use Rattle.files.specs.Queues.{reading_number, appending_size, file_count, queues_kept}
 use Rattle.files.specs.Moves.{appending_file, no_reading, with_appending, with_reading, with_cleanup, with_pool, with_next, with_dirty, appending_queued, reading_cleaned, first_ids, front_replayed, replay_cleaned}
 use Rattle.files.specs.declared.queues.Queues.{Queues}
 use Rattle.files.specs.declared.reading.ReplayNext.{ReplayNext}
@@ -101,7 +101,7 @@ without_pool q = with_reading (with_pool q (emptied q.log_pool)) no_reading
 
 -- "removes pool and reading only": the pool ascending, then the file being read
 abbrev pub kill_logs_kept : Queues → Killed
-kill_logs_kept q = record { answer = Done; remove = pushed_if q.log_pool q.reading.some q.reading.id; queues = without_pool q }
+kill_logs_kept q = record { answer = Done; remove = pushed_if q.log_pool (reading_number q); queues = without_pool q }
 
 -- behind 13
 unfoldable pub kill_logs : Queues → Killed

@@ -4,6 +4,7 @@ use Rattle.numbers.specs.Queue.{no_numbers, pushed, pushed_if, appended, front_o
 use Rattle.numbers.specs.declared.queue.NumberQueue.{NumberQueue}
 use Rattle.files.specs.declared.queues.Appending.{Appending}
 use Rattle.files.specs.declared.queues.Reading.{Reading}
+use Rattle.files.specs.Queues.{reading_number}
 use Rattle.files.specs.declared.queues.Queues.{Queues}
 
 -- the places in document 01's order, then the first ids of the files to replay, the next number, and dirty
@@ -80,7 +81,7 @@ appending_queued q = with_read_queue (with_appending q no_appending) (pushed q.r
 
 -- "sends reading .. to cleanup": to its end, if there is one
 unfoldable pub reading_cleaned : Queues → Queues
-reading_cleaned q = with_reading (with_cleanup q (pushed_if q.cleanup_queue q.reading.some q.reading.id)) no_reading
+reading_cleaned q = with_reading (with_cleanup q (pushed_if q.cleanup_queue (reading_number q))) no_reading
 
 -- "the read queue's front .. the one being read"
 unfoldable pub front_read : Queues → Queues

@@ -1,14 +1,23 @@
 -- The file queues as lists, and the rules of their state (document 01, "File numbers" and "Numbered answers"; `Log`, log.rs 700-726).
 -- What lies behind a queue's count means nothing; nor does what stands beside a `some` that is false.
-use Rattle.std.specs.Prelude.{ℕ, ◌+◌, Bool, ◌&&◌, List, ◌++◌, ◌≡◌, ltb, leb, length}
+use Rattle.std.specs.Prelude.{ℕ, ◌+◌, Bool, ◌&&◌, List, ◌++◌, ◌≡◌, ltb, leb, length, Option}
+use Rattle.std.specs.Bool.{then_some}
 use Rattle.std.specs.Prelude.{if◌then◌else◌}
 use Rattle.numbers.specs.Numbers.{all_below, distinct, ascends, some_of, one_if}
 use Rattle.numbers.specs.Queue.{list_of}
 use Rattle.files.specs.declared.queues.Queues.{Queues}
 
+-- the number of the file that is appended to, if there is one
+abbrev pub appending_number : Queues → Option ℕ
+appending_number q = then_some q.appending.some q.appending.id
+
+-- the number of the file being read, if there is one
+abbrev pub reading_number : Queues → Option ℕ
+reading_number q = then_some q.reading.some q.reading.id
+
 -- the file that is appended to, if there is one
 abbrev pub appending_of : Queues → List ℕ
-appending_of q = some_of q.appending.some q.appending.id
+appending_of q = some_of (appending_number q)
 
 -- the files of the read queue, the front first
 abbrev pub read_queue_of : Queues → List ℕ
@@ -16,7 +25,7 @@ read_queue_of q = list_of q.read_queue
 
 -- the file being read, if there is one
 abbrev pub reading_of : Queues → List ℕ
-reading_of q = some_of q.reading.some q.reading.id
+reading_of q = some_of (reading_number q)
 
 -- the files to clean, the front first
 abbrev pub cleanup_of : Queues → List ℕ

@@ -29,7 +29,7 @@ impl Queues {
         ensures { result ≡ not_cleaned answer self }
     {
         Cleaned {
-            answer: answer,
+            answer,
             more: false,
             empty: NumberQueue::new(),
             remove: NumberQueue::new(),
@@ -50,7 +50,7 @@ impl Queues {
         Cleaned {
             answer: Answer::Done,
             more: max < cleanup.count,
-            empty: empty,
+            empty,
             remove: pool.without_first(Queues::MAX_LOG_POOL_SIZE),
             queues: q,
         }
@@ -70,13 +70,13 @@ impl Queues {
         requires { queues_kept self ≡ true }
         ensures { result ≡ kill_logs_kept self }
     {
-        let remove = self.log_pool.push_if(self.reading.some, self.reading.id);
+        let remove = self.log_pool.push_if(self.reading.number());
         let mut q = self;
         q.log_pool = self.log_pool.clear();
         q.reading = Reading::none();
         Killed {
             answer: Answer::Done,
-            remove: remove,
+            remove,
             queues: q,
         }
     }

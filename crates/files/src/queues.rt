@@ -1,5 +1,6 @@
 // The queues by value, of numbers alone, and the test of their rules.
 ghost use Rattle.std.specs.Prelude.{◌≡◌, true, ◌+◌, ◌≤◌};
+ghost use Rattle.std.specs.Bool.{then_some};
 ghost use Rattle.numbers.specs.Queue.{list_of};
 ghost use Rattle.files.specs.Queues.{appending_size, files_of, file_count, room_kept, queues_kept};
 ghost use Rattle.files.specs.Moves.{no_appending, appending_file, no_reading, reading_file, no_files};
@@ -55,6 +56,13 @@ impl Appending {
             size,
         }
     }
+
+    // The file's number, if there is one.
+    pub(crate) fn number(self) -> Option<u64>
+        ensures { result ≡ then_some self.some self.id }
+    {
+        self.some.then_some(self.id)
+    }
 }
 
 impl Reading {
@@ -68,6 +76,13 @@ impl Reading {
         ensures { result ≡ reading_file id }
     {
         Reading { some: true, id }
+    }
+
+    // The file's number, if there is one.
+    pub(crate) fn number(self) -> Option<u64>
+        ensures { result ≡ then_some self.some self.id }
+    {
+        self.some.then_some(self.id)
     }
 }
 
@@ -132,9 +147,9 @@ impl Queues {
         ensures { (result.count ≤ 64) × (list_of result ≡ files_of self) }
     {
         NumberQueue::new()
-            .push_if(self.appending.some, self.appending.id)
+            .push_if(self.appending.number())
             .append(self.read_queue)
-            .push_if(self.reading.some, self.reading.id)
+            .push_if(self.reading.number())
             .append(self.cleanup_queue)
             .append(self.log_pool)
             .append(self.replay_queue)
@@ -148,12 +163,12 @@ impl Queues {
         if !self.room_kept() {
             return false;
         }
-        let files = self.gather();
-        let all = files.numbers;
-        let pool = self.log_pool.numbers;
-        numbers::all_below(&all, files.count, u64::from(self.next_log_id))
-            && numbers::no_twice(&all, files.count)
-            && numbers::rises(&pool, self.log_pool.count)
+        let gathered = self.gather();
+        let files = &gathered.numbers[..gathered.count];
+        let pool = &self.log_pool.numbers[..self.log_pool.count];
+        numbers::all_below(files, u64::from(self.next_log_id))
+            && numbers::no_twice(files)
+            && numbers::rises(pool)
             && self.size() < 9223372036854775808
     }
 }

@@ -53,9 +53,7 @@ impl Queues {
         ensures { result ≡ reading_cleaned self }
     {
         let mut q = self;
-        q.cleanup_queue = self
-            .cleanup_queue
-            .push_if(self.reading.some, self.reading.id);
+        q.cleanup_queue = self.cleanup_queue.push_if(self.reading.number());
         q.reading = Reading::none();
         q
     }

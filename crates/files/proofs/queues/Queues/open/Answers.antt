@@ -1,12 +1,11 @@
 -- `Queues::open` meets its contract. Assumes nothing.
-use mathlib.Core.Path.{ap, ◌∙◌}
+use mathlib.Core.Path.{ap}
+use Rattle.std.proofs.lemmas.Result.{err_from_is_err_and}
 use Rattle.files.specs.Open.{opened_by, open_logs}
-use Rattle.files.specs.declared.queues.Queues.{Queues}
 use Rattle.files.proofs.queues.Queues.open.Goals as goal
 
-pub returns : goal.returns
+pub returns-in_err-found-clause-opened : goal.returns-in_err-found-clause-opened
 unfolding open_logs
-returns c =
-    let f = c.log_files-f.result in
-    let w = c.log_files-f.ensures in
-    (ap (λ (q : Queues). record { answer = f.answer; remove_count = f.remove_count; queues = q }) c.opened_with.ensures ∙ ap opened_by w.0, w.1)
+returns-in_err-found-clause-opened c =
+    let p = err_from_is_err_and c.from_residual.result c.from_residual.ensures.1 in
+    rw (p.1, p.2) (ap opened_by c.in_err-found.ensures.files)
