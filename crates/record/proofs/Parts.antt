@@ -1,34 +1,32 @@
 -- Each format of a record in closed form: by what the code reads and tests. Assumes nothing.
 use mathlib.Core.Path.{◌≡◌, refl, sym, ap, ◌∙◌}
-use mathlib.Core.Bool.{Bool, true, false, not, ◌||◌}
-use mathlib.Core.List.{List, [], ◌∷◌}
+use mathlib.Core.Bool.{Bool, true, false}
+use mathlib.Core.List.{List}
 use Prim.Native.Nat.{ℕ, ◌+◌, ◌-◌, ◌*◌, ◌≤◌, ◌<◌, zero-le}
 use native.Mathlib.Nat.{add_assoc, add-zero}
 use native.Mathlib.Omega.{arith}
 use lib.Count.{ones}
-use lib.Dec.{eqb, ltb}
+use lib.Dec.{ltb}
 use lib.ListN.{length, take, drop, get_or}
 use lib.Seq.{get_or-take, get_or-drop}
-use borrow.Author.Tests.{ne_eqb}
 use Rattle.words.specs.Words.{little_at}
 use Rattle.words.proofs.Cut.{little_take, little_drop}
-use Rattle.checksum.specs.Checksum.{checksum_of}
 use Rattle.directory.specs.Directory.{find_table}
 use Rattle.directory.specs.declared.table.TableKind.{TableKind}
 use Rattle.directory.specs.declared.table.TableKind.TheVariants.{Index, Value, RefCount}
 use Rattle.directory.specs.declared.directory.Directory.{Directory}
 use Rattle.directory.specs.declared.table.TableDescription.{TableDescription}
-use Rattle.record.specs.Format.{Format, refuse, give, Got, stopped, got, read_at, ◌>>◌, test}
-use Rattle.record.specs.Record.{Item, insert_of, key, chunk, masked_item, value_length, value, valued_item, table, dropped_item, sum_holds, ended_item, inside_by, inside, early, begun_id, early_end, opening_by, opening}
+use Rattle.record.specs.Format.{Format, give, Got, stopped, got, read_at, ◌>>◌, test}
+use Rattle.record.specs.Record.{Item, insert_of, key, chunk, masked_item, value_length, value, valued_item, table, dropped_item, sum_holds, ended_item, inside_by, inside, begun_id, opening_by, opening}
 use Rattle.answer.specs.declared.answer.Answer.{Answer}
-use Rattle.answer.specs.declared.answer.Answer.TheVariants.{EndOfLog, Cut, UnknownTag, OutOfPlace, NoTable, NoIndex, WrongSum}
+use Rattle.answer.specs.declared.answer.Answer.TheVariants.{EndOfLog, Cut, NoTable, NoIndex, WrongSum}
 use Rattle.record.specs.declared.action.LogAction.{LogAction}
-use Rattle.record.specs.declared.action.LogAction.TheVariants.{BeginRecord, EndRecord}
+use Rattle.record.specs.declared.action.LogAction.TheVariants.{EndRecord}
 use Rattle.record.specs.declared.item.Key.{Key}
 use Rattle.record.specs.declared.item.ReadItem.{ReadItem}
 use Rattle.record.specs.declared.reader.LogReader.{LogReader}
 use Rattle.record.specs.Next.{reader_after, stepped}
-use Rattle.record.specs.Inner.{tag_of_kind, action_by, action_in, got_item, inserted_item}
+use Rattle.record.specs.Inner.{action_in, got_item, inserted_item}
 use Rattle.record.proofs.Formats.{need-short, need_met, read-give, read-refuse, then_stop, then_got}
 use Rattle.std.specs.Prelude.{Ok, Option, Some, None}
 
@@ -42,11 +40,6 @@ module _ {A : Type 0} (answer : Answer) (at : ℕ) (log : List ℕ) where
   unfolding read_at
   test-give true a = refl
   test-give false a = refl
-
-  pub test-refuse : (b : Bool) (other : Answer) → read_at {A = A} (test b answer >> refuse other) at log ≡ tested b (stopped other) answer
-  unfolding read_at
-  test-refuse true other = refl
-  test-refuse false other = refl
 
 -- the payload behind a key
 abbrev pub payload_of : TableKind → Key → Format Item
@@ -67,10 +60,6 @@ module _ (at : ℕ) (log : List ℕ) where
   key_in None t i = stopped NoTable
   key_in (Some (row, d)) t i = tested (ltb i d.count) (got (record { table = t; index = i; description = d }) (at + 10)) NoIndex
 
-  pub key-short : (d : Directory) (kind : TableKind) → length log - at < 10 → read_at (key d kind) at log ≡ stopped Cut
-  unfolding key
-  key-short d kind h = need-short 10 Cut _ at log h
-
   pub key_met : (d : Directory) (kind : TableKind) (t i : ℕ) (f : Option (ℕ × TableDescription)) → 10 ≤ length log - at → t ≡ little_at 2 log at → i ≡ little_at 8 log (at + 2)
       → f ≡ find_table d kind t → read_at (key d kind) at log ≡ key_in f t i
   unfolding key
@@ -82,25 +71,12 @@ module _ (at : ℕ) (log : List ℕ) where
 
   -- ---- mask and entries; value
 
-  pub chunk-short : (kind : TableKind) (width : ℕ) (k : Key) → length log - at < 8 → read_at (chunk kind width k) at log ≡ stopped Cut
-  unfolding chunk
-  chunk-short kind width k h = need-short 8 Cut _ at log h
-
-  pub chunk-cut : (kind : TableKind) (width : ℕ) (k : Key) (mask n : ℕ) → 8 ≤ length log - at → mask ≡ little_at 8 log at → n ≡ ones mask * width
-      → length log - (at + 8) < n → read_at (chunk kind width k) at log ≡ stopped Cut
-  unfolding chunk
-  chunk-cut kind width k mask n h e₁ e₂ s = need_met 8 Cut _ at log h ∙ rw (← e₁, ← e₂) (need-short n Cut _ (at + 8) log s)
-
   pub chunk_met : (kind : TableKind) (width : ℕ) (k : Key) (mask n : ℕ) → 8 ≤ length log - at → mask ≡ little_at 8 log at → n ≡ ones mask * width
       → n ≤ length log - (at + 8) → read_at (chunk kind width k) at log ≡ got (record { action = insert_of kind k.table k.index; payload = 8 + n }) (at + (8 + n))
   unfolding chunk
   chunk_met kind width k mask n h e₁ e₂ s =
       need_met 8 Cut _ at log h ∙ rw (← e₁, ← e₂) (need_met n Cut _ (at + 8) log s ∙ read-give _ (at + 8 + n) log
       ∙ ap (got (record { action = insert_of kind k.table k.index; payload = 8 + n })) (add_assoc at 8 n))
-
-  pub value-short : (k : Key) → length log - at < value_length k.description → read_at (value k) at log ≡ stopped Cut
-  unfolding value
-  value-short k h = need-short (value_length k.description) Cut _ at log h
 
   pub value_met : (k : Key) → value_length k.description ≤ length log - at
       → read_at (value k) at log ≡ got (record { action = insert_of Value k.table k.index; payload = value_length k.description }) (at + value_length k.description)
@@ -128,10 +104,6 @@ module _ (at : ℕ) (log : List ℕ) where
   abbrev pub table_in : Option (ℕ × TableDescription) → ℕ → Got ℕ
   table_in None t = stopped NoTable
   table_in (Some (row, d)) t = got t (at + 2)
-
-  pub table-short : (d : Directory) (kind : TableKind) → length log - at < 2 → read_at (table d kind) at log ≡ stopped Cut
-  unfolding table
-  table-short d kind h = need-short 2 Cut _ at log h
 
   pub table_met : (d : Directory) (kind : TableKind) (t : ℕ) (f : Option (ℕ × TableDescription)) → 2 ≤ length log - at → t ≡ little_at 2 log at → f ≡ find_table d kind t
       → read_at (table d kind) at log ≡ table_in f t
@@ -172,23 +144,6 @@ module _ (at : ℕ) (log : List ℕ) where
   unfolding begun_id
   begun_met id h e = need_met 8 EndOfLog _ at log h ∙ rw (← e) (read-give id (at + 8) log)
 
-  pub early-short : (k : ℕ) → length log - at < k → read_at (early k) at log ≡ stopped EndOfLog
-  unfolding early
-  early-short k h = need-short k EndOfLog _ at log h
-
-  pub early_met : (k : ℕ) → k ≤ length log - at → read_at (early k) at log ≡ stopped OutOfPlace
-  unfolding early
-  early_met k h = need_met k EndOfLog _ at log h ∙ read-refuse OutOfPlace (at + k) log
-
-  pub early-end-short : (validate : Bool) → length log - at < 4 → read_at (early_end validate) at log ≡ stopped EndOfLog
-  unfolding early_end
-  early-end-short validate h = need-short 4 EndOfLog _ at log h
-
-  pub early-end_met : (validate : Bool) (sum : ℕ) → 4 ≤ length log - at → sum ≡ little_at 4 log at
-      → read_at (early_end validate) at log ≡ tested (not validate || eqb sum (checksum_of (4 ∷ []))) (stopped OutOfPlace) WrongSum
-  unfolding early_end
-  early-end_met validate sum h e = need_met 4 EndOfLog _ at log h ∙ rw (← e) (test-refuse WrongSum (at + 4) log (not validate || eqb sum (checksum_of (4 ∷ []))) OutOfPlace)
-
   -- ---- the tag byte
 
   tag-here : get_or (take 1 (drop at log)) 0 0 ≡ get_or log at 0
@@ -217,39 +172,9 @@ module _ (at : ℕ) (log : List ℕ) where
 past : (k : ℕ) {n : ℕ} → k ≤ n → (n ≡ k → ⊥) → (n ≡ k + 1 → ⊥) → (n ≡ k + 2 → ⊥) → (n ≡ k + 3 → ⊥) → k + 4 ≤ n
 past k h a b c d = omega arith
 
--- the default of a `match` on 1 to 7 and 0 knows that the tag is none of them
+-- a tag that is none of 0 to 7
 pub no-tag : {tag : ℕ} → (tag ≡ 1 → ⊥) → (tag ≡ 2 → ⊥) → (tag ≡ 3 → ⊥) → (tag ≡ 4 → ⊥) → (tag ≡ 5 → ⊥) → (tag ≡ 6 → ⊥) → (tag ≡ 7 → ⊥) → (tag ≡ 0 → ⊥) → 8 ≤ tag
 no-tag {tag} n1 n2 n3 n4 n5 n6 n7 n0 = past 4 (past 0 zero-le n0 n1 n2 n3) n4 n5 n6 n7
-
-module _ (tag : ℕ) (h : 8 ≤ tag) where
-  not_tag : (k : ℕ) → k < 8 → eqb tag k ≡ false
-  not_tag k l = ne_eqb tag k (λ e. omega arith)
-
-  pub inside-unknown : (d : Directory) (validate : Bool) (register : ℕ) → inside_by d validate register tag ≡ refuse UnknownTag
-  unfolding inside_by
-  inside-unknown d validate register =
-      rw (
-        not_tag 1 (omega arith),
-        not_tag 2 (omega arith),
-        not_tag 3 (omega arith),
-        not_tag 4 (omega arith),
-        not_tag 5 (omega arith),
-        not_tag 6 (omega arith),
-        not_tag 7 (omega arith),
-      )
-
-  pub opening-unknown : (validate : Bool) → opening_by validate tag ≡ refuse UnknownTag
-  unfolding opening_by
-  opening-unknown validate =
-      rw (
-        not_tag 1 (omega arith),
-        not_tag 2 (omega arith),
-        not_tag 3 (omega arith),
-        not_tag 4 (omega arith),
-        not_tag 5 (omega arith),
-        not_tag 6 (omega arith),
-        not_tag 7 (omega arith),
-      )
 
 -- ---- a step taken, from what was read
 
@@ -259,18 +184,3 @@ back s l = omega arith
 pub item_step : (log : List ℕ) (r : LogReader) (i : ReadItem) (g : Got Item) (x : LogAction) (n : LogReader) → got_item (Ok i) ≡ g → x ≡ action_in i
     → n ≡ reader_after log r x (i.start + i.length) → Ok (record { action = x; start = i.start; length = i.length; reader = n }) ≡ stepped log r g
 item_step log r i g x n e q m = rw (← e, back i.start i.length, m, q)
-
--- the action of an insertion's tag
-pub inserted : (kind : TableKind) (t i : ℕ) → action_by (tag_of_kind kind) t i ≡ insert_of kind t i
-unfolding action_by
-inserted Index t i = refl
-inserted Value t i = refl
-inserted RefCount t i = refl
-
--- the action of a tag that was read
-pub acts : (n tag t i : ℕ) → tag ≡ n → action_by n t i ≡ action_by tag t i
-acts n tag t i e = ap (λ (x : ℕ). action_by x t i) (sym e)
-
-pub acts_else : (tag t i : ℕ) → (tag ≡ 2 → ⊥) → (tag ≡ 3 → ⊥) → (tag ≡ 4 → ⊥) → (tag ≡ 5 → ⊥) → (tag ≡ 6 → ⊥) → (tag ≡ 7 → ⊥) → BeginRecord ≡ action_by tag t i
-unfolding action_by
-acts_else tag t i a b c d e f = rw (ne_eqb tag 2 a, ne_eqb tag 3 b, ne_eqb tag 4 c, ne_eqb tag 5 d, ne_eqb tag 6 e, ne_eqb tag 7 f)

@@ -1,18 +1,14 @@
 -- What the reader's inner functions answer, seen as what a format reads. Nothing here has to be believed: `Next` says what `next` answers.
-use Rattle.std.specs.Prelude.{◌≡◌, List, ℕ, ◌+◌, eqb, get_or, Option, Some, None, Result, Ok, Err}
+use Rattle.std.specs.Prelude.{ℕ, ◌+◌, eqb, Result, Ok, Err}
 use Rattle.answer.specs.declared.answer.Answer.{Answer}
 use Rattle.std.specs.Prelude.{if◌then◌else◌}
-use Rattle.words.specs.Words.{little_at}
-use Rattle.directory.specs.Directory.{find_table}
 use Rattle.directory.specs.declared.table.TableKind.{TableKind}
 use Rattle.directory.specs.declared.table.TableKind.TheVariants.{Index, Value, RefCount}
 use Rattle.directory.specs.declared.directory.Directory.{Directory}
-use Rattle.directory.specs.declared.table.TableDescription.{TableDescription}
 use Rattle.record.specs.Format.{Format, Got, stopped, got}
 use Rattle.record.specs.Record.{Item, insert_of, drop_index, drop_ref_count, masked_item, valued_item}
 use Rattle.record.specs.declared.action.LogAction.{LogAction}
 use Rattle.record.specs.declared.action.LogAction.TheVariants.{BeginRecord, EndRecord}
-use Rattle.record.specs.declared.item.Key.{Key}
 use Rattle.record.specs.declared.item.ReadItem.{ReadItem}
 
 -- of a key, a table's number or an id, behind which the bytes read end

@@ -59,15 +59,7 @@ impl LogAction {
     pub fn is_end(self) -> bool
         ensures { result ≡ is_end self }
     {
-        match self {
-            LogAction::EndRecord => true,
-            LogAction::BeginRecord => false,
-            LogAction::InsertIndex(_) => false,
-            LogAction::InsertValue(_) => false,
-            LogAction::InsertRefCount(_) => false,
-            LogAction::DropTable(_) => false,
-            LogAction::DropRefCountTable(_) => false,
-        }
+        matches!(self, LogAction::EndRecord)
     }
 
     pub fn tag(self) -> Tag

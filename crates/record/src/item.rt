@@ -30,6 +30,7 @@ pub struct ReadItem {
 }
 
 impl ReadItem {
+    #[tactic(auto, unfolding(crate::specs::Inner::action_by))]
     pub fn action(self) -> LogAction
         ensures { result ≡ action_in self }
     {
@@ -46,6 +47,7 @@ impl ReadItem {
 }
 
 // Table and index, behind the tag of an insertion.
+#[tactic(auto, unfolding(crate::specs::Format::read_at, crate::specs::Record::key))]
 fn key_at<T: Tables>(tables: &T, log: &[u8], body: usize, kind: TableKind) -> Result<Key, Answer>
     requires formed { T.formed tables.now }
     requires in_bounds { body ≤ length log.now }
@@ -82,6 +84,7 @@ fn insert_tag(kind: TableKind) -> Tag
 }
 
 // The mask and its entries, behind a key.
+#[tactic(auto, unfolding(crate::specs::Format::read_at, crate::specs::Record::chunk, crate::specs::Inner::action_by))]
 fn chunk_at(
     log: &[u8],
     start: usize,
@@ -110,6 +113,7 @@ fn chunk_at(
 }
 
 // The value, behind a key. A record has as many bytes for a value as its table says.
+#[tactic(auto, unfolding(crate::specs::Format::read_at, crate::specs::Record::value, crate::specs::Inner::action_by))]
 fn value_at(log: &[u8], start: usize, k: Key) -> Result<ReadItem, Answer>
     requires { start ≤ length log.now }
     ensures { got_item result ≡ read_at (value k) start log.now }
@@ -156,6 +160,7 @@ fn sum_holds(validate: bool, register: u32, sum: u32) -> bool
 }
 
 // Tag 4.
+#[tactic(auto, unfolding(crate::specs::Format::read_at, crate::specs::Record::ended_item, crate::specs::Inner::action_by))]
 fn ended_at(log: &[u8], body: usize, validate: bool, register: u32) -> Result<ReadItem, Answer>
     requires { body ≤ length log.now }
     ensures { got_item result ≡ read_at (ended_item validate register) body log.now }
@@ -177,6 +182,7 @@ fn ended_at(log: &[u8], body: usize, validate: bool, register: u32) -> Result<Re
 }
 
 // A table's number, behind the tag of a drop.
+#[tactic(auto, unfolding(crate::specs::Format::read_at, crate::specs::Record::table))]
 fn table_at<T: Tables>(tables: &T, log: &[u8], body: usize, kind: TableKind) -> Result<u16, Answer>
     requires formed { T.formed tables.now }
     requires in_bounds { body ≤ length log.now }
@@ -215,6 +221,7 @@ fn dropped_at<T: Tables>(
 }
 
 // The decision on the tag, inside a record.
+#[tactic(auto, unfolding(crate::specs::Format::read_at, crate::specs::Record::inside, crate::specs::Record::inside_by, crate::specs::Inner::action_by))]
 pub fn item_at<T: Tables>(
     tables: &T,
     log: &[u8],

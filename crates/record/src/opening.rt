@@ -4,9 +4,10 @@ ghost use Rattle.record.specs.Format.{read_at};
 ghost use Rattle.record.specs.Inner.{got_by};
 ghost use Rattle.record.specs.Record.{begun_id, early, early_end, opening};
 
-use answer::Answer;
+use answer::{Answer, Tag};
 
 // Tag 1.
+#[tactic(auto, unfolding(crate::specs::Format::read_at, crate::specs::Record::begun_id))]
 fn begun_at(log: &[u8], body: usize) -> Result<u64, Answer>
     requires { body ≤ length log.now }
     ensures { got_by result (body + 8) ≡ read_at begun_id body log.now }
@@ -18,6 +19,7 @@ fn begun_at(log: &[u8], body: usize) -> Result<u64, Answer>
 }
 
 // An action other than begin, of which so many bytes are wanted behind the tag.
+#[tactic(auto, unfolding(crate::specs::Format::read_at, crate::specs::Record::early))]
 fn early_at(log: &[u8], body: usize, k: usize) -> Result<u64, Answer>
     requires { body ≤ length log.now }
     ensures { got_by result (body + 8) ≡ read_at (early k) body log.now }
@@ -29,6 +31,7 @@ fn early_at(log: &[u8], body: usize, k: usize) -> Result<u64, Answer>
 }
 
 // Tag 4.
+#[tactic(auto, unfolding(crate::specs::Format::read_at, crate::specs::Record::early_end))]
 fn early_end_at(log: &[u8], body: usize, validate: bool) -> Result<u64, Answer>
     requires { body ≤ length log.now }
     ensures { got_by result (body + 8) ≡ read_at (early_end validate) body log.now }
@@ -37,17 +40,15 @@ fn early_end_at(log: &[u8], body: usize, validate: bool) -> Result<u64, Answer>
         return Err(Answer::EndOfLog);
     }
     let sum = words::u32_at(log, body);
-    if !validate {
-        return Err(Answer::OutOfPlace);
-    }
-    if sum == checksum::checksum(b"\x04") {
-        Err(Answer::OutOfPlace)
-    } else {
+    if validate && sum != checksum::checksum(&[Tag::END_RECORD.0]) {
         Err(Answer::WrongSum)
+    } else {
+        Err(Answer::OutOfPlace)
     }
 }
 
 // The decision on the tag, where a record opens.
+#[tactic(auto, unfolding(crate::specs::Format::read_at, crate::specs::Record::opening, crate::specs::Record::opening_by))]
 pub fn opening_at(log: &[u8], at: usize, validate: bool) -> Result<u64, Answer>
     requires { at ≤ length log.now }
     ensures { got_by result (at + 1 + 8) ≡ read_at (opening validate) at log.now }

@@ -3,7 +3,7 @@ ghost use Rattle.std.specs.Prelude.{◌≡◌, true, false, ◌+◌, ◌≤◌, 
 ghost use Rattle.directory.specs.Directory.{directory_kept};
 ghost use Rattle.directory.specs.declared.directory.Directory.{Directory};
 ghost use Rattle.record.specs.Format.{read_at};
-ghost use Rattle.record.specs.Next.{refused, reader_at, plain, forward_to, reader_after, stepped, opened, opening_of, step_of, next_of};
+ghost use Rattle.record.specs.Next.{reader_at, plain, forward_to, reader_after, stepped, opened, opening_of, step_of, next_of};
 ghost use Rattle.record.specs.Record.{inside, opening};
 
 use super::action::LogAction;
@@ -33,12 +33,6 @@ pub struct Stepped {
     pub reader: LogReader,
 }
 
-fn refuse(answer: Answer, position: usize) -> Result<Stepped, Refusal>
-    ensures { result ≡ refused answer position }
-{
-    Err(Refusal::new(answer, position))
-}
-
 impl LogReader {
     // A reader between records.
     pub fn new(position: usize, validate: bool) -> LogReader
@@ -64,27 +58,30 @@ impl LogReader {
         ensures { result ≡ plain self }
     {
         LogReader {
-            position: self.position,
-            record_id: self.record_id,
             crc32: checksum::START,
             validate: false,
-            inside: self.inside,
+            ..self
         }
     }
 
+    #[tactic(auto, unfolding(crate::specs::Next::forward_to))]
     fn forward(self, log: &[u8], end: usize) -> LogReader
         requires { (self.position ≤ end) × (end ≤ length log.now) }
         ensures { result ≡ forward_to log.now self end }
     {
-        let at = self.position;
-        let mut r = self;
-        r.position = end;
-        if self.validate {
-            r.crc32 = checksum::update(self.crc32, &log[at..end]);
+        let crc32 = if self.validate {
+            checksum::update(self.crc32, &log[self.position..end])
+        } else {
+            self.crc32
+        };
+        LogReader {
+            position: end,
+            crc32,
+            ..self
         }
-        r
     }
 
+    #[tactic(auto, unfolding(crate::specs::Next::reader_after))]
     fn after(self, log: &[u8], action: LogAction, end: usize) -> LogReader
         requires { (self.position ≤ end) × (end ≤ length log.now) }
         ensures { result ≡ reader_after log.now self action end }
@@ -92,10 +89,9 @@ impl LogReader {
         if action.is_end() {
             LogReader {
                 position: end,
-                record_id: self.record_id,
                 crc32: checksum::START,
-                validate: self.validate,
                 inside: false,
+                ..self
             }
         } else {
             self.forward(log, end)
@@ -108,8 +104,9 @@ impl LogReader {
         requires in_bounds { self.position ≤ length log.now }
         ensures { result ≡ stepped log.now self (read_at (inside (T.directory tables.now) self.validate self.crc32) self.position log.now) }
     {
-        let item = item_at(tables, log, self.position, self.validate, self.crc32).map_err(
-            |answer| Refusal::new(answer, self.position),
+        let at = self.position;
+        let item = item_at(tables, log, at, self.validate, self.crc32).map_err(
+            |answer| Refusal::new(answer, at),
         )?;
         let action = item.action();
         Ok(Stepped {
@@ -126,44 +123,43 @@ impl LogReader {
         ensures { result ≡ opened log.now self (read_at (opening self.validate) self.position log.now) }
     {
         let at = self.position;
-        match opening_at(log, at, self.validate) {
-            Err(a) => refuse(a, at),
-            Ok(id) => {
-                let begun = LogReader {
-                    position: at,
-                    record_id: id,
-                    crc32: checksum::START,
-                    validate: self.validate,
-                    inside: true,
-                };
-                let end = at + 1 + 8;
-                Ok(Stepped {
-                    action: LogAction::BeginRecord,
-                    start: end,
-                    length: 0,
-                    reader: begun.forward(log, end),
-                })
-            }
-        }
+        let record_id = opening_at(log, at, self.validate).map_err(|answer| Refusal::new(
+            answer, at,
+        ))?;
+        let begun = LogReader {
+            record_id,
+            crc32: checksum::START,
+            inside: true,
+            ..self
+        };
+        let end = at + 1 + 8;
+        Ok(Stepped {
+            action: LogAction::BeginRecord,
+            start: end,
+            length: 0,
+            reader: begun.forward(log, end),
+        })
     }
 
     // A record's opening, which needs no directory.
+    #[tactic(auto, unfolding(crate::specs::Next::opening_of))]
     pub fn open(self, log: &[u8]) -> Result<Stepped, Refusal>
         ensures { result ≡ opening_of log.now self }
     {
         if log.len() < self.position {
-            return refuse(Answer::BadArgument, self.position);
+            return Err(Refusal::new(Answer::BadArgument, self.position));
         }
         self.step_opening(log)
     }
 
     // The next action under a directory that was tested already.
+    #[tactic(auto, unfolding(crate::specs::Next::step_of))]
     pub fn next_kept(self, directory: Directory, log: &[u8]) -> Result<Stepped, Refusal>
         requires { directory_kept directory ≡ true }
         ensures { result ≡ step_of directory log.now self }
     {
         if log.len() < self.position {
-            return refuse(Answer::BadArgument, self.position);
+            return Err(Refusal::new(Answer::BadArgument, self.position));
         }
         if self.inside {
             self.step_inside(&directory, log)
@@ -173,13 +169,14 @@ impl LogReader {
     }
 
     // The next action of the log.
+    #[tactic(auto, unfolding(crate::specs::Next::next_of))]
     pub fn next(self, directory: Directory, log: &[u8]) -> Result<Stepped, Refusal>
         ensures { result ≡ next_of directory log.now self }
     {
         if directory.kept() {
             self.next_kept(directory, log)
         } else {
-            refuse(Answer::BadState, self.position)
+            Err(Refusal::new(Answer::BadState, self.position))
         }
     }
 }

@@ -1,14 +1,8 @@
--- `key_at` meets its contract. Assumes nothing.
+-- `key_at` meets its contract: the index is below the table's count, or not. Assumes nothing.
 use mathlib.Core.Path.{sym, ◌∙◌}
 use borrow.Author.Tests.{lt-ltb, le-ltb}
-use Rattle.record.proofs.Parts.{key-short, key_met}
+use Rattle.record.proofs.Parts.{key_met}
 use Rattle.record.proofs.item.key_at.Goals as goal
-
-pub returns-then-log-body-lt10 : goal.returns-then-log-body-lt10
-returns-then-log-body-lt10 g c = sym (key-short _ _ _ _ c.if-log-body-lt10.true)
-
-pub returns-in_default : goal.returns-in_default
-returns-in_default g c = sym (key_met _ _ _ _ _ _ _ c.if-log-body-lt10.false c.u16_at-table.ensures c.u64_at-index.ensures (sym c.in_default.is ∙ c.find.ensures))
 
 pub returns-then-index-from : goal.returns-then-index-from
 returns-then-index-from g c =
