@@ -13,14 +13,14 @@ use Rattle.checksum.specs.Checksum.{checksum_of}
 use Rattle.directory.specs.Directory.{directory_kept, image_length}
 use Rattle.directory.specs.Inner.{directory_in, Flat}
 use Rattle.directory.specs.declared.directory.Directory.{Directory}
-use Rattle.answer.specs.declared.answer.Answer.TheVariants.{Done, WrongSum, BadState}
+use Rattle.answer.specs.declared.answer.Answer.TheVariants.{WrongSum, BadState}
 use Rattle.record.specs.declared.reader.LogReader.{LogReader}
 use Rattle.effect.specs.Effect.{Written}
 use Rattle.record.specs.Next.{plain}
 use Rattle.answer.specs.declared.answer.Refusal.{Refusal}
 use Rattle.answer.specs.Answer.{refusal}
 use Rattle.replay.specs.Inner.{is_walked, Opened, Walker, FlatFor}
-use Rattle.replay.specs.Replay.{Walked, fault, walked, record_at, tables_kept, judged, replayed_as, image_after, end_in}
+use Rattle.replay.specs.Replay.{Walked, fault, walked, record_at, tables_kept, judged, image_after, end_in}
 use Rattle.replay.specs.Sum.{sum_held, sum_tested}
 use Rattle.replay.proofs.Places.{EndsIn, ends_in}
 use Rattle.replay.proofs.Rest.{whole}
@@ -36,12 +36,11 @@ pub not_ended_lem : (g : Walked (List Written)) (a : Refusal) → Err a ≡ end_
 not_ended_lem (fault x) a e = let p : x ≡ a = cc in ap {B = Walked (List Written)} fault p
 not_ended_lem (walked ws x) a e = let z : ◌≡◌ {A = ℕ} 0 1 = cc in absurd (omega arith)
 
--- an answer by where a record ended: what `replay` says, and what becomes of the image
-pub ended_as : (at end : ℕ) (g : Walked (List Written)) → Ok end ≡ end_in g → record { answer = Done; position = end; fault_at = end } ≡ replayed_as at g
-ended_as at end g e = sym (ap (replayed_as at) (ended-walked g end e).1)
-
-pub not_ended_as : (at : ℕ) (a : Refusal) (g : Walked (List Written)) → Err a ≡ end_in g → record { answer = a.answer; position = at; fault_at = a.position } ≡ replayed_as at g
-not_ended_as at a g e = sym (ap (replayed_as at) (not_ended_lem g a e))
+-- a record that is read to its end has at least the end tag's 5 bytes, within the log
+pub ended-place : (d : Directory) (log : List ℕ) (r : LogReader) (end : ℕ) → Walker log r → Ok end ≡ end_in (whole d log r) → EndsIn log r end
+ended-place d log r end w e =
+    let g = ended-walked (whole d log r) end e in
+    ends_in d log (suc (length log)) r g.0 end w.inside g.1
 
 pub untouched : (d : Directory) (image : List ℕ) (a : Refusal) (g : Walked (List Written)) → Err a ≡ end_in g → image ≡ image_after d image g
 untouched d image a g e = sym (ap (image_after d image) (not_ended_lem g a e))
@@ -83,12 +82,6 @@ module _ (d : Directory) (log : List ℕ) (at : ℕ) (r : LogReader) (o : Opened
   second-leaves image end e =
       let g = ended-walked (whole d log r) end e in
       ap (image_after d image) (plain-walked d log at (suc (length log)) r g.0 end o g.1 ∙ sym g.1)
-
-  pub checked-place : (end : ℕ) → Ok end ≡ end_in (whole d log (plain r)) → EndsIn log r end
-  checked-place end e =
-      let g = ended-walked (whole d log (plain r)) end e in
-      let k : EndsIn log (plain r) end = ends_in d log (suc (length log)) (plain r) g.0 end o.inside g.1 in
-      record { five = k.five; inside = k.inside }
 
 -- ---- 13 first
 

@@ -6,7 +6,6 @@ use mathlib.Core.Option
 use Prim.Native.Nat.{ℕ, zero, suc, ◌<◌}
 use native.Mathlib.Omega.{arith}
 use lib.ListN.{length, get_or}
-use Rattle.std.specs.Prelude.{if◌then◌else◌}
 use Rattle.words.proofs.Choices.{if_true, if_false}
 use Rattle.directory.specs.declared.directory.Directory.{Directory}
 use Rattle.record.specs.Next.{is_end, step_of}

@@ -1,26 +1,24 @@
 -- Where a refused record is at fault (document 02, "Five. Where is it broken?"). Assumes nothing.
-use mathlib.Core.Path.{◌≡◌, refl, sym, ap, ◌∙◌, subst}
+use mathlib.Core.Path.{◌≡◌, refl, sym, ap, ◌∙◌}
 use mathlib.Core.Bool.{Bool, true, false, true≢false}
 use mathlib.Core.List.{List, [], ◌∷◌, append-nil}
 use Prim.Native.Nat.{ℕ, zero, suc, ◌+◌, ◌-◌, ◌≤◌, ◌<◌}
 use native.Mathlib.Omega.{arith}
 use lib.Dec.{eqb, ltb}
-use lib.ListN.{length, get_or, take}
+use lib.ListN.{length, take}
 use lib.Seq.{length-take-le}
 use borrow.Author.Tests.{eq-eqb, ne_eqb, eqb-false, le-ltb}
-use Rattle.std.specs.Prelude.{if◌then◌else◌}
 use Rattle.words.specs.Words.{little_at}
 use Rattle.words.proofs.Choices.{if_true, if_false}
 use Rattle.checksum.specs.Checksum.{updated, finished}
 use Rattle.answer.specs.Answer.{refusal}
-use Rattle.answer.specs.declared.answer.Answer.{Answer}
 use Rattle.answer.specs.declared.answer.Answer.TheVariants.{EndOfLog, Cut, WrongId, WrongSum}
 use Rattle.answer.specs.declared.answer.Refusal.{Refusal}
 use Rattle.directory.specs.declared.directory.Directory.{Directory}
 use Rattle.record.specs.Fault.{inside_fault, opening_fault, NotWhole}
 use Rattle.record.specs.Format.{Got, stopped, got, read_at}
 use Rattle.record.specs.Next.{is_end, reader_at, refused, stepped, opened, step_of}
-use Rattle.record.specs.Record.{Item, inside, opening}
+use Rattle.record.specs.Record.{Item, inside}
 use Rattle.record.specs.declared.reader.LogReader.{LogReader}
 use Rattle.record.specs.declared.reader.Stepped.{Stepped}
 use Rattle.record.proofs.Begins.{begun}
@@ -30,7 +28,7 @@ use Rattle.record.proofs.Parts.{tested, inside-short, opening-short}
 use Rattle.record.proofs.Steps.{step-on}
 use Rattle.effect.specs.Effect.{Written}
 use Rattle.replay.specs.Fault.{AtFault, beyond, no_record, at-opening, at-begin, at-end, at-action, cut_there}
-use Rattle.replay.specs.Replay.{Walked, fault, walked, written_in, add_first, by_step, rest_of, rest_in, by_opening, record_at, tables_kept}
+use Rattle.replay.specs.Replay.{Walked, fault, written_in, add_first, by_step, rest_of, rest_in, by_opening, record_at, tables_kept}
 use Rattle.replay.specs.Run.{Outcome, run_of, Chain, chain_end, chain_more, Stops, refuses, used-up}
 use Rattle.replay.proofs.Answers.{unfirst}
 use Rattle.replay.proofs.Cut.{step_cut}

@@ -8,7 +8,6 @@ use lib.Dec.{eqb, ltb}
 use lib.ListN.{length, get_or, take, drop}
 use lib.Seq.{take-add, drop-drop, drop-cons}
 use borrow.Author.Tests.{le-ltb}
-use Rattle.std.specs.Prelude.{if◌then◌else◌}
 use Rattle.words.specs.Words.{little_at}
 use Rattle.words.proofs.Choices.{if_true, if_false}
 use Rattle.checksum.specs.Checksum.{all_ones, updated, finished, checksum_of}

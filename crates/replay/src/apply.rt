@@ -12,10 +12,7 @@ pub fn apply_rest(t: &[u64; 81], log: &[u8], r: LogReader, image: &mut [u8])
     ensures { image.new ≡ image_after (directory_in t.now) image.old (rest_in (directory_in t.now) log.now r) }
 {
     let mut at = r.position;
-    loop {
-        let Ok(item) = record::item_at(t, log, at, r.validate, r.crc32) else {
-            return;
-        };
+    while let Ok(item) = record::item_at(t, log, at, r.validate, r.crc32) {
         let action = item.action();
         if action.is_end() {
             return;

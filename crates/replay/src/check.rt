@@ -1,5 +1,5 @@
 // The first pass over a record: from its opening to its end.
-ghost use Rattle.std.specs.Prelude.{◌≡◌};
+ghost use Rattle.std.specs.Prelude.{◌≡◌, ◌+◌, ◌≤◌, length, IfOk};
 ghost use Rattle.directory.specs.Inner.{directory_in, Flat};
 ghost use Rattle.replay.specs.Inner.{Opened, Walker};
 ghost use Rattle.replay.specs.Replay.{rest_in, end_in};
@@ -10,7 +10,8 @@ use record::LogReader;
 // From inside a record to the place behind it, or the fault before. The walk keeps its place alone: a whole reader would be copied at each action.
 fn end_of(t: &[u64; 81], log: &[u8], r: LogReader) -> Result<usize, Refusal>
     requires { Flat t.now × Walker log.now r }
-    ensures { result ≡ end_in (rest_in (directory_in t.now) log.now r) }
+    ensures end { result ≡ end_in (rest_in (directory_in t.now) log.now r) }
+    ensures in_bounds { IfOk result (λ end. (r.position + 5 ≤ end) × (end ≤ length log.now)) }
 {
     let mut at = r.position;
     loop {

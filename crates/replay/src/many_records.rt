@@ -1,12 +1,12 @@
 // Records one behind the other.
-ghost use Rattle.std.specs.Prelude.{◌≡◌, true};
+ghost use Rattle.std.specs.Prelude.{◌≡◌, true, []};
 ghost use Rattle.directory.specs.Inner.{directory_in};
 ghost use Rattle.replay.specs.Inner.{FlatFor};
 ghost use Rattle.replay.specs.Replay.{tables_kept};
-ghost use Rattle.replay.specs.Run.{run_in, run_of};
+ghost use Rattle.replay.specs.Run.{stops, run_in, run_of};
 
 use super::one_record::{replay_in, tables_kept};
-use answer::Answer;
+use answer::{Answer, Refusal};
 use directory::Directory;
 
 // `position` is where the record not replayed begins, `fault_at` where the action at fault begins.
@@ -16,6 +16,18 @@ pub struct Ran {
     pub position: usize,
     pub count: u64,
     pub fault_at: usize,
+}
+
+// A stop with that refusal, at a position and after so many records.
+fn stopped(refusal: Refusal, position: usize, count: u64) -> Ran
+    ensures { result ≡ (stops refusal position count []).ran }
+{
+    Ran {
+        answer: refusal.answer,
+        position,
+        count,
+        fault_at: refusal.position,
+    }
 }
 
 // A run under a directory in numbers.
@@ -28,28 +40,16 @@ fn run_in(t: &[u64; 81], log: &[u8], at: usize, expected: u64, image: &mut [u8])
     let mut count = 0;
     loop {
         match replay_in(t, log, position, id, image) {
-            Err(x) => {
-                return Ran {
-                    answer: x.answer,
-                    position,
-                    count,
-                    fault_at: x.position,
-                };
-            }
+            Err(refusal) => return stopped(refusal, position, count),
             Ok(end) => {
                 position = end;
                 count += 1;
-                if id == answer::LAST_RECORD_ID {
-                    return Ran {
-                        answer: Answer::UsedUp,
-                        position,
-                        count,
-                        fault_at: position,
-                    };
-                }
-                id += 1;
             }
         }
+        if id == answer::LAST_RECORD_ID {
+            return stopped(Refusal::new(Answer::UsedUp, position), position, count);
+        }
+        id += 1;
     }
 }
 
@@ -63,17 +63,13 @@ pub fn run_kept(d: Directory, log: &[u8], at: usize, expected: u64, image: &mut 
 }
 
 // Replays from a position, the expected id rising by 1, up to the first answer other than 0.
+#[tactic(auto, unfolding(crate::specs::Run::run_of))]
 pub fn run(d: Directory, log: &[u8], at: usize, expected: u64, image: &mut [u8]) -> Ran
     ensures { (result ≡ (run_of d log.now at expected image.old).ran) × (image.new ≡ (run_of d log.now at expected image.old).image) }
 {
     if tables_kept(d, image) {
         run_kept(d, log, at, expected, image)
     } else {
-        Ran {
-            answer: Answer::BadState,
-            position: at,
-            count: 0,
-            fault_at: at,
-        }
+        stopped(Refusal::new(Answer::BadState, at), at, 0)
     }
 }

@@ -69,6 +69,7 @@ pub fn tables_kept(d: Directory, image: &[u8]) -> bool
 }
 
 // Replays the record at a position, if it is whole and acceptable and has the expected id: the place behind it. A refusal moves nothing.
+#[tactic(auto, unfolding(crate::specs::Replay::judged))]
 pub fn replay(
     d: Directory,
     log: &[u8],
