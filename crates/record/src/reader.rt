@@ -1,5 +1,6 @@
 // The reader: where it stands in a log, and its step to the next action.
 ghost use Rattle.std.specs.Prelude.{◌≡◌, true, false, ◌+◌, ◌≤◌, length};
+ghost use Rattle.answer.specs.Answer.{refusal};
 ghost use Rattle.directory.specs.Directory.{directory_kept};
 ghost use Rattle.directory.specs.declared.directory.Directory.{Directory};
 ghost use Rattle.record.specs.Format.{read_at};
@@ -98,16 +99,21 @@ impl LogReader {
         }
     }
 
+    // A refusal, told where the reader stands.
+    fn refusal(self, answer: Answer) -> Refusal
+        ensures { result ≡ refusal answer self.position }
+    {
+        Refusal::new(answer, self.position)
+    }
+
     // Inside a record.
     fn step_inside<T: Tables>(self, tables: &T, log: &[u8]) -> Result<Stepped, Refusal>
         requires formed { T.formed tables.now }
         requires in_bounds { self.position ≤ length log.now }
         ensures { result ≡ stepped log.now self (read_at (inside (T.directory tables.now) self.validate self.crc32) self.position log.now) }
     {
-        let at = self.position;
-        let item = item_at(tables, log, at, self.validate, self.crc32).map_err(
-            |answer| Refusal::new(answer, at),
-        )?;
+        let read = item_at(tables, log, self.position, self.validate, self.crc32);
+        let item = read.map_err(|answer| self.refusal(answer))?;
         let action = item.action();
         Ok(Stepped {
             action,
@@ -122,17 +128,15 @@ impl LogReader {
         requires { self.position ≤ length log.now }
         ensures { result ≡ opened log.now self (read_at (opening self.validate) self.position log.now) }
     {
-        let at = self.position;
-        let record_id = opening_at(log, at, self.validate).map_err(|answer| Refusal::new(
-            answer, at,
-        ))?;
+        let read = opening_at(log, self.position, self.validate);
+        let record_id = read.map_err(|answer| self.refusal(answer))?;
         let begun = LogReader {
             record_id,
             crc32: checksum::START,
             inside: true,
             ..self
         };
-        let end = at + 1 + 8;
+        let end = self.position + 1 + 8;
         Ok(Stepped {
             action: LogAction::BeginRecord,
             start: end,
@@ -147,7 +151,7 @@ impl LogReader {
         ensures { result ≡ opening_of log.now self }
     {
         if log.len() < self.position {
-            return Err(Refusal::new(Answer::BadArgument, self.position));
+            return Err(self.refusal(Answer::BadArgument));
         }
         self.step_opening(log)
     }
@@ -159,7 +163,7 @@ impl LogReader {
         ensures { result ≡ step_of directory log.now self }
     {
         if log.len() < self.position {
-            return Err(Refusal::new(Answer::BadArgument, self.position));
+            return Err(self.refusal(Answer::BadArgument));
         }
         if self.inside {
             self.step_inside(&directory, log)
@@ -176,7 +180,7 @@ impl LogReader {
         if directory.kept() {
             self.next_kept(directory, log)
         } else {
-            Err(Refusal::new(Answer::BadState, self.position))
+            Err(self.refusal(Answer::BadState))
         }
     }
 }

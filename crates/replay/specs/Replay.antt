@@ -64,13 +64,13 @@ abbrev pub end_in : Walked (List Written) → Result ℕ Refusal
 end_in (fault x) = Err x
 end_in (walked ws end) = Ok end
 
--- what that says: the answer; the position behind the record, or the one handed in; and where the fault is, the position behind the record if
--- there is none
+-- such an answer by its parts: the number's case, a position, and where the fault is
 pub record Replayed : Type 0 where
   pub answer : Answer
   pub position : ℕ
   pub fault_at : ℕ
 
+-- beside 0 the position behind the record, twice; beside a refusal the one handed in, and the fault's
 abbrev pub replayed_by : ℕ → Result ℕ Refusal → Replayed
 replayed_by at (Err x) = record { answer = x.answer; position = at; fault_at = x.position }
 replayed_by at (Ok end) = record { answer = Done; position = end; fault_at = end }

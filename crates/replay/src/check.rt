@@ -15,9 +15,8 @@ fn end_of(t: &[u64; 81], log: &[u8], r: LogReader) -> Result<usize, Refusal>
 {
     let mut at = r.position;
     loop {
-        let item = record::item_at(t, log, at, r.validate, r.crc32).map_err(|answer| Refusal::new(
-            answer, at,
-        ))?;
+        let read = record::item_at(t, log, at, r.validate, r.crc32);
+        let item = read.map_err(|answer| Refusal::new(answer, at))?;
         at = item.start + item.length;
         if item.action().is_end() {
             return Ok(at);

@@ -26,13 +26,13 @@ returns-in_err-item-clause-end c =
     let p = err_from_is_err_and c.from_residual.result c.from_residual.ensures.1 in
     let q : c.in_err-item.field-0.0 ≡ refusal m.0 l.at = search rules in
     rw (p.1, p.2, q)
-    (sym (ap end_in (stop d a.log.now (moved_to a.r l.at) _ (item_refused d a.log.now a.r c.requires.1 l.at l.invariant.in_bounds _ (sym (ap got_item m.1) ∙ c.item_at.ensures))))
+    (sym (ap end_in (stop d a.log.now (moved_to a.r l.at) _ (item_refused d a.log.now a.r c.requires.1 l.at l.invariant.in_bounds _ (sym (ap got_item m.1) ∙ c.item_at-read.ensures))))
     ∙ l.invariant.same)
 
 pub overflow_add-at : goal.overflow_add-at
 overflow_add-at c =
     let a = c.args in
-    let taken = sym (ap got_item (mapped_ok _ _ _ _ c.map_err.ensures.cases c.in_ok-item.was)) ∙ c.item_at.ensures in
+    let taken = sym (ap got_item (mapped_ok _ _ _ _ c.map_err.ensures.cases c.in_ok-item.was)) ∙ c.item_at-read.ensures in
     omega (arith, (item_place (directory_in a.t.now) a.log.now a.r c.requires.1 c.loop-item.at c.loop-item.invariant.in_bounds c.in_ok-item.item _ refl taken).1)
 
 pub returns-then-is_end : goal.returns-then-is_end
@@ -41,7 +41,7 @@ returns-then-is_end c =
     let d = directory_in a.t.now in
     let l = c.loop-item in
     let i = c.in_ok-item.item in
-    let taken = sym (ap got_item (mapped_ok _ _ _ _ c.map_err.ensures.cases c.in_ok-item.was)) ∙ c.item_at.ensures in
+    let taken = sym (ap got_item (mapped_ok _ _ _ _ c.map_err.ensures.cases c.in_ok-item.was)) ∙ c.item_at-read.ensures in
     let e = item_taken d a.log.now a.r c.requires.1 l.at l.invariant.in_bounds i _ c.action.ensures taken in
     let ended =
     ap Ok (sym (item_ends d a.log.now a.r c.requires.1 l.at l.invariant.in_bounds _ _ c.action.ensures taken))
@@ -53,7 +53,7 @@ returns-then-is_end c =
 pub loop-item-smaller : goal.loop-item-smaller
 loop-item-smaller c =
     let a = c.args in
-    let taken = sym (ap got_item (mapped_ok _ _ _ _ c.map_err.ensures.cases c.in_ok-item.was)) ∙ c.item_at.ensures in
+    let taken = sym (ap got_item (mapped_ok _ _ _ _ c.map_err.ensures.cases c.in_ok-item.was)) ∙ c.item_at-read.ensures in
     let p = item_place (directory_in a.t.now) a.log.now a.r c.requires.1 c.loop-item.at c.loop-item.invariant.in_bounds c.in_ok-item.item _ c.action.ensures taken in
     omega (arith, p.0, p.1)
 
@@ -64,7 +64,7 @@ loop-item-preserved c =
     let log = a.log.now in
     let l = c.loop-item in
     let i = c.in_ok-item.item in
-    let taken = sym (ap got_item (mapped_ok _ _ _ _ c.map_err.ensures.cases c.in_ok-item.was)) ∙ c.item_at.ensures in
+    let taken = sym (ap got_item (mapped_ok _ _ _ _ c.map_err.ensures.cases c.in_ok-item.was)) ∙ c.item_at-read.ensures in
     let e = item_taken d log a.r c.requires.1 l.at l.invariant.in_bounds i _ c.action.ensures taken in
     let ended = sym c.is_end.ensures ∙ c.if-is_end.false in
     record {

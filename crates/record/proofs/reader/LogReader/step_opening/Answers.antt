@@ -12,5 +12,5 @@ use Rattle.record.proofs.reader.LogReader.step_opening.Goals as goal
 pub forward-requires : goal.forward-requires
 forward-requires c =
     let end = c.args.self.position + 1 + 8 in
-    let w = within (opening _) _ _ _ _ c.requires (sym c.opening_at.ensures ∙ ap (λ (x : Result ℕ Answer). got_by x end) (mapped_ok _ _ _ _ c.map_err.ensures.cases c.in_ok-record_id.was)) in
+    let w = within (opening _) _ _ _ _ c.requires (sym c.opening_at-read.ensures ∙ ap (λ (x : Result ℕ Answer). got_by x end) (mapped_ok _ _ _ _ c.map_err.ensures.cases c.in_ok-record_id.was)) in
     (w.behind, w.inside)
