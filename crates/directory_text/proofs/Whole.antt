@@ -1,7 +1,7 @@
 -- Laws of the whole text. Assumes nothing.
 use mathlib.Core.Path.{◌≡◌, refl, sym, ap, ◌∙◌}
 use mathlib.Core.Bool.{Bool, true, false}
-use mathlib.Core.List.{List, [], ◌∷◌}
+use mathlib.Core.List.{List, ◌∷◌}
 use Prim.Native.Nat.{ℕ, ◌+◌, ◌-◌, ◌≤◌, ◌<◌}
 use native.Mathlib.Omega.{arith}
 use borrow.Author.Tests.{le-leb, lt-leb, leb-false}
@@ -13,7 +13,7 @@ use Rattle.directory.specs.Table.{table_kept}
 use Rattle.directory.specs.Directory.{no_tables, find_table}
 use Rattle.directory.specs.declared.table.TableDescription.{TableDescription}
 use Rattle.directory.specs.declared.directory.Directory.{Directory}
-use Rattle.directory.specs.declared.directory.Found.TheVariants.{At, Nothing}
+use Rattle.std.specs.Prelude.{Some, None}
 use Rattle.directory_text.specs.Scan.{scans_past, front, text_lines}
 use Rattle.directory_text.specs.Line.{is_any, line_in}
 use Rattle.directory_text.specs.Text.{fault_of, added, at-line, with_table, of_line, with_line, from_lines, parsed}
@@ -37,11 +37,11 @@ module _ (d : Directory) (t : TableDescription) where
     rule_broken e = rw (lt-leb 16 d.count h, e)
 
     module _ (e : table_kept t ≡ true) where
-      pub name-taken : {row : ℕ} {u : TableDescription} → find_table d t.kind t.number ≡ At row u → fault.NameTaken ≡ fault_of d t
+      pub name-taken : {row : ℕ} {u : TableDescription} → find_table d t.kind t.number ≡ Some (row, u) → fault.NameTaken ≡ fault_of d t
       unfolding fault_of
       name-taken f = rw (lt-leb 16 d.count h, e, f)
 
-      pub name_free : find_table d t.kind t.number ≡ Nothing → fault.None ≡ fault_of d t
+      pub name_free : find_table d t.kind t.number ≡ None → fault.None ≡ fault_of d t
       unfolding fault_of
       name_free f = rw (lt-leb 16 d.count h, e, f)
 

@@ -1,12 +1,10 @@
 -- A directory in its plain text form, a line a table, parsed up to the first fault. Assumes nothing.
-use Rattle.std.specs.Prelude.{Bool, true, false, not, List, [], ◌∷◌, ℕ, ◌+◌, leb, set}
+use Rattle.std.specs.Prelude.{Bool, true, false, not, List, [], ◌∷◌, ℕ, ◌+◌, leb, set, Option, Some, None}
 use Rattle.std.specs.Prelude.{if◌then◌else◌}
 use Rattle.directory.specs.Table.{table_kept}
 use Rattle.directory.specs.Directory.{no_tables, find_table}
 use Rattle.directory.specs.declared.table.TableDescription.{TableDescription}
 use Rattle.directory.specs.declared.directory.Directory.{Directory}
-use Rattle.directory.specs.declared.directory.Found.{Found}
-use Rattle.directory.specs.declared.directory.Found.TheVariants.{At, Nothing}
 use Rattle.directory_text.specs.Scan.{text_lines}
 use Rattle.directory_text.specs.Line.{is_any, line_in}
 use Rattle.directory_text.specs.declared.fault.Fault.{Fault}
@@ -16,9 +14,9 @@ use Rattle.directory_text.specs.declared.line.Line.TheVariants as line
 use Rattle.directory_text.specs.declared.text.Parsed.{Parsed}
 
 -- a table was found
-abbrev pub is_found_of : Found → Bool
-is_found_of (At row t) = true
-is_found_of Nothing = false
+abbrev pub is_found_of : Option (ℕ × TableDescription) → Bool
+is_found_of (Some found) = true
+is_found_of None = false
 
 -- what a table would break that a line adds: "Up to 16 tables", its own rules, "No two of one kind share a number."
 unfoldable pub fault_of : Directory → TableDescription → Fault

@@ -5,7 +5,7 @@ ghost use Rattle.directory_text.specs.Text.{fault_of, with_table, with_line, par
 use super::fault::Fault;
 use super::line::{Line, line_of};
 use super::scan::{Pass, pass_over};
-use directory::{Directory, Found, TableDescription};
+use directory::{Directory, TableDescription};
 
 // The directory so far, the number of its last line, and what is wrong there.
 #[derive(Clone, Copy)]
@@ -25,10 +25,9 @@ fn fault_of(directory: Directory, table: TableDescription) -> Fault
     if !table.kept() {
         return Fault::RuleBroken;
     }
-    let kind = table.kind;
-    match directory.find(kind, table.number) {
-        Found::At(_, _) => Fault::NameTaken,
-        Found::Nothing => Fault::None,
+    match directory.find(table.kind, table.number) {
+        Some(_) => Fault::NameTaken,
+        None => Fault::None,
     }
 }
 

@@ -1,6 +1,5 @@
 -- `pass_over` meets its contract. The invariant: where the scan from here on would stop is where it is to stop. Assumes nothing.
 use mathlib.Core.Path.{refl, sym, ◌∙◌}
-use Prim.Native.Nat.{◌-◌}
 use native.Mathlib.Omega.{arith}
 use Rattle.directory_text.specs.Scan.{scans_past}
 use Rattle.directory_text.proofs.Laws.{front_goes, front-stops, front-end}

@@ -1,6 +1,5 @@
 -- `same` meets its contract. The invariant: what is left of both is the same if both are. Assumes nothing.
 use mathlib.Core.Path.{refl, sym, ◌∙◌}
-use Prim.Native.Nat.{◌-◌}
 use native.Mathlib.Omega.{arith}
 use Rattle.directory_text.proofs.Laws.{unlike, same-goes, same-stops, same_ends}
 use Rattle.directory_text.proofs.scan.same.Goals as goal

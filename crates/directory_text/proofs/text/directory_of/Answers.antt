@@ -1,6 +1,5 @@
 -- `directory_of` meets its contract. The invariant: the lines that are left make the same of what there is so far. Assumes nothing.
 use mathlib.Core.Path.{sym, ◌∙◌}
-use Prim.Native.Nat.{◌-◌}
 use native.Mathlib.Omega.{arith}
 use Rattle.directory_text.proofs.Whole.{line-stops, line-goes, line-counts, lines_end, all_lines}
 use Rattle.directory_text.proofs.text.directory_of.Goals as goal

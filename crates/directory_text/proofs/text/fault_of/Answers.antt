@@ -10,8 +10,8 @@ returns-then-directory-ge16 c = no_room _ _ (omega arith)
 pub returns-then-not-kept : goal.returns-then-not-kept
 returns-then-not-kept c = rule_broken _ _ (omega arith) (sym c.kept.ensures ∙ c.if-not-kept.true)
 
-pub returns-in-At : goal.returns-in-At
-returns-in-At c = name-taken _ _ (omega arith) (sym c.kept.ensures ∙ c.if-not-kept.false) (sym c.find.ensures ∙ c.in-At.is)
+pub returns-in-Some : goal.returns-in-Some
+returns-in-Some c = name-taken _ _ (omega arith) (sym c.kept.ensures ∙ c.if-not-kept.false) (sym c.find.ensures ∙ c.in-Some.is)
 
-pub returns-in-Nothing : goal.returns-in-Nothing
-returns-in-Nothing c = name_free _ _ (omega arith) (sym c.kept.ensures ∙ c.if-not-kept.false) (sym c.find.ensures ∙ c.in-Nothing.is)
+pub returns-in-None : goal.returns-in-None
+returns-in-None c = name_free _ _ (omega arith) (sym c.kept.ensures ∙ c.if-not-kept.false) (sym c.find.ensures ∙ c.in-None.is)
