@@ -1,7 +1,7 @@
 -- What a lookup finds: in the list first, and after an entry was put or taken out. Assumes nothing.
 use mathlib.Core.Path.{◌≡◌, refl, sym, ap, ◌∙◌}
 use mathlib.Core.Bool.{Bool, true, false, ◌&&◌}
-use mathlib.Core.List.{List, []}
+use mathlib.Core.List.{List}
 use mathlib.Core.Option.{Option, none, some}
 use Prim.Native.Nat.{ℕ, ◌<◌, ◌≤◌}
 use native.Mathlib.Omega.{arith}
@@ -10,7 +10,6 @@ use lib.ListN.{length}
 use Rattle.std.specs.Prelude.{if◌then◌else◌}
 use Rattle.directory.specs.declared.table.TableKind.{TableKind}
 use Rattle.answer.specs.declared.answer.Answer.TheVariants.{Done, BadState}
-use Rattle.numbers.proofs.Laws.{left-of, right_of}
 use Rattle.keys.specs.Keys.{rank}
 use Rattle.overlay.specs.Rules.{Overlay, slot_size, stored_length, mark_ruled, overlay_kept}
 use Rattle.overlay.specs.Overlay.{stands_in, put_over, removed_from}
@@ -22,25 +21,32 @@ use Rattle.memory.specs.declared.span.Holder.TheVariants as holder
 use Rattle.memory.proofs.Spans.{all-shows}
 use Rattle.change.specs.Change.{Change, change_ruled}
 use Rattle.change.proofs.Rules.{ruled-parts}
-use Rattle.query.specs.Query.{looked_if, shared_look, listed_look, bytes_of, HandsOut, copied_by}
-use Rattle.query.specs.Inner.{found_in}
-use Rattle.query.proofs.Copies.{copied_if}
+use Rattle.query.specs.Query.{Looked, looked_if, no_look, shared_look, listed_look, bytes_of, is_there}
+use Rattle.query.specs.Inner.{found_in, FoundFor}
 use Rattle.query.proofs.Found.{some_bytes, first-all, first-own, some_first}
 
--- the answers, a return of the code at a time: 13 with nothing, or 0 with what was found
-refused : (b : Bool) (x : Option Entry) → b ≡ false → HandsOut (looked_if b x) 13 []
-refused b x e = rw e (refl, refl)
+-- 13 with nothing, or 0 with what was found
+fails : (b : Bool) (x : Option Entry) → b ≡ false → looked_if b x ≡ no_look
+fails b x e = rw e
 
-done : (b : Bool) (x : Option Entry) → b ≡ true → (bytes : List ℕ) → bytes ≡ bytes_of (looked_if b x).entry → HandsOut (looked_if b x) 0 bytes
-done b x e bytes f = (rw e, f)
+done : (b : Bool) (x : Option Entry) → b ≡ true → (looked_if b x).answer ≡ Done
+done b x e = rw e
 
 entry_of : (b : Bool) (x : Option Entry) → b ≡ true → (looked_if b x).entry ≡ x
 entry_of b x e = rw e
 
 module _ (kind : TableKind) (o : Overlay) (key : ℕ) where
-  pub shared_refused : overlay_kept kind 256 o ≡ false → HandsOut (shared_look kind o key) 13 []
+  pub shared_fails : overlay_kept kind 256 o ≡ false → shared_look kind o key ≡ no_look
   unfolding shared_look
-  shared_refused e = refused (overlay_kept kind 256 o) (find_entry key (entries_of kind o)) e
+  shared_fails e = fails (overlay_kept kind 256 o) (find_entry key (entries_of kind o)) e
+
+  pub shared_broken : shared_look kind o key ≡ no_look → overlay_kept kind 256 o ≡ false
+  unfolding shared_look
+  shared_broken e = by (overlay_kept kind 256 o) refl
+    where
+      by : (b : Bool) → overlay_kept kind 256 o ≡ b → b ≡ false
+      by false h = refl
+      by true h = let z : Done ≡ BadState = sym (done (overlay_kept kind 256 o) (find_entry key (entries_of kind o)) h) ∙ ap (λ (l : Looked). l.answer) e in cc
 
   module _ (ok : overlay_kept kind 256 o ≡ true) where
     pub shared_entry : (shared_look kind o key).entry ≡ find_entry key (entries_of kind o)
@@ -51,15 +57,15 @@ module _ (kind : TableKind) (o : Overlay) (key : ℕ) where
     unfolding found_in
     shared_found = ap bytes_of (sym shared_entry)
 
-    pub shared_done : (bytes : List ℕ) → bytes ≡ bytes_of (shared_look kind o key).entry → HandsOut (shared_look kind o key) 0 bytes
+    pub shared_done : (shared_look kind o key).answer ≡ Done
     unfolding shared_look
     shared_done = done (overlay_kept kind 256 o) (find_entry key (entries_of kind o)) ok
 
-  -- what `value` hands back
-  pub shared_copied : (number : ℕ) (bytes : List ℕ) → HandsOut (shared_look kind o key) number bytes
-      → record { answer = if eqb number 0 then Done else BadState; found = ltb 0 (length bytes) } ≡ copied_by (shared_look kind o key)
-  unfolding shared_look
-  shared_copied number bytes h = copied_if (overlay_kept kind 256 o) (find_entry key (entries_of kind o)) number bytes h.0 h.1 (λ ok. some_bytes kind 256 o ok key)
+    -- some bytes exactly if there is an entry
+    pub shared_for : (bytes : List ℕ) → bytes ≡ found_in kind o key → FoundFor (shared_look kind o key) bytes
+    unfolding found_in
+    shared_for bytes e =
+        record { here = e ∙ ap bytes_of (sym shared_entry); some = ap (λ (b : List ℕ). ltb 0 (length b)) e ∙ some_bytes kind 256 o ok key ∙ ap is_there (sym shared_entry) }
 
 module _ (kind : TableKind) (l : Change) (o : Overlay) (key : ℕ) where
   abbrev own : Overlay
@@ -71,13 +77,13 @@ module _ (kind : TableKind) (l : Change) (o : Overlay) (key : ℕ) where
   abbrev first : Option Entry
   first = or_else (find_entry key (entries_of kind own)) (find_entry key (entries_of kind o))
 
-  pub list-refused : change_ruled l ≡ false → HandsOut (listed_look kind l o key) 13 []
+  pub list-fails : change_ruled l ≡ false → listed_look kind l o key ≡ no_look
   unfolding listed_look
-  list-refused e = refused both first (rw e)
+  list-fails e = fails both first (rw e)
 
-  pub overlay_refused : change_ruled l ≡ true → overlay_kept kind 256 o ≡ false → HandsOut (listed_look kind l o key) 13 []
+  pub overlay_fails : change_ruled l ≡ true → overlay_kept kind 256 o ≡ false → listed_look kind l o key ≡ no_look
   unfolding listed_look
-  overlay_refused mine e = refused both first (rw (mine, e))
+  overlay_fails mine e = fails both first (rw (mine, e))
 
   own-kept : change_ruled l ≡ true → overlay_kept kind (span_of holder.List kind).room own ≡ true
   own-kept mine = (all-shows holder.List l.parts (ruled-parts l mine)).each kind
@@ -87,9 +93,14 @@ module _ (kind : TableKind) (l : Change) (o : Overlay) (key : ℕ) where
     unfolding listed_look
     listed-entry = entry_of both first (rw (mine, ok))
 
-    pub listed-done : (bytes : List ℕ) → bytes ≡ bytes_of (listed_look kind l o key).entry → HandsOut (listed_look kind l o key) 0 bytes
+    pub listed-done : (listed_look kind l o key).answer ≡ Done
     unfolding listed_look
     listed-done = done both first (rw (mine, ok))
+
+    listed-for : (bytes : List ℕ) → bytes ≡ bytes_of (listed_look kind l o key).entry → FoundFor (listed_look kind l o key) bytes
+    listed-for bytes e =
+        let some = some_first (find_entry key (entries_of kind own)) (find_entry key (entries_of kind o)) (some_bytes kind (span_of holder.List kind).room own (own-kept mine) key) (some_bytes kind 256 o ok key) in
+        record { here = e; some = ap (λ (b : List ℕ). ltb 0 (length b)) (e ∙ ap bytes_of listed-entry) ∙ some ∙ ap is_there (sym listed-entry) }
 
     -- "Lookup goes to the local list first": the list's entry, where it has the key
     pub list-first : (e : Entry) → find_entry key (entries_of kind (of_kind kind l.parts)) ≡ some e → (listed_look kind l o key).entry ≡ some e
@@ -100,23 +111,16 @@ module _ (kind : TableKind) (l : Change) (o : Overlay) (key : ℕ) where
     then_shared f = listed-entry ∙ rw f (sym (shared_entry kind o key ok))
 
     -- as the code tells it, by the bytes: the list's, or where there are none the shared ones
-    pub mine_found : (bytes : List ℕ) → bytes ≡ found_in kind (of_kind kind l.parts) key → 0 < length bytes → bytes ≡ bytes_of (listed_look kind l o key).entry
-    mine_found bytes e h = e ∙ first-own kind own (find_entry key (entries_of kind o)) key (rw e at h) ∙ ap bytes_of (sym listed-entry)
+    pub mine_found : (bytes : List ℕ) → bytes ≡ found_in kind (of_kind kind l.parts) key → 0 < length bytes → FoundFor (listed_look kind l o key) bytes
+    mine_found bytes e h = listed-for bytes (e ∙ first-own kind own (find_entry key (entries_of kind o)) key (rw e at h) ∙ ap bytes_of (sym listed-entry))
 
-    pub shared_next : (mine bytes : List ℕ) → mine ≡ found_in kind (of_kind kind l.parts) key → length mine ≤ 0 → bytes ≡ bytes_of (shared_look kind o key).entry
-        → bytes ≡ bytes_of (listed_look kind l o key).entry
+    pub shared_next : (mine bytes : List ℕ) → mine ≡ found_in kind (of_kind kind l.parts) key → length mine ≤ 0 → FoundFor (shared_look kind o key) bytes
+        → FoundFor (listed_look kind l o key) bytes
     shared_next found bytes e h f =
-        f ∙ ap bytes_of (shared_entry kind o key ok)
+        listed-for bytes
+        (f.here ∙ ap bytes_of (shared_entry kind o key ok)
         ∙ first-all kind (span_of holder.List kind).room own (own-kept mine) key (find_entry key (entries_of kind o)) (λ some. let g = rw (sym e) at some in omega (arith, g))
-        ∙ ap bytes_of (sym listed-entry)
-
-  pub listed_copied : (number : ℕ) (bytes : List ℕ) → HandsOut (listed_look kind l o key) number bytes
-      → record { answer = if eqb number 0 then Done else BadState; found = ltb 0 (length bytes) } ≡ copied_by (listed_look kind l o key)
-  unfolding listed_look
-  listed_copied number bytes h =
-      copied_if both first number bytes h.0 h.1
-      (λ e. some_first (find_entry key (entries_of kind own)) (find_entry key (entries_of kind o))
-      (some_bytes kind (span_of holder.List kind).room own (own-kept (left-of (change_ruled l) _ e)) key) (some_bytes kind 256 o (right_of (change_ruled l) _ e) key))
+        ∙ ap bytes_of (sym listed-entry))
 
 -- a lookup after "puts each entry, id, mask and chunk, over the shared one": the new one under its key, under any other what it found before
 module _ (kind : TableKind) (o : Overlay) (ok : overlay_kept kind 256 o ≡ true) where

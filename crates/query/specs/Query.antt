@@ -1,6 +1,7 @@
 -- What a lookup finds and answers (document 01: "Lookup goes to the local list first, then the shared overlays."). log.rs: `LogQuery`, lines 70
 -- to 90, for the overlays lines 159 to 202, for the writer's list lines 545 to 611.
-use Rattle.std.specs.Prelude.{◌≡◌, Bool, true, false, ◌&&◌, List, [], ◌++◌, ℕ, take, drop, length}
+use Rattle.std.specs.Prelude.{Bool, true, false, ◌&&◌, List, [], ◌++◌, ℕ, eqb, take, drop, length, if◌then◌else◌, Result, Ok, Err}
+use Rattle.std.specs.Borrow.{Bor}
 use Rattle.std.proofs.Math.Option.{Option, none, some}
 use Rattle.directory.specs.declared.table.TableKind.{TableKind}
 use Rattle.answer.specs.Answer.{number_of}
@@ -11,7 +12,6 @@ use Rattle.overlay.specs.Entries.{Entry, entries_of, find_entry, or_else}
 use Rattle.memory.specs.Parts.{count_of, of_kind}
 use Rattle.memory.specs.declared.overlays.LogOverlays.{LogOverlays}
 use Rattle.change.specs.Change.{Change, change_ruled}
-use Rattle.query.specs.declared.copy.Copied.{Copied}
 
 -- a lookup's answer, and the entry where there is one
 pub record Looked : Type 0 where
@@ -22,6 +22,10 @@ pub record Looked : Type 0 where
 abbrev pub looked_if : Bool → Option Entry → Looked
 looked_if true found = record { answer = Done; entry = found }
 looked_if false found = record { answer = BadState; entry = none }
+
+-- 13, and no entry
+abbrev pub no_look : Looked
+no_look = looked_if false none
 
 -- the shared overlay of a kind, as a lookup is handed it: the kind's part of the words, its part of the bytes, and how many keys are in use
 abbrev pub shared_part : TableKind → LogOverlays → List ℕ → List ℕ → Overlay
@@ -41,9 +45,18 @@ abbrev pub bytes_of : Option Entry → List ℕ
 bytes_of none = []
 bytes_of (some e) = e.bytes
 
--- "its number beside them"
-abbrev pub HandsOut : Looked → ℕ → List ℕ → Type 0
-HandsOut l number bytes = (number ≡ number_of l.answer) × (bytes ≡ bytes_of l.entry)
+-- what a call gives that answers 0, or its answer
+abbrev pub told_by : {A : Type 0} → Answer → A → Result A Answer
+told_by answer x = if eqb (number_of answer) 0 then Ok x else Err answer
+
+-- the stored bytes, or the answer
+abbrev pub handed : Looked → Result (List ℕ) Answer
+handed l = told_by l.answer (bytes_of l.entry)
+
+-- the same as the code has them: a part of a lent memory
+abbrev pub handed_out : Result (Bor (List ℕ)) Answer → Result (List ℕ) Answer
+handed_out (Ok part) = Ok part.now
+handed_out (Err answer) = Err answer
 
 -- whether there is one
 abbrev pub is_there : Option Entry → Bool
@@ -55,9 +68,5 @@ abbrev pub copied_over : List ℕ → List ℕ → List ℕ
 copied_over bytes dest = take (length dest) bytes ++ drop (length bytes) dest
 
 -- what `value` hands back beside the copy: "says so"
-abbrev pub copied_by : Looked → Copied
-copied_by l = record { answer = l.answer; found = is_there l.entry }
-
--- both: from the destination as it was to the destination as it then is
-abbrev pub CopiesOut : Looked → Copied → List ℕ → List ℕ → Type 0
-CopiesOut l r dest after = (r ≡ copied_by l) × (after ≡ copied_over (bytes_of l.entry) dest)
+abbrev pub copied_by : Looked → Result Bool Answer
+copied_by l = told_by l.answer (is_there l.entry)

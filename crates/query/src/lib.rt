@@ -3,9 +3,12 @@
 
 mod copy;
 mod find;
-pub mod listed;
+mod listed;
+mod lookup;
 mod several;
-pub mod shared;
+mod shared;
 
-pub use copy::Copied;
-pub use find::{Place, place_in};
+pub use find::place_in;
+pub use listed::Listed;
+pub use lookup::Lookup;
+pub use shared::Shared;

@@ -1,181 +1,68 @@
-// Lookups in a shared overlay alone: log.rs lines 159 to 202. Each is handed its kind's part of the two memories, answers with a part of the lent
-// bytes and has its number beside it; `value` copies. The second door of each is for whoever has tested the overlay already.
+// Lookups in a shared overlay alone: log.rs lines 159 to 202.
 ghost use Rattle.std.specs.Prelude.{◌≡◌, true};
-ghost use Rattle.directory.specs.declared.table.TableKind.TheVariants.{Index, Value, RefCount};
-ghost use Rattle.keys.specs.Keys.{rank};
 ghost use Rattle.overlay.specs.Rules.{overlay_kept};
-ghost use Rattle.query.specs.Query.{shared_part, shared_look, bytes_of, HandsOut, CopiesOut};
+ghost use Rattle.query.specs.Query.{shared_part, shared_look};
+ghost use Rattle.query.specs.Places.{told_places, several_look};
 
-use super::copy::{Copied, copy_value};
 use super::find::find_in;
-pub use super::several::{places_of, places_of_kept};
-use directory::{IndexTableId, RefCountTableId, TableKind, ValueTableId};
+use super::lookup::Lookup;
+use super::several::{in_pairs, tell_places};
+use answer::Answer;
+use directory::TableKind;
 use memory::LogOverlays;
 
-// The one path of the three kinds, behind 13.
-pub(crate) fn look_kept<'a>(
-    kind: TableKind,
-    overlays: LogOverlays,
-    words: &'a [u64],
-    bytes: &'a [u8],
-    table: u16,
-    index: u64,
-) -> &'a [u8]
-    requires { overlay_kept kind 256 (shared_part kind overlays words.now bytes.now) ≡ true }
-    ensures { result.now ≡ bytes_of (shared_look kind (shared_part kind overlays words.now bytes.now) (rank table index)).entry }
-{
-    let counts = overlays.counts;
-    find_in(kind, 256, words, bytes, counts.of(kind), table, index)
+// Of a kind: its part of the words, its part of the bytes, and how many keys are in use.
+#[derive(Clone, Copy)]
+pub struct Shared<'a> {
+    pub overlays: LogOverlays,
+    pub words: &'a [u64],
+    pub bytes: &'a [u8],
 }
 
-fn look<'a>(
-    kind: TableKind,
-    overlays: LogOverlays,
-    words: &'a [u64],
-    bytes: &'a [u8],
-    table: u16,
-    index: u64,
-    number: &mut u64,
-) -> &'a [u8]
-    ensures { HandsOut (shared_look kind (shared_part kind overlays words.now bytes.now) (rank table index)) number.new result.now }
-{
-    *number = 13;
-    let counts = overlays.counts;
-    if !overlay::kept(kind, 256, words, bytes, counts.of(kind)) {
-        return &bytes[0..0];
+impl<'a> Lookup for Shared<'a> {
+    ghost looked = { λ s kind key. shared_look kind (shared_part kind s.overlays s.words.now s.bytes.now) key };
+
+    ghost ruled = { λ s kind. overlay_kept kind 256 (shared_part kind s.overlays s.words.now s.bytes.now) ≡ true };
+
+    fn kept(&self, kind: TableKind) -> bool {
+        let n = self.overlays.counts.of(kind);
+        overlay::kept(kind, 256, self.words, self.bytes, n)
     }
-    *number = 0;
-    look_kept(kind, overlays, words, bytes, table, index)
+
+    fn find(&self, kind: TableKind, table: u16, index: u64) -> &[u8] {
+        let n = self.overlays.counts.of(kind);
+        find_in(kind, 256, self.words, self.bytes, n, table, index)
+    }
 }
 
-pub fn with_index<'a>(
-    overlays: LogOverlays,
-    words: &'a [u64],
-    bytes: &'a [u8],
-    table: IndexTableId,
-    index: u64,
-    number: &mut u64,
-) -> &'a [u8]
-    ensures { HandsOut (shared_look Index (shared_part Index overlays words.now bytes.now) (rank table.0 index)) number.new result.now }
-{
-    look(
-        TableKind::Index,
-        overlays,
-        words,
-        bytes,
-        table.0,
-        index,
-        number,
-    )
-}
+impl<'a> Shared<'a> {
+    // Many keys at once, the rules tested once for all of them; log.rs has no such call, its maps having no rules. Keys are lent as pairs of table
+    // and index; for each, two words are written: where its bytes lie in the kind's bytes, and how many there are.
+    pub fn places_of(&self, kind: TableKind, keys: &[u64], places: &mut [u64]) -> Result<(), Answer>
+        ensures { told_places result places.new
+            ≡ several_look kind (shared_part kind self.now.overlays self.now.words.now self.now.bytes.now) keys.now places.old }
+    {
+        if !self.kept(kind) {
+            return Err(Answer::BadState);
+        }
+        self.places_of_kept(kind, keys, places)
+    }
 
-pub fn with_index_kept<'a>(
-    overlays: LogOverlays,
-    words: &'a [u64],
-    bytes: &'a [u8],
-    table: IndexTableId,
-    index: u64,
-) -> &'a [u8]
-    requires { overlay_kept Index 256 (shared_part Index overlays words.now bytes.now) ≡ true }
-    ensures { result.now ≡ bytes_of (shared_look Index (shared_part Index overlays words.now bytes.now) (rank table.0 index)).entry }
-{
-    look_kept(TableKind::Index, overlays, words, bytes, table.0, index)
-}
-
-pub fn value_ref<'a>(
-    overlays: LogOverlays,
-    words: &'a [u64],
-    bytes: &'a [u8],
-    table: ValueTableId,
-    index: u64,
-    number: &mut u64,
-) -> &'a [u8]
-    ensures { HandsOut (shared_look Value (shared_part Value overlays words.now bytes.now) (rank table.0 index)) number.new result.now }
-{
-    look(
-        TableKind::Value,
-        overlays,
-        words,
-        bytes,
-        table.0,
-        index,
-        number,
-    )
-}
-
-pub fn value_ref_kept<'a>(
-    overlays: LogOverlays,
-    words: &'a [u64],
-    bytes: &'a [u8],
-    table: ValueTableId,
-    index: u64,
-) -> &'a [u8]
-    requires { overlay_kept Value 256 (shared_part Value overlays words.now bytes.now) ≡ true }
-    ensures { result.now ≡ bytes_of (shared_look Value (shared_part Value overlays words.now bytes.now) (rank table.0 index)).entry }
-{
-    look_kept(TableKind::Value, overlays, words, bytes, table.0, index)
-}
-
-pub fn ref_count<'a>(
-    overlays: LogOverlays,
-    words: &'a [u64],
-    bytes: &'a [u8],
-    table: RefCountTableId,
-    index: u64,
-    number: &mut u64,
-) -> &'a [u8]
-    ensures { HandsOut (shared_look RefCount (shared_part RefCount overlays words.now bytes.now) (rank table.0 index)) number.new result.now }
-{
-    look(
-        TableKind::RefCount,
-        overlays,
-        words,
-        bytes,
-        table.0,
-        index,
-        number,
-    )
-}
-
-pub fn ref_count_kept<'a>(
-    overlays: LogOverlays,
-    words: &'a [u64],
-    bytes: &'a [u8],
-    table: RefCountTableId,
-    index: u64,
-) -> &'a [u8]
-    requires { overlay_kept RefCount 256 (shared_part RefCount overlays words.now bytes.now) ≡ true }
-    ensures { result.now ≡ bytes_of (shared_look RefCount (shared_part RefCount overlays words.now bytes.now) (rank table.0 index)).entry }
-{
-    look_kept(TableKind::RefCount, overlays, words, bytes, table.0, index)
-}
-
-pub fn value<'a>(
-    overlays: LogOverlays,
-    words: &'a [u64],
-    bytes: &'a [u8],
-    table: ValueTableId,
-    index: u64,
-    dest: &mut [u8],
-) -> Copied
-    ensures { CopiesOut (shared_look Value (shared_part Value overlays words.now bytes.now) (rank table.0 index)) result dest.old dest.new }
-{
-    let mut number: u64 = 0;
-    let stored = value_ref(overlays, words, bytes, table, index, &mut number);
-    copy_value(number, stored, dest)
-}
-
-pub fn value_kept<'a>(
-    overlays: LogOverlays,
-    words: &'a [u64],
-    bytes: &'a [u8],
-    table: ValueTableId,
-    index: u64,
-    dest: &mut [u8],
-) -> Copied
-    requires { overlay_kept Value 256 (shared_part Value overlays words.now bytes.now) ≡ true }
-    ensures { CopiesOut (shared_look Value (shared_part Value overlays words.now bytes.now) (rank table.0 index)) result dest.old dest.new }
-{
-    let stored = value_ref_kept(overlays, words, bytes, table, index);
-    copy_value(0, stored, dest)
+    pub fn places_of_kept(
+        &self,
+        kind: TableKind,
+        keys: &[u64],
+        places: &mut [u64],
+    ) -> Result<(), Answer>
+        requires { overlay_kept kind 256 (shared_part kind self.now.overlays self.now.words.now self.now.bytes.now) ≡ true }
+        ensures { told_places result places.new
+            ≡ several_look kind (shared_part kind self.now.overlays self.now.words.now self.now.bytes.now) keys.now places.old }
+    {
+        if !in_pairs(keys.len(), places.len()) {
+            return Err(Answer::BadArgument);
+        }
+        let n = self.overlays.counts.of(kind);
+        tell_places(kind, self.words, self.bytes, n, keys, places);
+        Ok(())
+    }
 }

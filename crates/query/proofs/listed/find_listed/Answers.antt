@@ -9,8 +9,8 @@ use Rattle.memory.proofs.Lent.{fits, lent_is, lent-kept}
 use Rattle.query.specs.Inner.{found_in}
 use Rattle.query.proofs.listed.find_listed.Goals as goal
 
-pub offset_bounds-words-a : goal.offset_bounds-words-a
-offset_bounds-words-a c = let l = fits holder.List c.args.kind c.span_of-s.result c.span_of-s.ensures in omega (arith, l.words-rise, l.words_in, l.words-most)
+pub offset_bounds-words-s : goal.offset_bounds-words-s
+offset_bounds-words-s c = let l = fits holder.List c.args.kind c.span_of-s.result c.span_of-s.ensures in omega (arith, l.words-rise, l.words_in, l.words-most)
 
 pub slice_bounds-find_in-count : goal.slice_bounds-find_in-count
 slice_bounds-find_in-count c = (fits holder.List c.args.kind c.span_of-s.result c.span_of-s.ensures).words-rise
