@@ -28,9 +28,10 @@ use Rattle.output.proofs.Laws.{put_nil, put-put}
 use native.Mathlib.Nat.{zero-add}
 use borrow.Rule.Slice.PartMut.{put_mid}
 use Rattle.checker.specs.Check.{Went, Check, may_change, first_standing, reading_at, went_by, check_in}
-use Rattle.checker.specs.Checker.{unread, padded, no_report, new_checker, checker_start, answered, counted, told, keeping, settled, piece_by, piece_taken}
+use Rattle.checker.specs.Checker.{unread, padded, new_checker, checker_start, answered, counted, keeping, settled, piece_by, piece_taken}
 use Rattle.checker.specs.Inner.{Stands, Takes, Front, back_reader}
 use Rattle.checker.specs.declared.checker.LogChecker.{LogChecker}
+use Rattle.checker.specs.declared.checker.Stage.TheVariants as stage
 use Rattle.checker.specs.declared.checker.Checked.{Checked}
 use Rattle.checker.specs.declared.standing.Standing.{Standing}
 use Rattle.checker.proofs.Across.{across_settled, across_on, across_waits, not_yet, on_in_piece}
@@ -56,7 +57,7 @@ module _ (base : ℕ) (s : Standing) where
 -- ---- a checker's start, its kept bytes, its report
 
 pub starts : (d : Directory) (first : ℕ) (s : Standing) → s ≡ first_standing first
-    → record { directory = d; standing = s; held = 0; part = replicate 1043 0; total = 0; ran = no_report; closed = false } ≡ new_checker d first
+    → record { directory = d; standing = s; held = 0; part = replicate 1043 0; total = 0; stage = stage.Open } ≡ new_checker d first
 unfolding padded
 starts d first s e = rw (e, put_nil (replicate 1043 0) 0)
 
@@ -88,8 +89,8 @@ rest_part : (a : ℕ) (l : List ℕ) → take (length l - a) (drop a l) ≡ drop
 rest_part a l = between_to_end l a (length l) (omega arith)
 
 module _ (c : LogChecker) (bytes : List ℕ) (k : Check) (r : Checked) where
-  pub walks-settled : (ran : Ran) (x : LogChecker) → Err ran ≡ k → x ≡ settled c ran → r ≡ told x → r ≡ piece_by c bytes k
-  walks-settled ran x e f g = g ∙ ap told f ∙ ap (piece_by c bytes) e
+  pub walks-settled : (ran : Ran) → Err ran ≡ k → r ≡ settled c ran → r ≡ piece_by c bytes k
+  walks-settled ran e f = f ∙ ap (piece_by c bytes) e
 
   pub walks-waiting : (s : Standing) (x : LogChecker) → Ok s ≡ k → x ≡ keeping c s (take (length bytes - s.reader.position) (drop s.reader.position bytes)) → r ≡ answered Done x
       → r ≡ piece_by c bytes k
@@ -128,7 +129,7 @@ pub unread-long : (c : LogChecker) → length c.part ≡ 1043 → c.held ≤ 104
 unread-long c l r = sym (length-take-le c.held c.part (omega arith))
 
 pub takes-room : (c : LogChecker) (bytes : List ℕ) → Takes c bytes → c.held ≤ 1043
-takes-room c bytes k = (kept_open c k.kept k.going k.open_yet).room
+takes-room c bytes k = (kept_open c k.kept k.is_open).room
 
 module _ (old bytes : List ℕ) (more : ℕ) (room : length old ≤ 1043) (e : more ≡ min (1043 - length old) (length bytes)) where
   pub more_left : length old + more ≤ 1043
@@ -158,7 +159,7 @@ module _ (old bytes : List ℕ) (more : ℕ) (room : length old ≤ 1043) (e : m
 
 module _ (c : LogChecker) (bytes front : List ℕ) (k : Takes c bytes) (f : Front c bytes front) where
   o : Open c
-  o = kept_open c k.kept k.going k.open_yet
+  o = kept_open c k.kept k.is_open
 
   pub front-directory : directory_kept c.directory ≡ true
   front-directory = kept-directory c k.kept
@@ -207,9 +208,9 @@ module _ (c : LogChecker) (bytes front : List ℕ) (k : Takes c bytes) (f : Fron
   check_by : (y : Check) → check_in c.directory (front ++ drop 1043 (unread c ++ bytes)) (c.total - c.held) c.standing ≡ y → check_in c.directory (unread c ++ bytes) (c.total - c.held) c.standing ≡ y
   check_by y e = ap (λ (l : List ℕ). check_in c.directory l (c.total - c.held) c.standing) (sym joined) ∙ e
 
-  pub across_told : (ran : Ran) → Went-is (Err ran) → (a x : LogChecker) (r : Checked) → a ≡ counted c (length bytes) → x ≡ settled a ran → r ≡ told x → r ≡ piece_taken c bytes
-  across_told ran e a x r p q s =
-      s ∙ ap told q ∙ ap (λ (y : LogChecker). told (settled y ran)) p
+  pub across_told : (ran : Ran) → Went-is (Err ran) → (a : LogChecker) (r : Checked) → a ≡ counted c (length bytes) → r ≡ settled a ran → r ≡ piece_taken c bytes
+  across_told ran e a r p q =
+      q ∙ ap (λ (y : LogChecker). settled y ran) p
       ∙ taken-by (Err ran) (check_by (Err ran) (across_settled c.directory front-directory front front_bytes (drop 1043 (unread c ++ bytes)) (c.total - c.held) c.standing front-stands.within ran e))
 
   pub across_kept : Went-is (Ok None) → (a x : LogChecker) (r : Checked) → a ≡ counted c (length bytes) → x ≡ keeping a c.standing front → r ≡ answered Done x → r ≡ piece_taken c bytes

@@ -29,12 +29,14 @@ use Rattle.replay.specs.declared.many_records.Ran.{Ran}
 use Rattle.replay.proofs.Records.{run_bad}
 use Rattle.numbers.proofs.Laws.{both}
 use Rattle.checker.specs.Check.{Check, may_change, decides, first_standing, reading_at, report_of, check_on, check_in}
-use Rattle.checker.specs.Checker.{checker_bytes, unread, padded, is_open, new_checker, checker_kept, answered, counted, told, keeping, settled, piece_by, piece_taken, piece_kept, piece_of, report_in, report_now, unclosed, close_kept, close_of, after_pieces, all_bytes, open_as0, Told}
+use Rattle.checker.specs.Checker.{checker_bytes, unread, padded, new_checker, checker_kept, answered, counted, keeping, settled, piece_by, piece_taken, piece_at, piece_kept, piece_of, report_in, unclosed, close_at, close_kept, close_of, after_pieces, all_bytes, open_as0, Told}
 use Rattle.checker.specs.declared.checker.LogChecker.{LogChecker}
+use Rattle.checker.specs.declared.checker.Stage.{Stage}
+use Rattle.checker.specs.declared.checker.Stage.TheVariants as stage
 use Rattle.checker.specs.declared.checker.Checked.{Checked}
 use Rattle.checker.specs.declared.checker.Closed.{Closed}
 use Rattle.checker.specs.declared.standing.Standing.{Standing}
-use Rattle.checker.proofs.Answers.{no_change, not-zero, most-twelve}
+use Rattle.checker.proofs.Answers.{no_change, most-twelve}
 use Rattle.checker.proofs.Append.{resumed, check_append}
 use Rattle.checker.proofs.Kept.{front_of_of, unpadded, unread-length, start-sound, taken-kept, padded-length, close_keeps}
 use Rattle.checker.proofs.Moved.{moved_standing, moved_check, check_moved}
@@ -58,15 +60,14 @@ module _ (d : Directory) (ok : directory_kept d ≡ true) (first : ℕ) where
   -- what a checker that has taken `all` holds, by what a check of them comes to
   abbrev Holds : LogChecker → List ℕ → Check → Type 0
   Holds c all (Ok s) =
-      (is_open c ≡ true) × (unread c ≡ drop s.reader.position all) × (c.held + s.reader.position ≡ length all) × (c.standing ≡ reading_at s (front_of_of s.reader))
-  Holds c all (Err ran) = (is_open c ≡ false) × (c.ran ≡ ran)
+      (c.stage ≡ stage.Open) × (unread c ≡ drop s.reader.position all) × (c.held + s.reader.position ≡ length all) × (c.standing ≡ reading_at s (front_of_of s.reader))
+  Holds c all (Err ran) = c.stage ≡ stage.Settled ran
 
   record Means (c : LogChecker) (all : List ℕ) : Type 0 where
     directory : c.directory ≡ d
     long : length c.part ≡ 1043
     total : c.total ≡ length all
     kept : checker_kept c ≡ true
-    going : c.closed ≡ false
     holds : Holds c all (check_in d all 0 begin)
 
   -- ---- before the first piece
@@ -88,7 +89,7 @@ module _ (d : Directory) (ok : directory_kept d ≡ true) (first : ℕ) where
 
   means_new : Means (new_checker d first) []
   means_new =
-      record { directory = refl; long = padded-length [] (omega arith); total = refl; kept = new-kept; going = refl; holds = subst (Holds (new_checker d first) []) (sym no_bytes) (refl, refl, refl, refl) }
+      record { directory = refl; long = padded-length [] (omega arith); total = refl; kept = new-kept; holds = subst (Holds (new_checker d first) []) (sym no_bytes) (refl, refl, refl, refl) }
 
   -- ---- a piece
 
@@ -97,11 +98,12 @@ module _ (d : Directory) (ok : directory_kept d ≡ true) (first : ℕ) where
     lengths = length-append all bytes
 
     -- behind 13 and 14
-    piece_is : piece_of c bytes ≡ (if is_open c then piece_taken c bytes else told (counted c (length bytes)))
+    piece_is : (g : Stage) → c.stage ≡ g → piece_of c bytes ≡ piece_at c bytes g
     unfolding piece_of piece_kept
-    piece_is =
-        if_true (checker_kept c) _ _ m.kept ∙ if_false c.closed _ _ m.going
+    piece_is g q =
+        if_true (checker_kept c) _ _ m.kept
         ∙ if_false (leb (9223372036854775808 - c.total) (length bytes)) _ _ (lt-leb (9223372036854775808 - c.total) (length bytes) (omega (arith, m.total, lengths)))
+        ∙ ap (piece_at c bytes) q
 
     -- what is to be shown of the piece's answer
     abbrev After : Checked → Type 0
@@ -110,26 +112,27 @@ module _ (d : Directory) (ok : directory_kept d ≡ true) (first : ℕ) where
     within : (k : Check) → check_in d all 0 begin ≡ k → check_in d (all ++ bytes) 0 begin ≡ resumed (check_in d (all ++ bytes) 0) k
     within k e = check_append d ok all (front_bytes all bytes known) bytes 0 begin (omega arith) ∙ ap (resumed (check_in d (all ++ bytes) 0)) e
 
-    was_settled : (ran : Ran) → check_in d all 0 begin ≡ Err ran → After (piece_of c bytes)
-    was_settled ran e =
-        let h : Holds c all (Err ran) = subst (Holds c all) e m.holds in
-        let p : piece_of c bytes ≡ told (counted c (length bytes)) = piece_is ∙ if_false (is_open c) _ _ h.0 in
-        let q : check_in d (all ++ bytes) 0 begin ≡ Err ran = within (Err ran) e in
-        let r : decides ran.answer ≡ true = check_settles d all 0 begin (omega arith) ran e in
-        subst After (sym p) (
+    -- settled, now or before
+    is_settled : (ran : Ran) → decides ran.answer ≡ true → check_in d (all ++ bytes) 0 begin ≡ Err ran → After (settled (counted c (length bytes)) ran)
+    is_settled ran f g =
+        let after : LogChecker = (settled (counted c (length bytes)) ran).checker in (
           record {
             directory = m.directory;
             long = m.long;
             total = omega (arith, m.total, lengths);
-            kept = settled_checker (counted c (length bytes)) (kept-directory c m.kept) (omega (arith, m.total, lengths)) (kept-settled c m.kept m.going h.0);
-            going = m.going;
-            holds = subst (Holds (counted c (length bytes)) (all ++ bytes)) (sym q) (h.0, h.1);
+            kept = settled_checker after (kept-directory c m.kept) (omega (arith, m.total, lengths, few)) ran refl f;
+            holds = subst (Holds after (all ++ bytes)) (sym g) refl;
           },
           record {
-            answers = ap (λ (x : Ran). x.answer) h.1 ∙ sym (ap (λ (k : Check). open_as0 (report_in 0 k).answer) q ∙ if_false (may_change ran.answer) _ _ (no_change ran.answer r));
-            place = λ m. ap (λ (x : Ran). x.fault_at) h.1 ∙ sym (ap (λ (k : Check). (report_in 0 k).fault_at) q);
+            answers = sym (ap (λ (k : Check). open_as0 (report_in 0 k).answer) g ∙ if_false (may_change ran.answer) _ _ (no_change ran.answer f));
+            place = λ m. sym (ap (λ (k : Check). (report_in 0 k).fault_at) g);
           },
         )
+
+    was_settled : (ran : Ran) → check_in d all 0 begin ≡ Err ran → After (piece_of c bytes)
+    was_settled ran e =
+        let h : Holds c all (Err ran) = subst (Holds c all) e m.holds in
+        subst After (sym (piece_is (stage.Settled ran) h)) (is_settled ran (check_settles d all 0 begin (omega arith) ran e) (within (Err ran) e))
 
     module _ (s : Standing) (e : check_in d all 0 begin ≡ Ok s) where
       h : Holds c all (Ok s)
@@ -145,10 +148,10 @@ module _ (d : Directory) (ok : directory_kept d ≡ true) (first : ℕ) where
       total-few = omega (arith, m.total, lengths, few)
 
       o : Open c
-      o = kept_open c m.kept m.going h.0
+      o = kept_open c m.kept h.0
 
       held : length (unread c) ≡ c.held
-      held = unread-length c bytes m.kept total-few these m.going h.0 m.long
+      held = unread-length c bytes m.kept total-few these h.0 m.long
 
       -- the check of all that was taken goes on as the checker's own
       goes_on : check_in d (all ++ bytes) 0 begin ≡ moved_check s.reader.position (check_in c.directory (unread c ++ bytes) (c.total - c.held) c.standing)
@@ -168,7 +171,7 @@ module _ (d : Directory) (ok : directory_kept d ≡ true) (first : ℕ) where
           ∙ ap (λ (x : Directory). moved_check n (check_in x (unread c ++ bytes) (c.total - c.held) c.standing)) (sym m.directory)
 
       kept-after : checker_kept (piece_taken c bytes).checker ≡ true
-      kept-after = taken-kept c bytes m.kept total-few these m.going h.0 m.long
+      kept-after = taken-kept c bytes m.kept total-few these h.0 m.long
 
       -- the piece by what the check of it comes to
       taken_is : (k : Check) → check_in c.directory (unread c ++ bytes) (c.total - c.held) c.standing ≡ k → piece_taken c bytes ≡ piece_by (counted c (length bytes)) (unread c ++ bytes) k
@@ -185,16 +188,15 @@ module _ (d : Directory) (ok : directory_kept d ≡ true) (first : ℕ) where
           let rest : List ℕ = drop p (unread c ++ bytes) in
           let after : LogChecker = keeping (counted c (length bytes)) s2 rest in
           let w : Waits c.directory (unread c ++ bytes) (c.total - c.held) s2 =
-          check_waits c.directory (unread c ++ bytes) (c.total - c.held) c.standing s2 (start-sound c bytes m.kept total-few these m.going h.0) (omega (arith, o.stands.front)) q in
+          check_waits c.directory (unread c ++ bytes) (c.total - c.held) c.standing s2 (start-sound c bytes m.kept total-few these h.0) (omega (arith, o.stands.front)) q in
           let k : checker_kept after ≡ true = ap (λ (x : Checked). checker_kept x.checker) (sym (taken_is (Ok s2) q)) ∙ kept-after in
           let j : length (unread c ++ bytes) ≡ length (unread c) + length bytes = length-append (unread c) bytes in
           let g : check_in d (all ++ bytes) 0 begin ≡ Ok (moved_standing s.reader.position s2) = goes_on ∙ ap (moved_check s.reader.position) q in (
             record {
               directory = m.directory;
-              long = padded-length rest (kept_open after k m.going h.0).room;
+              long = padded-length rest (kept_open after k h.0).room;
               total = omega (arith, m.total, lengths);
               kept = k;
-              going = m.going;
               holds = subst (Holds after (all ++ bytes)) (sym g) (
                 h.0,
                 unpadded rest ∙ ap (drop p) joined_is ∙ drop-drop p s.reader.position (all ++ bytes),
@@ -210,24 +212,11 @@ module _ (d : Directory) (ok : directory_kept d ≡ true) (first : ℕ) where
 
       settles_now : (ran : Ran) → check_in c.directory (unread c ++ bytes) (c.total - c.held) c.standing ≡ Err ran → After (piece_by (counted c (length bytes)) (unread c ++ bytes) (Err ran))
       settles_now ran q =
-          let f : decides ran.answer ≡ true = check_settles c.directory (unread c ++ bytes) (c.total - c.held) c.standing (omega (arith, o.stands.front)) ran q in
-          let g : check_in d (all ++ bytes) 0 begin ≡ Err ran = goes_on ∙ ap (moved_check s.reader.position) q in (
-            record {
-              directory = m.directory;
-              long = m.long;
-              total = omega (arith, m.total, lengths);
-              kept = ap (λ (x : Checked). checker_kept x.checker) (sym (taken_is (Err ran) q)) ∙ kept-after;
-              going = m.going;
-              holds = subst (Holds (settled (counted c (length bytes)) ran) (all ++ bytes)) (sym g) (not-zero ran.answer f, refl);
-            },
-            record {
-              answers = sym (ap (λ (k : Check). open_as0 (report_in 0 k).answer) g ∙ if_false (may_change ran.answer) _ _ (no_change ran.answer f));
-              place = λ m. sym (ap (λ (k : Check). (report_in 0 k).fault_at) g);
-            },
-          )
+          is_settled ran (check_settles c.directory (unread c ++ bytes) (c.total - c.held) c.standing (omega (arith, o.stands.front)) ran q)
+          (goes_on ∙ ap (moved_check s.reader.position) q)
 
       was_waiting : After (piece_of c bytes)
-      was_waiting = subst After (sym (piece_is ∙ if_true (is_open c) _ _ h.0)) (by (check_in c.directory (unread c ++ bytes) (c.total - c.held) c.standing) refl)
+      was_waiting = subst After (sym (piece_is stage.Open h.0)) (by (check_in c.directory (unread c ++ bytes) (c.total - c.held) c.standing) refl)
         where
           by : (k : Check) → check_in c.directory (unread c ++ bytes) (c.total - c.held) c.standing ≡ k → After (piece_taken c bytes)
           by (Ok s2) q = subst After (sym (taken_is (Ok s2) q)) (waits-again s2 q)
@@ -257,16 +246,16 @@ module _ (d : Directory) (ok : directory_kept d ≡ true) (first : ℕ) where
   closes : (c : LogChecker) (all : List ℕ) → Means c all → (close_of c).ran ≡ report_in 0 (check_in d all 0 begin)
   unfolding close_of close_kept
   closes c all m =
-      ap (λ (x : Closed). x.ran) (if_true (checker_kept c) _ _ m.kept ∙ if_false c.closed _ _ m.going) ∙ by (check_in d all 0 begin) refl
+      ap (λ (x : Closed). x.ran) (if_true (checker_kept c) _ _ m.kept) ∙ by (check_in d all 0 begin) refl
     where
-      by : (k : Check) → check_in d all 0 begin ≡ k → report_now c ≡ report_in 0 (check_in d all 0 begin)
+      by : (k : Check) → check_in d all 0 begin ≡ k → (close_at c c.stage).ran ≡ report_in 0 (check_in d all 0 begin)
       by (Err ran) e =
           let h : Holds c all (Err ran) = subst (Holds c all) e m.holds in
-          if_false (is_open c) _ _ h.0 ∙ h.1 ∙ sym (ap (report_in 0) e)
+          ap (λ (g : Stage). (close_at c g).ran) h ∙ sym (ap (report_in 0) e)
       by (Ok s) e =
           let h : Holds c all (Ok s) = subst (Holds c all) e m.holds in
           let z : c.total - c.held ≡ 0 + s.reader.position = omega (arith, h.2, m.total) in
-          if_true (is_open c) _ _ h.0
+          ap (λ (g : Stage). (close_at c g).ran) h.0
           ∙ ap (λ (x : Standing). report_of x (if x.reader.inside then Cut else EndOfLog) (c.total - c.held)) h.3
           ∙ ap (report_of s (if s.reader.inside then Cut else EndOfLog)) z
           ∙ sym (ap (report_in 0) e)
@@ -391,11 +380,13 @@ module _ (c : LogChecker) (bytes : List ℕ) where
   unfolding piece_of piece_kept
   says =
       chosen (Says c) (checker_kept c) _ _
-      (λ kept. chosen (Says c) c.closed _ _ (λ e. refuses BadArgument refl refl)
-      (λ going. chosen (Says c) (leb (9223372036854775808 - c.total) (length bytes)) _ _ (λ e. refuses BadArgument refl refl)
-      (λ e. chosen (Says c) (is_open c) _ _ (λ live. taken-says (kept_open c kept going live))
-      (λ live. decided (kept-settled c kept going live)))))
+      (λ kept. chosen (Says c) (leb (9223372036854775808 - c.total) (length bytes)) _ _ (λ e. refuses BadArgument refl refl) (λ e. by kept c.stage refl))
       (λ e. refuses BadState refl refl)
+    where
+      by : checker_kept c ≡ true → (g : Stage) → c.stage ≡ g → Says c (piece_at c bytes g)
+      by kept stage.Open q = taken-says (kept_open c kept q)
+      by kept (stage.Settled ran) q = decided (kept-settled c kept ran q)
+      by kept stage.Closed q = refuses BadArgument refl refl
 
   -- NO PIECE ANSWERS 1 OR 2
   pub never-1-or-2 : may_change (piece_of c bytes).answer ≡ true → (piece_of c bytes).answer ≡ Done
@@ -417,32 +408,37 @@ module _ (c : LogChecker) (bytes : List ℕ) where
 
 -- ---- the close
 
-close_twice : (c : LogChecker) → checker_kept c ≡ true → c.closed ≡ true → close_of c ≡ unclosed BadArgument c
+close_twice : (c : LogChecker) → checker_kept c ≡ true → c.stage ≡ stage.Closed → close_of c ≡ unclosed BadArgument c
 unfolding close_of close_kept
-close_twice c k e = if_true (checker_kept c) _ _ k ∙ if_true c.closed _ _ e
+close_twice c k q = if_true (checker_kept c) _ _ k ∙ ap (close_at c) q
 
 module _ (c : LogChecker) where
-  report_few : checker_kept c ≡ true → c.closed ≡ false → number_of (report_now c).answer ≤ 12
-  report_few kept going =
-      chosen (λ (x : Ran). number_of x.answer ≤ 12) (is_open c) _ _
-      (λ live. chosen (λ (x : Answer). number_of x ≤ 12) c.standing.reader.inside Cut EndOfLog (λ e. omega arith) (λ e. omega arith))
-      (λ live. most-twelve c.ran.answer (kept-settled c kept going live))
-
   -- 13 AND 14 CHANGE NOTHING at the close either
   pub close_unchanged : 12 < number_of (close_of c).ran.answer → (close_of c).checker ≡ c
   unfolding close_of close_kept
-  close_unchanged =
-      let Same : Closed → Type 0 = λ x. 12 < number_of x.ran.answer → x.checker ≡ c in
-      chosen Same (checker_kept c) _ _
-      (λ kept. chosen Same c.closed _ _ (λ e m. refl) (λ going m. absurd (omega (arith, report_few kept going))))
-      (λ e m. refl)
+  close_unchanged = chosen Same (checker_kept c) _ _ (λ kept. by kept c.stage refl) (λ e m. refl)
+    where
+      Same : Closed → Type 0
+      Same x = 12 < number_of x.ran.answer → x.checker ≡ c
+
+      few : (b : Bool) → number_of (if b then Cut else EndOfLog) ≤ 12
+      few true = omega arith
+      few false = omega arith
+
+      by : checker_kept c ≡ true → (g : Stage) → c.stage ≡ g → Same (close_at c g)
+      by kept stage.Open q m = absurd (omega (arith, few c.standing.reader.inside))
+      by kept (stage.Settled ran) q m = absurd (omega (arith, most-twelve ran.answer (kept-settled c kept ran q)))
+      by kept stage.Closed q m = refl
 
   module _ (kept : checker_kept c ≡ true) where
-    closed_then : (close_of c).checker.closed ≡ true
+    closed_then : (close_of c).checker.stage ≡ stage.Closed
     unfolding close_of close_kept
-    closed_then =
-        ap (λ (x : Closed). x.checker.closed) (if_true (checker_kept c) _ _ kept)
-        ∙ chosen (λ (x : Closed). x.checker.closed ≡ true) c.closed _ _ (λ e. e) (λ e. refl)
+    closed_then = ap (λ (x : Closed). x.checker.stage) (if_true (checker_kept c) _ _ kept) ∙ by c.stage refl
+      where
+        by : (g : Stage) → c.stage ≡ g → (close_at c g).checker.stage ≡ stage.Closed
+        by stage.Open q = refl
+        by (stage.Settled ran) q = refl
+        by stage.Closed q = q
 
     kept_then : checker_kept (close_of c).checker ≡ true
     unfolding close_of
@@ -451,7 +447,10 @@ module _ (c : LogChecker) where
     -- AFTER THE CLOSE EVERY CALL GIVES 14 and changes nothing
     pub piece_after : (bytes : List ℕ) → piece_of (close_of c).checker bytes ≡ answered BadArgument (close_of c).checker
     unfolding piece_of piece_kept
-    piece_after bytes = if_true (checker_kept (close_of c).checker) _ _ kept_then ∙ if_true (close_of c).checker.closed _ _ closed_then
+    piece_after bytes =
+        let x : LogChecker = (close_of c).checker in
+        if_true (checker_kept x) _ _ kept_then
+        ∙ chosen (λ (y : Checked). y ≡ answered BadArgument x) (leb (9223372036854775808 - x.total) (length bytes)) _ _ (λ e. refl) (λ e. ap (piece_at x bytes) closed_then)
 
     pub close_after : close_of (close_of c).checker ≡ unclosed BadArgument (close_of c).checker
     close_after = close_twice (close_of c).checker kept_then closed_then

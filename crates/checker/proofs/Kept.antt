@@ -19,12 +19,14 @@ use Rattle.checker.proofs.Lasting.{step-long}
 use Rattle.checker.proofs.Seen.{moved_reader, seen, moved_seen, seen-moved}
 use Rattle.output.specs.Put.{put}
 use Rattle.output.proofs.Laws.{wrote-front, all_left}
+use Rattle.replay.specs.declared.many_records.Ran.{Ran}
 use Rattle.checker.specs.Check.{Check, may_change, check_in}
-use Rattle.checker.specs.Checker.{unread, padded, is_open, waits, checker_kept, counted, keeping, settled, piece_by, piece_taken, piece_kept, closing, close_kept}
+use Rattle.checker.specs.Checker.{unread, padded, waits, checker_kept, counted, keeping, settled, piece_by, piece_taken, piece_at, piece_kept, report_now, closing, close_at, close_kept}
 use Rattle.checker.specs.Inner.{Sound}
 use Rattle.checker.specs.declared.checker.LogChecker.{LogChecker}
+use Rattle.checker.specs.declared.checker.Stage.{Stage}
+use Rattle.checker.specs.declared.checker.Stage.TheVariants as stage
 use Rattle.checker.specs.declared.checker.Checked.{Checked}
-use Rattle.checker.specs.declared.checker.Closed.{Closed}
 use Rattle.checker.specs.declared.standing.Standing.{Standing}
 use Rattle.checker.proofs.Rules.{chosen, Open, kept-directory, kept-total, kept_open, kept-settled, open_checker, settled_checker, closed_checker}
 use Rattle.checker.proofs.Sound.{Waits, check_waits, check_settles}
@@ -80,9 +82,9 @@ module _ (d : Directory) (log : List ℕ) (r : LogReader) (within : r.position �
 -- ---- a piece
 
 module _ (c : LogChecker) (bytes : List ℕ) (kept : checker_kept c ≡ true) (few : c.total + length bytes < 9223372036854775808) (known : Bytes (unread c ++ bytes))
-    (going : c.closed ≡ false) (live : is_open c ≡ true) where
+    (is_open : c.stage ≡ stage.Open) where
   o : Open c
-  o = kept_open c kept going live
+  o = kept_open c kept is_open
 
   abbrev all : List ℕ
   all = unread c ++ bytes
@@ -122,7 +124,7 @@ module _ (c : LogChecker) (bytes : List ℕ) (kept : checker_kept c ≡ true) (f
             let t : length (drop s.reader.position all) ≤ c.total + length bytes = omega (arith, lengths, o.taken) in
             let b : s.start ≤ c.total + length bytes - length (drop s.reader.position all) = omega (arith, w.sound.begins, w.within, o.taken, lengths) in
             let e : s.reader.inside ≡ false → s.start ≡ c.total + length bytes - length (drop s.reader.position all) = λ i. omega (arith, w.sound.between i, w.within, o.taken, lengths) in
-            open_checker (keeping (counted c (length bytes)) s (drop s.reader.position all)) (kept-directory c kept) few live
+            open_checker (keeping (counted c (length bytes)) s (drop s.reader.position all)) (kept-directory c kept) few is_open
             (record {
               room = r;
               taken = t;
@@ -133,7 +135,7 @@ module _ (c : LogChecker) (bytes : List ℕ) (kept : checker_kept c ≡ true) (f
         by : (k : Check) → check_in c.directory all base c.standing ≡ k → checker_kept (piece_by (counted c (length bytes)) all k).checker ≡ true
         by (Ok s) e = waiting s (check_waits c.directory all base c.standing s start-sound (omega (arith, o.stands.front)) e)
         by (Err ran) e =
-            settled_checker (settled (counted c (length bytes)) ran) (kept-directory c kept) few (check_settles c.directory all base c.standing (omega (arith, o.stands.front)) ran e)
+            settled_checker (settled (counted c (length bytes)) ran).checker (kept-directory c kept) few ran refl (check_settles c.directory all base c.standing (omega (arith, o.stands.front)) ran e)
 
 -- ---- every call
 
@@ -142,17 +144,23 @@ module _ (c : LogChecker) (kept : checker_kept c ≡ true) where
   pub piece_keeps : (bytes : List ℕ) → Bytes (unread c ++ bytes) → length c.part ≡ 1043 → checker_kept (piece_kept c bytes).checker ≡ true
   unfolding piece_kept
   piece_keeps bytes known long =
-      let Rules : Checked → Type 0 = λ x. checker_kept x.checker ≡ true in
-      chosen Rules c.closed _ _ (λ e. kept)
-      (λ going. chosen Rules (leb (9223372036854775808 - c.total) (length bytes)) _ _ (λ e. kept)
-      (λ e.
-      let few : c.total + length bytes < 9223372036854775808 = omega (arith, leb-false (9223372036854775808 - c.total) (length bytes) e) in
-      chosen Rules (is_open c) _ _ (λ live. taken-kept c bytes kept few known going live long)
-      (λ live. settled_checker (counted c (length bytes)) (kept-directory c kept) few (kept-settled c kept going live))))
+      chosen (λ (x : Checked). checker_kept x.checker ≡ true) (leb (9223372036854775808 - c.total) (length bytes)) _ _ (λ e. kept)
+      (λ e. by (omega (arith, leb-false (9223372036854775808 - c.total) (length bytes) e)) c.stage refl)
+    where
+      by : c.total + length bytes < 9223372036854775808 → (g : Stage) → c.stage ≡ g → checker_kept (piece_at c bytes g).checker ≡ true
+      by few stage.Open q = taken-kept c bytes kept few known q long
+      by few (stage.Settled ran) q = settled_checker (settled (counted c (length bytes)) ran).checker (kept-directory c kept) few ran refl (kept-settled c kept ran q)
+      by few stage.Closed q = kept
 
   -- AND SO DOES THE CLOSE
   pub close_keeps : checker_kept (close_kept c).checker ≡ true
   unfolding close_kept
-  close_keeps =
-      chosen (λ (x : Closed). checker_kept x.checker ≡ true) c.closed _ _ (λ e. kept)
-      (λ e. closed_checker (closing c).checker (kept-directory c kept) (kept-total c kept) refl)
+  close_keeps = by c.stage
+    where
+      closes : (ran : Ran) → checker_kept (closing c ran).checker ≡ true
+      closes ran = closed_checker (closing c ran).checker (kept-directory c kept) (kept-total c kept) refl
+
+      by : (g : Stage) → checker_kept (close_at c g).checker ≡ true
+      by stage.Open = closes (report_now c)
+      by (stage.Settled ran) = closes ran
+      by stage.Closed = kept

@@ -1,6 +1,6 @@
 -- The rules of a checker, one by one. Assumes nothing.
-use mathlib.Core.Path.{◌≡◌, refl, sym, ◌∙◌}
-use mathlib.Core.Bool.{Bool, true, false, true≢false, ◌&&◌, ◌||◌}
+use mathlib.Core.Path.{◌≡◌, refl, sym, ap, ◌∙◌}
+use mathlib.Core.Bool.{Bool, true, false, true≢false, ◌||◌}
 use Prim.Native.Nat.{ℕ, ◌-◌, ◌≤◌, ◌<◌}
 use lib.Dec.{eqb, leb, ltb}
 use borrow.Author.Tests.{leb-true, le-leb, ltb-true, lt-ltb, eqb-true, eq-eqb}
@@ -9,10 +9,12 @@ use Rattle.directory.specs.Directory.{directory_kept}
 use Rattle.record.specs.Next.{step_of}
 use Rattle.numbers.proofs.Laws.{both, left-of, right_of}
 use Rattle.checker.specs.Check.{decides, stands_before}
-use Rattle.checker.specs.Checker.{unread, is_open, waits, open_kept_of, checker_kept}
+use Rattle.checker.specs.Checker.{unread, waits, open_kept_of, stage_kept, checker_kept}
 use Rattle.checker.specs.declared.checker.LogChecker.{LogChecker}
+use Rattle.checker.specs.declared.checker.Stage.{Stage}
+use Rattle.checker.specs.declared.checker.Stage.TheVariants as stage
+use Rattle.replay.specs.declared.many_records.Ran.{Ran}
 use Rattle.checker.specs.declared.standing.Standing.{Standing}
-use Rattle.checker.proofs.Answers.{not-zero}
 
 -- of two the second, where the first isn't
 other : (a b : Bool) → a || b ≡ true → a ≡ false → b ≡ true
@@ -27,14 +29,6 @@ one false b h = h refl
 pub chosen : {A : Type 0} (P : A → Type 0) (b : Bool) (x y : A) → (b ≡ true → P x) → (b ≡ false → P y) → P (if b then x else y)
 chosen P true x y h k = h refl
 chosen P false x y h k = k refl
-
--- where it isn't so
-pub refutes : {b : Bool} → (b ≡ true → ⊥) → false ≡ b
-refutes {b} h = by b refl
-  where
-    by : (t : Bool) → b ≡ t → false ≡ b
-    by true q = absurd (h q)
-    by false q = sym q
 
 -- ---- where an open checker stands
 
@@ -95,14 +89,6 @@ module _ (c : LogChecker) where
       both (le-leb c.held 1043 o.room)
       (both (le-leb c.held c.total o.taken) (both (stands-kept (c.total - c.held) c.standing o.stands) o.waiting))
 
-  -- of the last rule, the ones before it kept
-  pub open_waiting : c.held ≤ 1043 → c.held ≤ c.total → stands_before (c.total - c.held) c.standing ≡ true → waits (step_of c.directory (unread c) c.standing.reader) ≡ open_kept_of c
-  open_waiting r t s = by (waits (step_of c.directory (unread c) c.standing.reader)) refl
-    where
-      by : (b : Bool) → waits (step_of c.directory (unread c) c.standing.reader) ≡ b → waits (step_of c.directory (unread c) c.standing.reader) ≡ open_kept_of c
-      by true q = q ∙ sym (open_kept (record { room = r; taken = t; stands = stands_facts (c.total - c.held) c.standing s; waiting = q }))
-      by false q = q ∙ refutes (λ e. true≢false (sym (open_facts e).waiting ∙ q))
-
   -- ---- all of them
 
   pub kept-directory : checker_kept c ≡ true → directory_kept c.directory ≡ true
@@ -113,41 +99,27 @@ module _ (c : LogChecker) where
   unfolding checker_kept
   kept-total e = ltb-true c.total 9223372036854775808 (left-of (ltb c.total 9223372036854775808) _ (right_of (directory_kept c.directory) _ e))
 
-  kept-rest : checker_kept c ≡ true → c.closed ≡ false → decides c.ran.answer || (is_open c && open_kept_of c) ≡ true
+  -- its stage's rule, by the stage
+  kept-stage : checker_kept c ≡ true → (g : Stage) → c.stage ≡ g → stage_kept c g ≡ true
   unfolding checker_kept
-  kept-rest e f = other c.closed _ (right_of (ltb c.total 9223372036854775808) _ (right_of (directory_kept c.directory) _ e)) f
+  kept-stage e g q = ap (stage_kept c) (sym q) ∙ right_of (ltb c.total 9223372036854775808) _ (right_of (directory_kept c.directory) _ e)
 
-  pub kept_open : checker_kept c ≡ true → c.closed ≡ false → is_open c ≡ true → Open c
-  kept_open e f g = by (decides c.ran.answer) refl
-    where
-      by : (b : Bool) → decides c.ran.answer ≡ b → Open c
-      by true q = absurd (true≢false (sym g ∙ not-zero c.ran.answer q))
-      by false q = open_facts (right_of (is_open c) (open_kept_of c) (other (decides c.ran.answer) (is_open c && open_kept_of c) (kept-rest e f) q))
+  pub kept_open : checker_kept c ≡ true → c.stage ≡ stage.Open → Open c
+  kept_open e q = open_facts (kept-stage e stage.Open q)
 
-  pub kept-settled : checker_kept c ≡ true → c.closed ≡ false → is_open c ≡ false → decides c.ran.answer ≡ true
-  kept-settled e f g = by (decides c.ran.answer) refl
-    where
-      by : (b : Bool) → decides c.ran.answer ≡ b → decides c.ran.answer ≡ true
-      by true q = q
-      by false q = absurd (true≢false (sym (left-of (is_open c) (open_kept_of c) (other (decides c.ran.answer) (is_open c && open_kept_of c) (kept-rest e f) q)) ∙ g))
+  pub kept-settled : checker_kept c ≡ true → (ran : Ran) → c.stage ≡ stage.Settled ran → decides ran.answer ≡ true
+  kept-settled e ran q = kept-stage e (stage.Settled ran) q
 
   module _ (e : directory_kept c.directory ≡ true) (f : c.total < 9223372036854775808) where
-    front_kept : c.closed || (decides c.ran.answer || (is_open c && open_kept_of c)) ≡ true → checker_kept c ≡ true
+    stage_checker : (g : Stage) → c.stage ≡ g → stage_kept c g ≡ true → checker_kept c ≡ true
     unfolding checker_kept
-    front_kept g = both e (both (lt-ltb c.total 9223372036854775808 f) g)
+    stage_checker g q k = both e (both (lt-ltb c.total 9223372036854775808 f) (ap (stage_kept c) q ∙ k))
 
-    pub open_checker : is_open c ≡ true → Open c → checker_kept c ≡ true
-    open_checker g o = front_kept (one c.closed _ (λ h. one (decides c.ran.answer) _ (λ i. both g (open_kept o))))
+    pub open_checker : c.stage ≡ stage.Open → Open c → checker_kept c ≡ true
+    open_checker q o = stage_checker stage.Open q (open_kept o)
 
-    pub settled_checker : decides c.ran.answer ≡ true → checker_kept c ≡ true
-    settled_checker g = front_kept (one c.closed _ (λ h. one (decides c.ran.answer) _ (λ i. absurd (true≢false (sym g ∙ i)))))
+    pub settled_checker : (ran : Ran) → c.stage ≡ stage.Settled ran → decides ran.answer ≡ true → checker_kept c ≡ true
+    settled_checker ran q k = stage_checker (stage.Settled ran) q k
 
-    pub closed_checker : c.closed ≡ true → checker_kept c ≡ true
-    closed_checker g = front_kept (one c.closed _ (λ h. absurd (true≢false (sym g ∙ h))))
-
-    pub open_last : c.closed ≡ false → is_open c ≡ true → open_kept_of c ≡ checker_kept c
-    open_last g live = by (open_kept_of c) refl
-      where
-        by : (b : Bool) → open_kept_of c ≡ b → open_kept_of c ≡ checker_kept c
-        by true q = q ∙ sym (open_checker live (open_facts q))
-        by false q = q ∙ refutes (λ k. true≢false (sym (open_kept (kept_open k g live)) ∙ q))
+    pub closed_checker : c.stage ≡ stage.Closed → checker_kept c ≡ true
+    closed_checker q = stage_checker stage.Closed q refl

@@ -1,8 +1,7 @@
 -- The checker (document 02, "One. Check a log off the card": "Our field recorder hands over a log in pieces, sometimes of no bytes. We want a
 -- checker that takes the pieces in turn, applies nothing, and at the close reports .."). Added.
-use Rattle.std.specs.Prelude.{Bool, true, false, ◌&&◌, ◌||◌, ◌≡◌, List, [], ◌∷◌, ◌++◌, ℕ, ◌+◌, ◌-◌, ◌*◌, eqb, leb, ltb, length, take, drop, replicate, Result, Ok, Err}
+use Rattle.std.specs.Prelude.{Bool, true, false, ◌&&◌, ◌≡◌, List, [], ◌∷◌, ◌++◌, ℕ, ◌+◌, ◌-◌, ◌*◌, leb, ltb, length, take, drop, replicate, Result, Ok, Err}
 use Rattle.std.specs.Prelude.{if◌then◌else◌}
-use Rattle.answer.specs.Answer.{number_of}
 use Rattle.answer.specs.declared.answer.Answer.{Answer}
 use Rattle.answer.specs.declared.answer.Answer.TheVariants.{Done, EndOfLog, Cut, BadState, BadArgument}
 use Rattle.directory.specs.Directory.{directory_kept}
@@ -13,6 +12,8 @@ use Rattle.output.specs.Put.{put}
 use Rattle.checker.specs.Check.{may_change, decides, first_standing, reading_at, stands_before, report_of, Check, check_in}
 use Rattle.checker.specs.declared.standing.Standing.{Standing}
 use Rattle.checker.specs.declared.checker.LogChecker.{LogChecker}
+use Rattle.checker.specs.declared.checker.Stage.{Stage}
+use Rattle.checker.specs.declared.checker.Stage.TheVariants as stage
 use Rattle.checker.specs.declared.checker.Checked.{Checked}
 use Rattle.checker.specs.declared.checker.Closed.{Closed}
 use Rattle.record.specs.declared.reader.Stepped.{Stepped}
@@ -26,17 +27,9 @@ unread c = take c.held c.part
 unfoldable pub padded : List ℕ → List ℕ
 padded bytes = put (replicate 1043 0) 0 bytes
 
--- whether what a run reports is open still
-abbrev pub is_open : LogChecker → Bool
-is_open c = eqb (number_of c.ran.answer) 0
-
--- nothing is reported yet
-abbrev pub no_report : Ran
-no_report = record { answer = Done; position = 0; count = 0; fault_at = 0 }
-
 -- "Directory and first expected id are fixed at the start"
 abbrev pub new_checker : Directory → ℕ → LogChecker
-new_checker d first = record { directory = d; standing = first_standing first; held = 0; part = padded []; total = 0; ran = no_report; closed = false }
+new_checker d first = record { directory = d; standing = first_standing first; held = 0; part = padded []; total = 0; stage = stage.Open }
 
 -- the start's answer: 13 for a directory that breaks a rule, and again at every call
 abbrev pub checker_start : Directory → ℕ → Checked
@@ -54,9 +47,15 @@ unfoldable pub open_kept_of : LogChecker → Bool
 open_kept_of c =
     leb c.held 1043 && (leb c.held c.total && (stands_before (c.total - c.held) c.standing && waits (step_of c.directory (unread c) c.standing.reader)))
 
--- the directory's rules; fewer than 2^63 bytes taken; closed, or settled with an answer that stops a run, or open
+-- open; or settled with an answer that stops a run; or closed
+abbrev pub stage_kept : LogChecker → Stage → Bool
+stage_kept c stage.Open = open_kept_of c
+stage_kept c (stage.Settled ran) = decides ran.answer
+stage_kept c stage.Closed = true
+
+-- the directory's rules; fewer than 2^63 bytes taken; and the stage's
 unfoldable pub checker_kept : LogChecker → Bool
-checker_kept c = directory_kept c.directory && (ltb c.total 9223372036854775808 && (c.closed || (decides c.ran.answer || (is_open c && open_kept_of c))))
+checker_kept c = directory_kept c.directory && (ltb c.total 9223372036854775808 && stage_kept c c.stage)
 
 -- ---- its size
 
@@ -69,9 +68,9 @@ abbrev pub standing_bytes : ℕ
 standing_bytes = 8 + 8 + 8 + (8 + 8 + 4 + 1 + 1)
 
 -- "It may keep no more than 2,048 bytes between pieces": 16 descriptions and their count, the standing, the unread bytes and how many they are,
--- the bytes taken, the report, and whether it is closed
+-- the bytes taken, and the stage: which it is, and the report
 abbrev pub checker_bytes : ℕ
-checker_bytes = (16 * description_bytes + 8) + standing_bytes + (1043 + 8) + 8 + (1 + 8 + 8 + 8) + 1
+checker_bytes = (16 * description_bytes + 8) + standing_bytes + (1043 + 8) + 8 + (1 + (1 + 8 + 8 + 8))
 
 -- ---- a piece
 
@@ -81,11 +80,15 @@ answered answer c = record { answer = answer; fault_at = c.total; checker = c }
 
 -- with so many bytes more
 abbrev pub counted : LogChecker → ℕ → LogChecker
-counted c n = record { directory = c.directory; standing = c.standing; held = c.held; part = c.part; total = c.total + n; ran = c.ran; closed = c.closed }
+counted c n = record { directory = c.directory; standing = c.standing; held = c.held; part = c.part; total = c.total + n; stage = c.stage }
 
 -- what is settled is answered by the piece that settles it and by every later one, with the place of the fault
-abbrev pub told : LogChecker → Checked
-told c = record { answer = c.ran.answer; fault_at = c.ran.fault_at; checker = c }
+abbrev pub settled : LogChecker → Ran → Checked
+settled c ran = record {
+  answer = ran.answer;
+  fault_at = ran.fault_at;
+  checker = record { directory = c.directory; standing = c.standing; held = c.held; part = c.part; total = c.total; stage = stage.Settled ran };
+}
 
 -- the bytes not read are kept, and the reader stands before them
 abbrev pub keeping : LogChecker → Standing → List ℕ → LogChecker
@@ -95,30 +98,29 @@ keeping c s bytes = record {
   held = length bytes;
   part = padded bytes;
   total = c.total;
-  ran = c.ran;
-  closed = c.closed;
+  stage = c.stage;
 }
-
--- settled
-abbrev pub settled : LogChecker → Ran → LogChecker
-settled c ran = record { directory = c.directory; standing = c.standing; held = c.held; part = c.part; total = c.total; ran = ran; closed = c.closed }
 
 -- after a check of the unread bytes and the piece
 abbrev pub piece_by : LogChecker → List ℕ → Check → Checked
 piece_by c bytes (Ok s) = answered Done (keeping c s (drop s.reader.position bytes))
-piece_by c bytes (Err ran) = told (settled c ran)
+piece_by c bytes (Err ran) = settled c ran
 
 -- the unread bytes and the piece, checked from where it stands
 unfoldable pub piece_taken : LogChecker → List ℕ → Checked
 piece_taken c bytes = piece_by (counted c (length bytes)) (unread c ++ bytes) (check_in c.directory (unread c ++ bytes) (c.total - c.held) c.standing)
 
+-- by the stage
+abbrev pub piece_at : LogChecker → List ℕ → Stage → Checked
+piece_at c bytes stage.Open = piece_taken c bytes
+piece_at c bytes (stage.Settled ran) = settled (counted c (length bytes)) ran
+piece_at c bytes stage.Closed = answered BadArgument c  -- 14
+
 -- "a call after the close, or a piece that brings the total to 2^63 bytes, gives 14 and changes nothing"
 unfoldable pub piece_kept : LogChecker → List ℕ → Checked
 piece_kept c bytes =
-    if c.closed then answered BadArgument c else  -- 14
     if leb (9223372036854775808 - c.total) (length bytes) then answered BadArgument c else  -- 14
-    if is_open c then piece_taken c bytes else
-    told (counted c (length bytes))
+    piece_at c bytes c.stage
 
 -- `piece`: 13 first
 unfoldable pub piece_of : LogChecker → List ℕ → Checked
@@ -132,24 +134,30 @@ abbrev pub report_in : ℕ → Check → Ran
 report_in base (Ok s) = report_of s (if s.reader.inside then Cut else EndOfLog) (base + s.reader.position)
 report_in base (Err ran) = ran
 
--- the checker's own: its reader stands before the unread bytes
+-- the checker's own, while it is open: its reader stands before the unread bytes
 abbrev pub report_now : LogChecker → Ran
-report_now c = if is_open c then report_of c.standing (if c.standing.reader.inside then Cut else EndOfLog) (c.total - c.held) else c.ran
+report_now c = report_of c.standing (if c.standing.reader.inside then Cut else EndOfLog) (c.total - c.held)
 
 -- beside 13 and 14: the bytes taken so far, and no record
 abbrev pub unclosed : Answer → LogChecker → Closed
 unclosed answer c = record { ran = record { answer = answer; position = c.total; count = 0; fault_at = c.total }; checker = c }
 
 -- "at the close reports the answer, position and record count"
-abbrev pub closing : LogChecker → Closed
-closing c = record {
-  ran = report_now c;
-  checker = record { directory = c.directory; standing = c.standing; held = c.held; part = c.part; total = c.total; ran = c.ran; closed = true };
+abbrev pub closing : LogChecker → Ran → Closed
+closing c ran = record {
+  ran = ran;
+  checker = record { directory = c.directory; standing = c.standing; held = c.held; part = c.part; total = c.total; stage = stage.Closed };
 }
+
+-- by the stage
+abbrev pub close_at : LogChecker → Stage → Closed
+close_at c stage.Open = closing c (report_now c)
+close_at c (stage.Settled ran) = closing c ran
+close_at c stage.Closed = unclosed BadArgument c
 
 -- "a call after the close .. gives 14"
 unfoldable pub close_kept : LogChecker → Closed
-close_kept c = if c.closed then unclosed BadArgument c else closing c
+close_kept c = close_at c c.stage
 
 -- `close`: 13 first
 unfoldable pub close_of : LogChecker → Closed

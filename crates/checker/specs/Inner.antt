@@ -1,8 +1,9 @@
 -- What the inner functions of the checker ask for and answer. Nothing here has to be believed: `Checker` says what the public calls answer.
 use Rattle.std.specs.Prelude.{true, false, List, ◌++◌, ◌≡◌, ℕ, ◌+◌, ◌-◌, ◌≤◌, ◌<◌, length, take, get_or}
 use Rattle.record.specs.declared.reader.LogReader.{LogReader}
-use Rattle.checker.specs.Checker.{unread, is_open, checker_kept}
+use Rattle.checker.specs.Checker.{unread, checker_kept}
 use Rattle.checker.specs.declared.checker.LogChecker.{LogChecker}
+use Rattle.checker.specs.declared.checker.Stage.TheVariants as stage
 use Rattle.checker.specs.declared.standing.Standing.{Standing}
 
 -- a standing as a checker's rules want it, in bytes of which the first is byte `base` of all
@@ -21,8 +22,7 @@ pub record Stands (log : List ℕ) (base : ℕ) (s : Standing) : Type 0 where
 -- a checker that a piece is read by
 pub record Takes (c : LogChecker) (bytes : List ℕ) : Type 0 where
   pub kept : checker_kept c ≡ true
-  pub open_yet : is_open c ≡ true
-  pub going : c.closed ≡ false
+  pub is_open : c.stage ≡ stage.Open
   pub few : c.total + length bytes < 9223372036854775808
 
 -- the unread bytes and as many of the piece as their action can have

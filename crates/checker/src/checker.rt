@@ -1,9 +1,9 @@
 // A log checked as it comes, in pieces of any length.
-ghost use Rattle.std.specs.Prelude.{◌≡◌, true, false, ◌++◌, ◌+◌, ◌≤◌, ◌<◌, length};
+ghost use Rattle.std.specs.Prelude.{◌≡◌, true, ◌++◌, ◌+◌, ◌≤◌, ◌<◌, length};
 ghost use Rattle.directory.specs.Directory.{directory_kept};
 ghost use Rattle.record.specs.Next.{step_of};
-ghost use Rattle.checker.specs.Check.{decides, check_in};
-ghost use Rattle.checker.specs.Checker.{unread, padded, is_open, checker_start, waits, open_kept_of, checker_kept, answered, counted, told, keeping, settled, piece_by, piece_taken, piece_kept, piece_of, report_now, unclosed, close_kept, close_of};
+ghost use Rattle.checker.specs.Check.{check_in};
+ghost use Rattle.checker.specs.Checker.{unread, padded, checker_start, waits, open_kept_of, stage_kept, checker_kept, answered, counted, keeping, settled, piece_by, piece_taken, piece_kept, piece_of, report_now, unclosed, closing, close_kept, close_of};
 ghost use Rattle.checker.specs.Inner.{Stands, Takes, Front};
 
 use super::standing::Standing;
@@ -18,7 +18,15 @@ pub const ROOM: usize = 1043;
 
 const LIMIT: usize = 9223372036854775808;
 
-// `part` holds the bytes of the action that isn't whole yet, `ran` what a run reports as soon as that is settled: its answer is 0 till then.
+// Pieces are read; or what a run reports is settled, whatever comes; or the log was closed.
+#[derive(Clone, Copy)]
+pub enum Stage {
+    Open,
+    Settled(Ran),
+    Closed,
+}
+
+// `part` holds the bytes of the action that isn't whole yet.
 #[derive(Clone, Copy)]
 pub struct LogChecker {
     pub directory: Directory,
@@ -26,8 +34,7 @@ pub struct LogChecker {
     pub held: usize,
     pub part: [u8; ROOM],
     pub total: usize,
-    pub ran: Ran,
-    pub closed: bool,
+    pub stage: Stage,
 }
 
 // `fault_at` is where a refusal's action begins, and the bytes taken so far beside 0, 13 and 14.
@@ -87,13 +94,7 @@ impl LogChecker {
             held: 0,
             part: [0u8; ROOM],
             total: 0,
-            ran: Ran {
-                answer: Answer::Done,
-                position: 0,
-                count: 0,
-                fault_at: 0,
-            },
-            closed: false,
+            stage: Stage::Open,
         };
         if directory.kept() {
             checker.answered(Answer::Done)
@@ -112,16 +113,6 @@ impl LogChecker {
         }
     }
 
-    fn told(self) -> Checked
-        ensures { result ≡ told self }
-    {
-        Checked {
-            answer: self.ran.answer,
-            fault_at: self.ran.fault_at,
-            checker: self,
-        }
-    }
-
     fn counted(self, n: usize) -> LogChecker
         requires { self.total + n < 9223372036854775808 }
         ensures { result ≡ counted self n }
@@ -132,10 +123,18 @@ impl LogChecker {
         }
     }
 
-    fn settled(self, ran: Ran) -> LogChecker
+    // What a run reports from here on.
+    fn settled(self, ran: Ran) -> Checked
         ensures { result ≡ settled self ran }
     {
-        LogChecker { ran, ..self }
+        Checked {
+            answer: ran.answer,
+            fault_at: ran.fault_at,
+            checker: LogChecker {
+                stage: Stage::Settled(ran),
+                ..self
+            },
+        }
     }
 
     // The bytes that weren't read, for the next piece.
@@ -152,21 +151,6 @@ impl LogChecker {
             part,
             ..self
         }
-    }
-
-    // Whether what a run reports is open still.
-    fn is_open(self) -> bool
-        ensures { result ≡ is_open self }
-    {
-        self.ran.answer == Answer::Done
-    }
-
-    // Whether what it reports stops a run.
-    fn is_settled(self) -> bool
-        ensures { result ≡ decides self.ran.answer }
-    {
-        let n = self.ran.answer.number();
-        3 <= n && n <= 12
     }
 
     fn unread(&self) -> &[u8]
@@ -187,14 +171,27 @@ impl LogChecker {
             && waits(self.directory, self.unread(), self.standing.reader)
     }
 
+    // Settled is only what stops a run.
+    fn stage_kept(self) -> bool
+        requires { directory_kept self.directory ≡ true }
+        ensures { result ≡ stage_kept self self.stage }
+    {
+        match self.stage {
+            Stage::Open => self.open_kept(),
+            Stage::Settled(ran) => {
+                let n = ran.answer.number();
+                3 <= n && n <= 12
+            }
+            Stage::Closed => true,
+        }
+    }
+
     // Whether it keeps its rules.
     #[tactic(auto, unfolding(crate::specs::Checker::checker_kept))]
     pub fn kept(self) -> bool
         ensures { result ≡ checker_kept self }
     {
-        self.directory.kept()
-            && self.total < LIMIT
-            && (self.closed || self.is_settled() || self.is_open() && self.open_kept())
+        self.directory.kept() && self.total < LIMIT && self.stage_kept()
     }
 
     // Bytes of which the first is byte `base` of all, from where the check stands in them.
@@ -207,7 +204,7 @@ impl LogChecker {
                 let at = last.reader.position;
                 self.keep(last, &bytes[at..]).answered(Answer::Done)
             }
-            Err(ran) => self.settled(ran).told(),
+            Err(ran) => self.settled(ran),
         }
     }
 
@@ -221,7 +218,7 @@ impl LogChecker {
         match one_step(self.directory, front, before, self.standing) {
             Ok(Some(s)) => after.walked(bytes, self.total, s.back(self.held)),
             Ok(None) => after.keep(self.standing, front).answered(Answer::Done),
-            Err(ran) => after.settled(ran).told(),
+            Err(ran) => after.settled(ran),
         }
     }
 
@@ -243,12 +240,13 @@ impl LogChecker {
         requires { checker_kept self ≡ true }
         ensures { result ≡ piece_kept self bytes.now }
     {
-        if self.closed || LIMIT - self.total <= bytes.len() {
-            self.answered(Answer::BadArgument)
-        } else if self.is_open() {
-            self.taken(bytes)
-        } else {
-            self.counted(bytes.len()).told()
+        if LIMIT - self.total <= bytes.len() {
+            return self.answered(Answer::BadArgument);
+        }
+        match self.stage {
+            Stage::Open => self.taken(bytes),
+            Stage::Settled(ran) => self.counted(bytes.len()).settled(ran),
+            Stage::Closed => self.answered(Answer::BadArgument),
         }
     }
 
@@ -264,19 +262,29 @@ impl LogChecker {
         }
     }
 
+    // What a run reports whose bytes end here.
     fn report(self) -> Ran
-        requires { (checker_kept self ≡ true) × (self.closed ≡ false) }
+        requires { self.held ≤ self.total }
         ensures { result ≡ report_now self }
     {
-        if !self.is_open() {
-            return self.ran;
-        }
         let answer = if self.standing.reader.inside {
             Answer::Cut
         } else {
             Answer::EndOfLog
         };
         self.standing.report(answer, self.total - self.held)
+    }
+
+    fn closing(self, ran: Ran) -> Closed
+        ensures { result ≡ closing self ran }
+    {
+        Closed {
+            ran,
+            checker: LogChecker {
+                stage: Stage::Closed,
+                ..self
+            },
+        }
     }
 
     fn no_run(self, answer: Answer) -> Closed
@@ -298,15 +306,10 @@ impl LogChecker {
         requires { checker_kept self ≡ true }
         ensures { result ≡ close_kept self }
     {
-        if self.closed {
-            return self.no_run(Answer::BadArgument);
-        }
-        Closed {
-            ran: self.report(),
-            checker: LogChecker {
-                closed: true,
-                ..self
-            },
+        match self.stage {
+            Stage::Open => self.closing(self.report()),
+            Stage::Settled(ran) => self.closing(ran),
+            Stage::Closed => self.no_run(Answer::BadArgument),
         }
     }
 

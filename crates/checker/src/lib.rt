@@ -5,5 +5,5 @@ mod checker;
 mod standing;
 mod walk;
 
-pub use checker::{Checked, Closed, LogChecker};
+pub use checker::{Checked, Closed, LogChecker, Stage};
 pub use standing::Standing;

@@ -20,7 +20,7 @@ walked-requires c =
     (front-after a.self a.bytes.now a.front.now c.requires.0 c.requires.1 _ c.counted-after.ensures, on-stands a.self a.bytes.now a.front.now c.requires.0 c.requires.1 _ (rw c.in-Ok-Some.field-0-is at c.in-Ok-Some.ensures) _ c.back.ensures)
 
 pub returns-in-Err : goal.returns-in-Err
-returns-in-Err c = across_told c.args.self c.args.bytes.now c.args.front.now c.requires.0 c.requires.1 _ c.in-Err.ensures _ _ _ c.counted-after.ensures c.settled.ensures c.told.ensures
+returns-in-Err c = across_told c.args.self c.args.bytes.now c.args.front.now c.requires.0 c.requires.1 _ c.in-Err.ensures _ _ c.counted-after.ensures c.settled.ensures
 
 pub returns-in-Ok-None : goal.returns-in-Ok-None
 returns-in-Ok-None c = across_kept c.args.self c.args.bytes.now c.args.front.now c.requires.0 c.requires.1 (rw c.in-Ok-None.field-0-is at c.in-Ok-None.ensures) _ _ _ c.counted-after.ensures c.keep.ensures c.answered.ensures
