@@ -4,9 +4,9 @@ use mathlib.Core.Bool.{Bool, true, false, true≢false}
 use mathlib.Core.List.{List}
 use Prim.Native.Nat.{ℕ, ◌≤◌}
 use native.Mathlib.Omega.{arith}
-use lib.Dec.{eqb, leb}
+use lib.Dec.{leb}
 use lib.ListN.{length}
-use borrow.Author.Tests.{leb-true, le-ltb, ne_eqb}
+use borrow.Author.Tests.{leb-true, le-ltb}
 use Rattle.std.specs.Prelude.{if◌then◌else◌}
 use Rattle.answer.specs.Answer.{number_of}
 use Rattle.answer.specs.declared.answer.Answer.{Answer}
@@ -31,9 +31,6 @@ most-twelve a e = leb-true (number_of a) 12 (right_of (leb 3 (number_of a)) (leb
 
 pub no_change : (a : Answer) → decides a ≡ true → may_change a ≡ false
 no_change a e = le-ltb (number_of a) 3 (least-three a e)
-
-pub not-zero : (a : Answer) → decides a ≡ true → eqb (number_of a) 0 ≡ false
-not-zero a e = ne_eqb (number_of a) 0 (λ z. omega (arith, least-three a e))
 
 -- ---- and one of them it is
 
