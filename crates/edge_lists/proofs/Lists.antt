@@ -9,7 +9,8 @@ use Rattle.change.specs.Change.{Change, change_of}
 use Rattle.change.specs.Insert.{Made, made_of}
 use Rattle.change.specs.declared.change.LogChange.{LogChange}
 use Rattle.change.specs.declared.change.Changed.{Changed}
-use Rattle.change.specs.declared.size.Sized.{Sized}
+use Rattle.std.specs.Prelude.{Result}
+use Rattle.answer.specs.declared.answer.Answer.{Answer}
 use Rattle.change.specs.declared.values.LocalValues.{LocalValues}
 use Rattle.host_words.specs.Head.{HeadLeft}
 use Rattle.host_words.specs.Change.{list_size, list_words_of, counts_in, head_of}
@@ -29,8 +30,8 @@ module _ (w words bytes : List ℕ) (r : Changed) {m : Made} (e : made_of r word
   pub insert-left : InsertLeft m w n z words bytes
   insert-left = record { list = kept; memories = subst (λ (x : Made). parts_of holder.List (counts_in x.change.parts) words bytes ≡ x.change.parts) e refl }
 
-pub size-left : {d e : Sized} {answer size : ℕ} → d ≡ e → SizeLeft d answer size → SizeLeft e answer size
-size-left {answer = answer} {size = size} q p = subst (λ (x : Sized). SizeLeft x answer size) q p
+pub size-left : {d e : Result ℕ Answer} {answer size : ℕ} → d ≡ e → SizeLeft d answer size → SizeLeft e answer size
+size-left {answer = answer} {size = size} q p = subst (λ (x : Result ℕ Answer). SizeLeft x answer size) q p
 
-pub values_left : {d e : LocalValues} {answer from to : ℕ} → d ≡ e → ValuesLeft d answer from to → ValuesLeft e answer from to
-values_left {answer = answer} {from = from} {to = to} q p = subst (λ (x : LocalValues). ValuesLeft x answer from to) q p
+pub values_left : {d e : Result LocalValues Answer} {answer from to : ℕ} → d ≡ e → ValuesLeft d answer from to → ValuesLeft e answer from to
+values_left {answer = answer} {from = from} {to = to} q p = subst (λ (x : Result LocalValues Answer). ValuesLeft x answer from to) q p

@@ -1,6 +1,6 @@
 -- What the calls of a change list leave of what they hand back: numbers, the list's words, its keys and bytes in the two memories.
 use Rattle.std.specs.Prelude.{◌≡◌, List, ℕ, Result, Ok, Err}
-use Rattle.answer.specs.Answer.{number_of}
+use Rattle.answer.specs.Answer.{number_of, answer_in}
 use Rattle.answer.specs.declared.answer.Answer.{Answer}
 use Rattle.memory.specs.Parts.{parts_of}
 use Rattle.memory.specs.declared.span.Holder.TheVariants as holder
@@ -18,12 +18,23 @@ pub record InsertLeft (m : Made) (w : List ℕ) (answer : ℕ) (after items chun
   pub list : HeadLeft list_size m.answer (list_words_of (head_of m.change)) w answer after
   pub memories : parts_of holder.List (counts_in m.change.parts) items chunks ≡ m.change.parts
 
--- a record's length: its answer's number, and the length, 0 where it was refused
-abbrev pub SizeLeft : Result ℕ Answer → ℕ → ℕ → Type 0
-SizeLeft (Ok n) answer size = (answer ≡ 0) × (size ≡ n)
-SizeLeft (Err a) answer size = (answer ≡ number_of a) × (size ≡ 0)
+-- a length that is told: 0 where it was refused
+abbrev pub size_in : Result ℕ Answer → ℕ
+size_in (Ok n) = n
+size_in (Err a) = 0
 
--- the places of a table's values: its answer's number, from where to where, 0 where they were refused
-abbrev pub ValuesLeft : Result LocalValues Answer → ℕ → ℕ → ℕ → Type 0
-ValuesLeft (Ok v) answer from to = (answer ≡ 0) × (from ≡ v.from) × (to ≡ v.to)
-ValuesLeft (Err a) answer from to = (answer ≡ number_of a) × (from ≡ 0) × (to ≡ 0)
+-- a record's length: its answer's number, and the length
+pub record SizeLeft (d : Result ℕ Answer) (answer size : ℕ) : Type 0 where
+  pub number : answer ≡ number_of (answer_in d)
+  pub long : size ≡ size_in d
+
+-- places that are told: 0 and 0 where they were refused
+abbrev pub values_in : Result LocalValues Answer → LocalValues
+values_in (Ok v) = v
+values_in (Err a) = record { from = 0; to = 0 }
+
+-- the places of a table's values: its answer's number, from where to where
+pub record ValuesLeft (d : Result LocalValues Answer) (answer from to : ℕ) : Type 0 where
+  pub number : answer ≡ number_of (answer_in d)
+  pub first : from ≡ (values_in d).from
+  pub end : to ≡ (values_in d).to
