@@ -1,5 +1,5 @@
 -- What each test of the end of a record answers, and what is known where all were passed. Assumes nothing.
-use mathlib.Core.Path.{◌≡◌, refl, sym, ap, ◌∙◌}
+use mathlib.Core.Path.{◌≡◌, refl, ◌∙◌}
 use mathlib.Core.Bool.{Bool, true, false, not}
 use mathlib.Core.List.{List, []}
 use Prim.Native.Nat.{ℕ, ◌+◌, ◌-◌, ◌≤◌, ◌<◌}
@@ -7,55 +7,49 @@ use native.Mathlib.Omega.{arith}
 use lib.Dec.{ltb, eqb}
 use lib.ListN.{length}
 use borrow.Author.Tests.{not-true, lt-ltb, le-ltb, ltb-false, eq-eqb, ne_eqb, eqb-true, eqb-false}
-use Rattle.std.specs.Prelude.{if◌then◌else◌}
+use Rattle.std.specs.Prelude.{if◌then◌else◌, Result, Ok, Err}
 use Rattle.directory.specs.declared.directory.Directory.{Directory}
-use Rattle.answer.specs.Answer.{number_of}
 use Rattle.answer.specs.declared.answer.Answer.{Answer}
 use Rattle.answer.specs.declared.answer.Answer.TheVariants.{Done, NoRoom, ShortOutput, NotNext, UsedUp, BadState}
 use Rattle.numbers.proofs.Laws.{left-of, right_of}
 use Rattle.memory.specs.Parts.{parts_of, parts_kept}
 use Rattle.memory.specs.declared.counts.Counts.{Counts}
-use Rattle.memory.specs.declared.overlays.LogOverlays.{LogOverlays}
 use Rattle.memory.specs.declared.span.Holder.TheVariants as holder
 use Rattle.putting.specs.Listed.{passes, crowded}
-use Rattle.change.specs.Change.{change_of, change_kept}
+use Rattle.change.specs.Change.{change_kept}
 use Rattle.change.specs.Size.{record_size}
-use Rattle.change.specs.declared.change.LogChange.{LogChange}
 use Rattle.files.specs.Queues.{queues_kept, appending_size}
-use Rattle.files.specs.Calls.{file_set_full, files_used_up, taken_by, not_taken, take_file_kept}
-use Rattle.files.specs.declared.queues.Queues.{Queues}
+use Rattle.files.specs.Calls.{file_set_full, files_used_up, taken_by, take_file_kept}
 use Rattle.files.specs.declared.writing.Taken.{Taken}
 use Rattle.ending.specs.EndRecord.{Handed, handed_of, handed_kept, end_answer, is_done}
-use Rattle.ending.specs.Inner.{file_for}
+use Rattle.ending.specs.Inner.{handed_by, file_for}
+use Rattle.ending.specs.declared.handed.Handed as code
 
 -- ---- the rules, one after the other
 
-module _ (d : Directory) (l : LogChange) (lw lb : List ℕ) (o : LogOverlays) (w b : List ℕ) (q : Queues) (next : ℕ) (out : List ℕ) where
-  abbrev handed : Handed
-  handed = handed_of l lw lb o w b q next out
-
-  pub list_breaks : change_kept d (change_of l lw lb) ≡ false → false ≡ handed_kept d handed
-  unfolding handed_kept handed_of
+module _ (d : Directory) (h : Handed) where
+  pub list_breaks : change_kept d h.list ≡ false → handed_kept d h ≡ false
+  unfolding handed_kept
   list_breaks e = rw e
 
-  module _ (e : change_kept d (change_of l lw lb) ≡ true) where
-    pub shared_breaks : parts_kept holder.Shared (parts_of holder.Shared o.counts w b) ≡ false → false ≡ handed_kept d handed
-    unfolding handed_kept handed_of
+  module _ (e : change_kept d h.list ≡ true) where
+    pub shared_breaks : parts_kept holder.Shared h.overlays.parts ≡ false → handed_kept d h ≡ false
+    unfolding handed_kept
     shared_breaks f = rw (e, f)
 
-    module _ (f : parts_kept holder.Shared (parts_of holder.Shared o.counts w b) ≡ true) where
-      pub queues_break : queues_kept q ≡ false → false ≡ handed_kept d handed
-      unfolding handed_kept handed_of
+    module _ (f : parts_kept holder.Shared h.overlays.parts ≡ true) where
+      pub queues_break : queues_kept h.queues ≡ false → handed_kept d h ≡ false
+      unfolding handed_kept
       queues_break g = rw (e, f, g)
 
-      pub next-says : queues_kept q ≡ true → not (eqb next 0) ≡ handed_kept d handed
-      unfolding handed_kept handed_of
+      pub next-says : queues_kept h.queues ≡ true → handed_kept d h ≡ not (eqb h.next 0)
+      unfolding handed_kept
       next-says g = rw (e, f, g)
 
-  -- the output has no rule
-  pub any_output : handed_kept d (handed_of l lw lb o w b q next []) ≡ handed_kept d handed
-  unfolding handed_kept handed_of
-  any_output = refl
+-- the output has no rule
+pub any_output : (d : Directory) (h : code.Handed) (out : List ℕ) → handed_kept d (handed_by h []) ≡ handed_kept d (handed_by h out)
+unfolding handed_kept handed_of
+any_output d h out = refl
 
 -- ---- what they give
 
@@ -76,39 +70,6 @@ module _ (d : Directory) (h : Handed) (e : handed_kept d h ≡ true) where
   unfolding handed_kept
   next-kept =
       omega (arith, eqb-false h.next 0 (not-true _ (right_of (queues_kept h.queues) _ (right_of (parts_kept holder.Shared h.overlays.parts) _ (right_of (change_kept d h.list) _ e)))))
-
--- the same as the code is handed it
-module _ (d : Directory) (l : LogChange) (lw lb : List ℕ) (o : LogOverlays) (w b : List ℕ) (q : Queues) (next : ℕ) (out : List ℕ) (e : handed_kept d (handed_of l lw lb o w b q next out) ≡ true) where
-  pub list_of : change_kept d (change_of l lw lb) ≡ true
-  unfolding handed_of
-  list_of = list-kept d (handed_of l lw lb o w b q next out) e
-
-  pub shared_of : parts_kept holder.Shared (parts_of holder.Shared o.counts w b) ≡ true
-  unfolding handed_of
-  shared_of = shared_kept d (handed_of l lw lb o w b q next out) e
-
-  pub queues-of : queues_kept q ≡ true
-  unfolding handed_of
-  queues-of = queues-kept d (handed_of l lw lb o w b q next out) e
-
-  pub next_of : 0 < next
-  unfolding handed_of
-  next_of = next-kept d (handed_of l lw lb o w b q next out) e
-
--- ---- the file
-
-each-done : (a c : Bool) (x y z : Taken) → x.answer ≡ Done → y.answer ≡ Done → z.answer ≡ Done → (if a then x else if c then y else z).answer ≡ Done
-each-done true c x y z p r s = p
-each-done false true x y z p r s = r
-each-done false false x y z p r s = s
-
-taken-done : (q : Queues) (size : ℕ) → (taken_by q size).answer ≡ Done
-unfolding taken_by
-taken-done q size = each-done q.appending.some (eqb q.log_pool.count 0) _ _ _ refl refl refl
-
-file-by : (q : Queues) (n : ℕ) (f u : Bool) → file_set_full q ≡ f → files_used_up q n ≡ u → take_file_kept q n ≡ (if f then not_taken NoRoom q else if u then not_taken UsedUp q else taken_by q (appending_size q + n))
-unfolding take_file_kept
-file-by q n f u e g = rw (e, g)
 
 -- ---- all was passed
 
@@ -171,65 +132,76 @@ module _ (d : Directory) (h : Handed) where
       unfolding end_answer
       rest c u v s p q r t = rw (e, is-next, p, q, r, t)
 
-  none : (a : Answer) → end_answer d h ≡ a → is_done a ≡ false → not_taken a h.queues ≡ file_for d h
+  -- ---- the file
+
+  pub taken : Accepted → take_file_kept h.queues (record_size h.list) ≡ Ok (taken_by h.queues (appending_size h.queues + record_size h.list))
+  unfolding take_file_kept
+  taken a = rw (a.full, a.used)
+
+  pub is_refused : (a : Answer) → Err a ≡ file_for d h → (end_answer d h ≡ a) × (is_done (end_answer d h) ≡ false)
+  unfolding file_for
+  is_refused a e = by (is_done (end_answer d h)) refl e
+    where
+      by : (b : Bool) → is_done (end_answer d h) ≡ b → Err a ≡ (if b then take_file_kept h.queues (record_size h.list) else Err (end_answer d h)) → (end_answer d h ≡ a) × (is_done (end_answer d h) ≡ false)
+      by true f g = let z = g ∙ taken (accepted f) in let w : ◌≡◌ {A = ℕ} 0 1 = cc in absurd (omega arith)
+      by false f g = (cc, f)
+
+  pub is_taken : (t : Taken) → Ok t ≡ file_for d h → (is_done (end_answer d h) ≡ true) × (t ≡ taken_by h.queues (appending_size h.queues + record_size h.list))
+  unfolding file_for
+  is_taken t e = by (is_done (end_answer d h)) refl e
+    where
+      by : (b : Bool) → is_done (end_answer d h) ≡ b → Ok t ≡ (if b then take_file_kept h.queues (record_size h.list) else Err (end_answer d h))
+          → (is_done (end_answer d h) ≡ true) × (t ≡ taken_by h.queues (appending_size h.queues + record_size h.list))
+      by true f g = let z = g ∙ taken (accepted f) in (f, cc)
+      by false f g = let w : ◌≡◌ {A = ℕ} 0 1 = cc in absurd (omega arith)
+
+  none : (a : Answer) → end_answer d h ≡ a → is_done a ≡ false → Err a ≡ file_for d h
   unfolding file_for
   none a e f = rw (e, f)
-
-  some : end_answer d h ≡ Done → take_file_kept h.queues (record_size h.list) ≡ file_for d h
-  unfolding file_for
-  some e = rw e
-
-  -- the file's answer is that of the call
-  pub answer-is : (file_for d h).answer ≡ end_answer d h
-  unfolding file_for
-  answer-is = by (is_done (end_answer d h)) refl
-    where
-      by : (b : Bool) → is_done (end_answer d h) ≡ b → (file_for d h).answer ≡ end_answer d h
-      by true e =
-          let a = accepted e in
-          let v : h.list.id ≡ h.next - 1 = omega (arith, a.next) in
-          rw e (ap (λ (t : Taken). t.answer) (file-by h.queues (record_size h.list) false false a.full a.used) ∙ taken-done h.queues _
-          ∙ sym (rest a.kept v false false false false a.free a.full a.used (le-ltb (length h.output) (record_size h.list) a.fits)))
-      by false e = rw e
 
   -- ---- the tests of the code, in turn
 
   module _ (e : handed_kept d h ≡ true) where
-    pub file-11 : (h.list.id ≡ h.next - 1 → ⊥) → not_taken NotNext h.queues ≡ file_for d h
+    pub file-11 : (h.list.id ≡ h.next - 1 → ⊥) → Err NotNext ≡ file_for d h
     file-11 f = none NotNext (refused-11 e f) refl
 
     module _ (f : h.list.id ≡ h.next - 1) where
-      pub file-9 : crowded h.list.parts h.overlays.parts ≡ true → not_taken NoRoom h.queues ≡ file_for d h
+      pub file-9 : crowded h.list.parts h.overlays.parts ≡ true → Err NoRoom ≡ file_for d h
       file-9 c = none NoRoom (rest e f true _ _ _ c refl refl refl) refl
 
-      module _ (c : crowded h.list.parts h.overlays.parts ≡ false) (n : ℕ) (size : n ≡ record_size h.list) (t : Taken) (file : t ≡ take_file_kept h.queues n) where
-        asked : t ≡ take_file_kept h.queues (record_size h.list)
-        asked = file ∙ ap (take_file_kept h.queues) size
+      module _ (c : crowded h.list.parts h.overlays.parts ≡ false) (n : ℕ) (size : n ≡ record_size h.list) where
+        by-file : (P : Result Taken Answer → Type 0)
+            → ((u v : Bool) → file_set_full h.queues ≡ u → files_used_up h.queues (record_size h.list) ≡ v
+            → P (if u then Err NoRoom else if v then Err UsedUp else Ok (taken_by h.queues (appending_size h.queues + record_size h.list)))) → P (take_file_kept h.queues n)
+        unfolding take_file_kept
+        by-file P g = rw size (g (file_set_full h.queues) (files_used_up h.queues (record_size h.list)) refl refl)
 
-        pub file-refused : (number_of t.answer ≡ 0 → ⊥) → t ≡ file_for d h
-        file-refused g = by (file_set_full h.queues) refl (files_used_up h.queues (record_size h.list)) refl
+        pub file-refused : (a : Answer) → Err a ≡ take_file_kept h.queues n → Err a ≡ file_for d h
+        file-refused a = by-file (λ (r : Result Taken Answer). Err a ≡ r → Err a ≡ file_for d h) by
           where
-            by : (u : Bool) → file_set_full h.queues ≡ u → (v : Bool) → files_used_up h.queues (record_size h.list) ≡ v → t ≡ file_for d h
-            by true p v r = asked ∙ file-by h.queues (record_size h.list) true v p r ∙ none NoRoom (rest e f false true v _ c p r refl) refl
-            by false p true r = asked ∙ file-by h.queues (record_size h.list) false true p r ∙ none UsedUp (rest e f false false true _ c p r refl) refl
-            by false p false r = absurd (g (ap (λ (x : Taken). number_of x.answer) (asked ∙ file-by h.queues (record_size h.list) false false p r) ∙ ap number_of (taken-done h.queues _)))
+            by : (u v : Bool) → file_set_full h.queues ≡ u → files_used_up h.queues (record_size h.list) ≡ v
+                → Err a ≡ (if u then Err NoRoom else if v then Err UsedUp else Ok (taken_by h.queues (appending_size h.queues + record_size h.list))) → Err a ≡ file_for d h
+            by true v p r g = g ∙ none NoRoom (rest e f false true v _ c p r refl) refl
+            by false true p r g = g ∙ none UsedUp (rest e f false false true _ c p r refl) refl
+            by false false p r g = let w : ◌≡◌ {A = ℕ} 0 1 = cc in absurd (omega arith)
 
-        module _ (g : number_of t.answer ≡ 0) where
+        module _ (t : Taken) (file : Ok t ≡ take_file_kept h.queues n) where
           found : (file_set_full h.queues ≡ false) × (files_used_up h.queues (record_size h.list) ≡ false)
-          found = by (file_set_full h.queues) refl (files_used_up h.queues (record_size h.list)) refl
+          found = by-file (λ (r : Result Taken Answer). Ok t ≡ r → (file_set_full h.queues ≡ false) × (files_used_up h.queues (record_size h.list) ≡ false)) by file
             where
-              by : (u : Bool) → file_set_full h.queues ≡ u → (v : Bool) → files_used_up h.queues (record_size h.list) ≡ v → (file_set_full h.queues ≡ false) × (files_used_up h.queues (record_size h.list) ≡ false)
-              by true p v r = absurd (omega (arith, g, ap (λ (x : Taken). number_of x.answer) (asked ∙ file-by h.queues (record_size h.list) true v p r)))
-              by false p true r = absurd (omega (arith, g, ap (λ (x : Taken). number_of x.answer) (asked ∙ file-by h.queues (record_size h.list) false true p r)))
-              by false p false r = (p, r)
+              by : (u v : Bool) → file_set_full h.queues ≡ u → files_used_up h.queues (record_size h.list) ≡ v
+                  → Ok t ≡ (if u then Err NoRoom else if v then Err UsedUp else Ok (taken_by h.queues (appending_size h.queues + record_size h.list)))
+                  → (file_set_full h.queues ≡ false) × (files_used_up h.queues (record_size h.list) ≡ false)
+              by true v p r g = let w : ◌≡◌ {A = ℕ} 0 1 = cc in absurd (omega arith)
+              by false true p r g = let w : ◌≡◌ {A = ℕ} 0 1 = cc in absurd (omega arith)
+              by false false p r g = (p, r)
 
-          pub file-10 : length h.output < n → not_taken ShortOutput h.queues ≡ file_for d h
-          file-10 i =
-              none ShortOutput (rest e f false false false true c found.0 found.1 (lt-ltb (length h.output) (record_size h.list) (omega (arith, size)))) refl
+          pub file-10 : length h.output < n → Err ShortOutput ≡ file_for d h
+          file-10 i = none ShortOutput (rest e f false false false true c found.0 found.1 (lt-ltb (length h.output) (record_size h.list) (omega (arith, size)))) refl
 
-          pub file-0 : n ≤ length h.output → t ≡ file_for d h
-          file-0 i =
-              asked ∙ some (rest e f false false false false c found.0 found.1 (le-ltb (length h.output) (record_size h.list) (omega (arith, size))))
+          pub file-0 : n ≤ length h.output → Ok t ≡ file_for d h
+          unfolding file_for
+          file-0 i = rw (rest e f false false false false c found.0 found.1 (le-ltb (length h.output) (record_size h.list) (omega (arith, size))), ← size) file
 
 -- keys are counted without their bytes
 pub without_bytes : (lc c : Counts) (lw lb w b : List ℕ) → crowded (parts_of holder.List lc lw []) (parts_of holder.Shared c w []) ≡ crowded (parts_of holder.List lc lw lb) (parts_of holder.Shared c w b)

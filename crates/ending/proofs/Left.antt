@@ -1,12 +1,13 @@
 -- What the end of a record leaves and answers: after a refusal, and after it was written and put. Assumes nothing.
 use mathlib.Core.Path.{◌≡◌, refl, sym, ap, ◌∙◌}
-use mathlib.Core.Bool.{true, false}
+use mathlib.Core.Bool.{false}
 use mathlib.Core.List.{List}
 use Prim.Native.Nat.{ℕ}
 use lib.ListN.{length}
-use borrow.Author.Tests.{le-ltb, eq-eqb, ne_eqb}
+use denote.Ref.{Bor}
+use borrow.Author.Tests.{le-ltb}
+use Rattle.std.specs.Prelude.{Result, Ok, Err}
 use Rattle.directory.specs.declared.directory.Directory.{Directory}
-use Rattle.answer.specs.Answer.{number_of}
 use Rattle.answer.specs.declared.answer.Answer.{Answer}
 use Rattle.answer.specs.declared.answer.Answer.TheVariants.{Done, BadState}
 use Rattle.memory.specs.Overlays.{Overlays}
@@ -17,67 +18,71 @@ use Rattle.putting.specs.Inner.{parts_at, overlays_at}
 use Rattle.change.specs.Change.{change_of}
 use Rattle.change.specs.Size.{record_size}
 use Rattle.change.specs.declared.change.LogChange.{LogChange}
-use Rattle.change.specs.declared.size.Sized.{Sized}
 use Rattle.output.specs.Put.{put}
 use Rattle.writer.specs.Bytes.{record_of}
 use Rattle.writer.specs.Flush.{FlushedLog, flushed_of, flush_to_file_kept}
-use Rattle.files.specs.Calls.{take_file_kept}
 use Rattle.files.specs.declared.queues.Queues.{Queues}
 use Rattle.files.specs.declared.writing.Taken.{Taken}
-use Rattle.ending.specs.EndRecord.{Handed, handed_of, handed_kept, EndState, end_state_of, end_answer, is_done, ended, end_record}
-use Rattle.ending.specs.Inner.{file_for, refused_by}
-use Rattle.ending.specs.declared.record_end.Ended.{Ended}
-use Rattle.ending.proofs.Decided.{Accepted, accepted, refused-13, answer-is}
+use Rattle.ending.specs.EndRecord.{handed_of, handed_kept, EndState, end_state_of, end_answer, is_done, ended, end_record}
+use Rattle.ending.specs.Inner.{handed_by, file_for}
+use Rattle.ending.specs.declared.handed.Handed as code
+use Rattle.ending.proofs.Decided.{Accepted, accepted, refused-13, is_refused, is_taken}
 
-module _ (d : Directory) (l : LogChange) (lw lb : List ℕ) (o : LogOverlays) (w b : List ℕ) (q : Queues) (next : ℕ) (out : List ℕ) where
-  abbrev handed : Handed
-  handed = handed_of l lw lb o w b q next out
+-- the overlays' memories as they are lent
+abbrev pub given : LogChange → Bor (List ℕ) → Bor (List ℕ) → LogOverlays → List ℕ → List ℕ → Queues → ℕ → code.Handed
+given l lw lb o w b q next = record {
+  list = l;
+  list_words = lw;
+  list_bytes = lb;
+  overlays = o;
+  words = record { ref_ptr = lw.ref_ptr; now = w };
+  bytes = record { ref_ptr = lb.ref_ptr; now = b };
+  queues = q;
+  next = next;
+}
 
-  left_as : (answer : Answer) → end_answer d handed ≡ answer → is_done answer ≡ false → end_state_of (refused_by answer o q) w b out ≡ end_record d handed
+module _ (d : Directory) (h : code.Handed) (out : List ℕ) where
+  left_as : (a : Answer) → end_answer d (handed_by h out) ≡ a → is_done a ≡ false → end_state_of h.overlays h.queues (Err a) h.words.now h.bytes.now out ≡ end_record d (handed_by h out)
   unfolding end_record end_state_of handed_of
-  left_as answer e f = rw (e, f)
+  left_as a e f = rw (e, f)
 
   -- 13
-  pub left-13 : handed_kept d handed ≡ false → (r : Ended) → r ≡ refused_by BadState o q → end_state_of r w b out ≡ end_record d handed
-  left-13 e r f = ap (λ (x : Ended). end_state_of x w b out) f ∙ left_as BadState (refused-13 d handed e) refl
+  pub left-13 : handed_kept d (handed_by h out) ≡ false → end_state_of h.overlays h.queues (Err BadState) h.words.now h.bytes.now out ≡ end_record d (handed_by h out)
+  left-13 e = left_as BadState (refused-13 d (handed_by h out) e) refl
 
-  module _ (t : Taken) (file : t ≡ file_for d handed) where
-    answered : t.answer ≡ end_answer d handed
-    answered = ap (λ (x : Taken). x.answer) file ∙ answer-is d handed
+  pub left-refused : (a : Answer) → Err a ≡ file_for d (handed_by h out) → end_state_of h.overlays h.queues (Err a) h.words.now h.bytes.now out ≡ end_record d (handed_by h out)
+  left-refused a e = let f = is_refused d (handed_by h out) a e in left_as a f.0 (ap is_done (sym f.0) ∙ f.1)
 
-    pub left-refused : (number_of t.answer ≡ 0 → ⊥) → (r : Ended) → r ≡ refused_by t.answer o q → end_state_of r w b out ≡ end_record d handed
-    left-refused n r f = ap (λ (x : Ended). end_state_of x w b out) f ∙ left_as t.answer (sym answered) (ne_eqb (number_of t.answer) 0 n)
+  module _ (t : Taken) (file : Ok t ≡ file_for d (handed_by h out)) where
+    pub was_accepted : Accepted d (handed_by h out)
+    was_accepted = accepted d (handed_by h out) (is_taken d (handed_by h out) t file).0
 
-    module _ (n : number_of t.answer ≡ 0) where
-      done : is_done (end_answer d handed) ≡ true
-      done = ap is_done (sym answered) ∙ eq-eqb (number_of t.answer) 0 n
+    pub is_free : crowded (parts_at holder.List h.list.counts h.list_words.now h.list_bytes.now) (parts_at holder.Shared h.overlays.counts h.words.now h.bytes.now) ≡ false
+    unfolding handed_of parts_at
+    is_free = was_accepted.free
 
-      pub was_accepted : Accepted d handed
-      was_accepted = accepted d handed done
+    -- written by `flush_to_file`, which refuses nothing there
+    module _ (x : Result ℕ Answer) (new : List ℕ) (f : flushed_of x new ≡ flush_to_file_kept (change_of h.list h.list_words.now h.list_bytes.now) out) where
+      wrote : flushed_of x new ≡ flushed_of (Ok (record_size (change_of h.list h.list_words.now h.list_bytes.now))) (put out 0 (record_of (change_of h.list h.list_words.now h.list_bytes.now)))
+      unfolding flush_to_file_kept handed_of
+      wrote = f ∙ rw (le-ltb (length out) (record_size (change_of h.list h.list_words.now h.list_bytes.now)) was_accepted.fits)
 
-      taken : t ≡ take_file_kept q (record_size (change_of l lw lb))
-      unfolding file_for handed_of
-      taken = file ∙ rw done
+      pub is_written : x ≡ Ok (record_size (change_of h.list h.list_words.now h.list_bytes.now))
+      is_written = ap (λ (s : FlushedLog). s.sized) wrote
 
-      pub is_free : crowded (parts_at holder.List l.counts lw lb) (parts_at holder.Shared o.counts w b) ≡ false
-      unfolding handed_of parts_at
-      is_free = was_accepted.free
+    same : (p p' : Overlays) → p ≡ p' → (m m' : ℕ) → m ≡ m' → (u u' : List ℕ) → u ≡ u'
+        → ◌≡◌ {A = EndState} (record { answer = Done; length = m; source = t.source; number = t.number; overlays = p; queues = t.queues; output = u })
+        (record { answer = Done; length = m'; source = t.source; number = t.number; overlays = p'; queues = t.queues; output = u' })
+    same p p' e m m' g u u' i = rw (e, g, i)
 
-      -- written by `flush_to_file`, which is refused nothing there
-      module _ (x : Sized) (new : List ℕ) (f : flushed_of x new ≡ flush_to_file_kept (change_of l lw lb) out) where
-        wrote : flushed_of x new ≡ flushed_of (record { answer = Done; length = record_size (change_of l lw lb) }) (put out 0 (record_of (change_of l lw lb)))
-        unfolding flush_to_file_kept handed_of
-        wrote = f ∙ rw (le-ltb (length out) (record_size (change_of l lw lb)) was_accepted.fits)
-
-        same : (p p' : Overlays) → p ≡ p' → (m m' : ℕ) → m ≡ m' → (u u' : List ℕ) → u ≡ u'
-            → ◌≡◌ {A = EndState} (record { answer = Done; length = m; source = t.source; number = t.number; overlays = p; queues = t.queues; output = u })
-            (record { answer = Done; length = m'; source = t.source; number = t.number; overlays = p'; queues = t.queues; output = u' })
-        same p p' e m m' g u u' i = rw (e, g, i)
-
-        pub left-done : (r : LogOverlays) (w' b' : List ℕ) → overlays_at r w' b' ≡ overlays_put d l.record_id (parts_at holder.List l.counts lw lb) (overlays_at o w b)
-            → end_state_of (record { answer = Done; length = x.length; source = t.source; number = t.number; overlays = r; queues = t.queues }) w' b' new ≡ end_record d handed
-        unfolding end_record end_state_of handed_of overlays_at parts_at
-        left-done r w' b' p =
-            same (overlays_at r w' b') (overlays_put d l.record_id (parts_at holder.List l.counts lw lb) (overlays_at o w b)) p x.length (record_size (change_of l lw lb)) (ap (λ (s : FlushedLog). s.sized.length) wrote)
-            new (put out 0 (record_of (change_of l lw lb))) (ap (λ (s : FlushedLog). s.output) wrote)
-            ∙ ap (ended d handed) taken ∙ sym (rw done)
+    pub left-done : (n : ℕ) (new : List ℕ) → flushed_of (Ok n) new ≡ flush_to_file_kept (change_of h.list h.list_words.now h.list_bytes.now) out
+        → (r : LogOverlays) (w b : List ℕ) → overlays_at r w b ≡ overlays_put d h.list.record_id (parts_at holder.List h.list.counts h.list_words.now h.list_bytes.now) (overlays_at h.overlays h.words.now h.bytes.now)
+        → end_state_of h.overlays h.queues (Ok (record { length = n; source = t.source; number = t.number; overlays = r; queues = t.queues })) w b new ≡ end_record d (handed_by h out)
+    unfolding end_record end_state_of handed_of overlays_at parts_at
+    left-done n new f r w b p =
+        let l = change_of h.list h.list_words.now h.list_bytes.now in
+        let k : n ≡ record_size l = let e = is_written (Ok n) new f in cc in
+        let g = is_taken d (handed_by h out) t file in
+        same (overlays_at r w b) (overlays_put d h.list.record_id (parts_at holder.List h.list.counts h.list_words.now h.list_bytes.now) (overlays_at h.overlays h.words.now h.bytes.now)) p n (record_size l) k
+        new (put out 0 (record_of l)) (ap (λ (s : FlushedLog). s.output) (wrote (Ok n) new f))
+        ∙ ap (ended d (handed_by h out)) g.1 ∙ sym (rw g.0)

@@ -2,4 +2,3 @@
 pub mod Decided
 pub mod Left
 pub mod Meaning
-pub mod Tests

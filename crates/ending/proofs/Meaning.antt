@@ -30,7 +30,7 @@ use Rattle.writer.specs.Flush.{flush_to_file_kept, flush_to_file}
 use Rattle.files.specs.Queues.{queues_kept, QueuesTyped}
 use Rattle.files.proofs.KeepsRules.{take_file-kept}
 use Rattle.ending.specs.EndRecord.{Handed, end_answer, is_done, end_record}
-use Rattle.ending.proofs.Decided.{Accepted, accepted, list-kept, shared_kept}
+use Rattle.ending.proofs.Decided.{Accepted, accepted, list-kept, shared_kept, taken}
 
 module _ (d : Directory) (h : Handed) where
   -- ---- after a record that was ended
@@ -90,5 +90,5 @@ module _ (d : Directory) (h : Handed) where
   queues_stay z k = by (is_done (end_answer d h)) refl
     where
       by : (b : Bool) → is_done (end_answer d h) ≡ b → queues_kept (end_record d h).queues ≡ true
-      by true e = rw e (take_file-kept h.queues z k (record_size h.list))
+      by true e = rw e (rw (taken d h (a e)) at (take_file-kept h.queues z k (record_size h.list)))
       by false e = rw e k

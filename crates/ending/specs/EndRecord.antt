@@ -1,6 +1,6 @@
 -- `end_record` (document 01, "Change lists and overlays" and "Ending a record: 11, 9 for overlays, 9 for files, 12, 10." behind 13; log.rs lines
 -- 844 to 899, where 11 is an assertion and 9, 12, 13 can't be: the room, the last number and the rules are added).
-use Rattle.std.specs.Prelude.{Bool, not, ◌&&◌, List, ℕ, ◌+◌, ltb, eqb, length}
+use Rattle.std.specs.Prelude.{Bool, not, ◌&&◌, List, ℕ, ◌+◌, ltb, eqb, length, Result, Ok, Err}
 use Rattle.std.specs.Prelude.{if◌then◌else◌}
 use Rattle.directory.specs.declared.directory.Directory.{Directory}
 use Rattle.answer.specs.Answer.{number_of}
@@ -16,8 +16,8 @@ use Rattle.change.specs.Size.{record_size}
 use Rattle.change.specs.declared.change.LogChange.{LogChange}
 use Rattle.output.specs.Put.{put}
 use Rattle.writer.specs.Bytes.{record_of}
-use Rattle.files.specs.Queues.{queues_kept}
-use Rattle.files.specs.Calls.{file_set_full, files_used_up, take_file_kept}
+use Rattle.files.specs.Queues.{appending_size, queues_kept}
+use Rattle.files.specs.Calls.{file_set_full, files_used_up, taken_by}
 use Rattle.files.specs.declared.queues.Queues.{Queues}
 use Rattle.files.specs.declared.writing.FileSource.{FileSource}
 use Rattle.files.specs.declared.writing.FileSource.TheVariants.{Appending}
@@ -47,15 +47,24 @@ pub record EndState : Type 0 where
   pub queues : Queues
   pub output : List ℕ
 
--- what it answers, the overlays' two memories and the output
-unfoldable pub end_state_of : Ended → List ℕ → List ℕ → List ℕ → EndState
-end_state_of r words bytes out = record {
-  answer = r.answer;
+-- the overlays and the queues that were handed in, which a refusal leaves; what it answers, the overlays' two memories and the output
+unfoldable pub end_state_of : LogOverlays → Queues → Result Ended Answer → List ℕ → List ℕ → List ℕ → EndState
+end_state_of o q (Ok r) words bytes out = record {
+  answer = Done;
   length = r.length;
   source = r.source;
   number = r.number;
   overlays = overlays_of r.overlays words bytes;
   queues = r.queues;
+  output = out;
+}
+end_state_of o q (Err a) words bytes out = record {
+  answer = a;
+  length = 0;
+  source = Appending;
+  number = 0;
+  overlays = overlays_of o words bytes;
+  queues = q;
   output = out;
 }
 
@@ -107,4 +116,4 @@ ended d h t = record {
 -- `end_record`
 unfoldable pub end_record : Directory → Handed → EndState
 end_record d h =
-    if is_done (end_answer d h) then ended d h (take_file_kept h.queues (record_size h.list)) else not_ended (end_answer d h) h
+    if is_done (end_answer d h) then ended d h (taken_by h.queues (appending_size h.queues + record_size h.list)) else not_ended (end_answer d h) h

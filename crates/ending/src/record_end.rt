@@ -1,36 +1,22 @@
 // The end of a record: log.rs lines 844 to 899.
 ghost use Rattle.std.specs.Prelude.{◌≡◌, true};
 ghost use Rattle.ending.specs.EndRecord.{handed_of, handed_kept, end_state_of, end_record};
-ghost use Rattle.ending.specs.Inner.{refused_by};
 
-use super::refusal::{file_for, handed_kept};
+use super::handed::Handed;
 use answer::Answer;
 use change::LogChange;
 use directory::Directory;
-use files::{FileSource, Queues};
+use files::{FileSource, Queues, Taken};
 use memory::LogOverlays;
 
+// The record's length, and the file that it belongs at the end of.
 #[derive(Clone, Copy)]
 pub struct Ended {
-    pub answer: Answer,
     pub length: usize,
     pub source: FileSource,
     pub number: u64,
     pub overlays: LogOverlays,
     pub queues: Queues,
-}
-
-fn refused(answer: Answer, overlays: LogOverlays, queues: Queues) -> Ended
-    ensures { result ≡ refused_by answer overlays queues }
-{
-    Ended {
-        answer,
-        length: 0,
-        source: FileSource::Appending,
-        number: 0,
-        overlays,
-        queues,
-    }
 }
 
 // Behind 13: nothing is written or put before all was tested.
@@ -45,40 +31,44 @@ pub fn end_record_kept<'a>(
     queues: Queues,
     next: u64,
     out: &mut [u8],
-) -> Ended
+) -> Result<Ended, Answer>
     requires { handed_kept directory (handed_of list list_words.now list_bytes.now overlays words.old bytes.old queues next out.old) ≡ true }
-    ensures { end_state_of result words.new bytes.new out.new
+    ensures { end_state_of overlays queues result words.new bytes.new out.new
         ≡ end_record directory (handed_of list list_words.now list_bytes.now overlays words.old bytes.old queues next out.old) }
 {
-    let t = file_for(
-        directory, list, list_words, list_bytes, overlays, words, bytes, queues, next, out,
-    );
-    let answer = t.answer;
-    let source = t.source;
-    let taken = t.queues;
-    if answer.number() != 0 {
-        return refused(answer, overlays, queues);
-    }
-    let length = writer::flush_to_file_kept(list, list_words, list_bytes, out).length;
-    let counts = list.counts;
-    let o = putting::put_list(
+    let handed = Handed {
+        list,
+        list_words,
+        list_bytes,
+        overlays,
+        words,
+        bytes,
+        queues,
+        next,
+    };
+    let Taken {
+        source,
+        number,
+        queues,
+    } = handed.file(directory, out)?;
+    let length = writer::flush_to_file_kept(list, list_words, list_bytes, out)?;
+    let overlays = putting::put_list(
         directory,
         list.record_id,
-        counts,
+        list.counts,
         list_words,
         list_bytes,
         overlays,
         words,
         bytes,
     );
-    Ended {
-        answer: Answer::Done,
+    Ok(Ended {
         length,
         source,
-        number: t.number,
-        overlays: o,
-        queues: taken,
-    }
+        number,
+        overlays,
+        queues,
+    })
 }
 
 // Writes the record at the output's front and puts its entries over the shared ones; `next` is the next id. A refusal changes nothing.
@@ -93,14 +83,22 @@ pub fn end_record<'a>(
     queues: Queues,
     next: u64,
     out: &mut [u8],
-) -> Ended
-    ensures { end_state_of result words.new bytes.new out.new
+) -> Result<Ended, Answer>
+    ensures { end_state_of overlays queues result words.new bytes.new out.new
         ≡ end_record directory (handed_of list list_words.now list_bytes.now overlays words.old bytes.old queues next out.old) }
 {
-    if !handed_kept(
-        directory, list, list_words, list_bytes, overlays, words, bytes, queues, next,
-    ) {
-        return refused(Answer::BadState, overlays, queues);
+    let handed = Handed {
+        list,
+        list_words,
+        list_bytes,
+        overlays,
+        words,
+        bytes,
+        queues,
+        next,
+    };
+    if !handed.kept(directory) {
+        return Err(Answer::BadState);
     }
     end_record_kept(
         directory, list, list_words, list_bytes, overlays, words, bytes, queues, next, out,

@@ -1,17 +1,44 @@
 -- `end_record_kept` meets its contract: refused, or written and put. Assumes nothing.
-use mathlib.Core.Path.{sym, ◌∙◌}
-use Rattle.ending.proofs.Tests.{list-ruled, list-parts, shared_parts}
-use Rattle.ending.proofs.Left.{left-refused, is_free, left-done}
+use Rattle.std.proofs.Common.{◌≡◌, ℕ, arith}
+use Rattle.std.proofs.lemmas.Result.{err_from_is_err_and}
+use Rattle.change.proofs.Rules.{kept-ruled, kept-parts}
+use Rattle.putting.specs.Inner.{parts_at}
+use Rattle.ending.specs.EndRecord.{handed_of}
+use Rattle.ending.proofs.Decided.{list-kept, shared_kept}
+use Rattle.ending.proofs.Left.{given, left-refused, is_free, is_written, left-done}
 use Rattle.ending.proofs.record_end.end_record_kept.Goals as goal
 
-pub returns-then-number-ne0 : goal.returns-then-number-ne0
-returns-then-number-ne0 c = let a = c.args in left-refused a.directory a.list a.list_words.now a.list_bytes.now a.overlays a.words.now a.bytes.now a.queues a.next a.out.now _ c.file_for-t.ensures (λ z. c.if-number-ne0.true (c.number.ensures ∙ z)) _ c.refused.ensures
+pub returns-in_err-source : goal.returns-in_err-source
+returns-in_err-source c =
+    let a = c.args in
+    let p = err_from_is_err_and c.from_residual.result c.from_residual.ensures.1 in
+    rw (p.1, p.2)
+    (left-refused a.directory (given a.list a.list_words a.list_bytes a.overlays a.words.now a.bytes.now a.queues a.next) a.out.now _ c.in_err-source.ensures)
 
-pub flush_to_file_kept-length-requires : goal.flush_to_file_kept-length-requires
-flush_to_file_kept-length-requires c = let a = c.args in list-ruled a.directory a.list a.list_words.now a.list_bytes.now a.overlays a.words.now a.bytes.now a.queues a.next a.out.now c.requires
+pub flush_to_file_kept-requires : goal.flush_to_file_kept-requires
+unfolding handed_of
+flush_to_file_kept-requires c = kept-ruled c.args.directory _ (list-kept c.args.directory _ c.requires)
 
-pub put_list-o-requires : goal.put_list-o-requires
-put_list-o-requires c = let a = c.args in (list-parts a.directory a.list a.list_words.now a.list_bytes.now a.overlays a.words.now a.bytes.now a.queues a.next a.out.now c.requires, shared_parts a.directory a.list a.list_words.now a.list_bytes.now a.overlays a.words.now a.bytes.now a.queues a.next a.out.now c.requires, is_free a.directory a.list a.list_words.now a.list_bytes.now a.overlays a.words.now a.bytes.now a.queues a.next a.out.now _ c.file_for-t.ensures (sym c.number.ensures ∙ c.if-number-ne0.false))
+-- it has the room that was tested
+pub returns-in_err-length : goal.returns-in_err-length
+returns-in_err-length c =
+    let a = c.args in
+    let h = given a.list a.list_words a.list_bytes a.overlays a.words.now a.bytes.now a.queues a.next in
+    let e = is_written a.directory h a.out.now c.in_ok-source.field-0 c.in_ok-source.ensures _ _ c.in_err-length.ensures in
+    let z : ◌≡◌ {A = ℕ} 0 1 = cc in absurd (omega arith)
+
+pub put_list-overlays-requires : goal.put_list-overlays-requires
+unfolding handed_of parts_at
+put_list-overlays-requires c =
+    let a = c.args in
+    let h = given a.list a.list_words a.list_bytes a.overlays a.words.now a.bytes.now a.queues a.next in (
+      kept-parts a.directory _ (list-kept a.directory _ c.requires),
+      shared_kept a.directory _ c.requires,
+      is_free a.directory h a.out.now c.in_ok-source.field-0 c.in_ok-source.ensures,
+    )
 
 pub returns : goal.returns
-returns c = let a = c.args in left-done a.directory a.list a.list_words.now a.list_bytes.now a.overlays a.words.now a.bytes.now a.queues a.next a.out.now _ c.file_for-t.ensures (sym c.number.ensures ∙ c.if-number-ne0.false) _ _ c.flush_to_file_kept-length.ensures _ _ _ c.put_list-o.ensures
+returns c =
+    let a = c.args in
+    let h = given a.list a.list_words a.list_bytes a.overlays a.words.now a.bytes.now a.queues a.next in
+    left-done a.directory h a.out.now c.in_ok-source.field-0 c.in_ok-source.ensures c.in_ok-length.length _ c.in_ok-length.ensures _ _ _ c.put_list-overlays.ensures
