@@ -38,19 +38,13 @@ fn kind_crowded<'a>(
     requires { KeysIn List kind list list_words.now × KeysIn Shared kind counts words.now }
     ensures { result ≡ passes (part_of List kind list list_words.now []) (part_of Shared kind counts words.now []) }
 {
-    let s = memory::span_of(Holder::Shared, kind);
-    let a = s.words_at;
-    let e = s.words_end;
-    let t = memory::span_of(Holder::List, kind);
-    let b = t.words_at;
-    let f = t.words_end;
     let n = counts.of(kind);
     let more = lacking(
-        s.room,
-        &words[a..e],
+        Holder::Shared.room(kind),
+        Holder::Shared.words(kind, words),
         n,
-        t.room,
-        &list_words[b..f],
+        Holder::List.room(kind),
+        Holder::List.words(kind, list_words),
         list.of(kind),
     );
     256 - n < more
@@ -66,11 +60,7 @@ pub fn any_crowded<'a>(
     requires { ((kind : TableKind) → KeysIn List kind list list_words.now) × ((kind : TableKind) → KeysIn Shared kind counts words.now) }
     ensures { result ≡ crowded (parts_of List list list_words.now []) (parts_of Shared counts words.now []) }
 {
-    if kind_crowded(TableKind::Index, list, list_words, counts, words) {
-        return true;
-    }
-    if kind_crowded(TableKind::Value, list, list_words, counts, words) {
-        return true;
-    }
-    kind_crowded(TableKind::RefCount, list, list_words, counts, words)
+    kind_crowded(TableKind::Index, list, list_words, counts, words)
+        || kind_crowded(TableKind::Value, list, list_words, counts, words)
+        || kind_crowded(TableKind::RefCount, list, list_words, counts, words)
 }

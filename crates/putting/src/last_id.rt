@@ -14,22 +14,18 @@ use memory::{Counts, Holder, LogOverlays};
 fn column_of(directory: Directory, table: u16) -> u8
     ensures { result ≡ column_of (find_table directory Value table) }
 {
-    match directory.find(TableKind::Value, table) {
-        Some((_, t)) => t.column,
-        None => 8,
-    }
+    directory
+        .find(TableKind::Value, table)
+        .map_or(8, |(_, t)| t.column)
 }
 
-fn with_last_id(overlays: LogOverlays, column: u8, id: u64) -> LogOverlays
+fn with_last_id(mut overlays: LogOverlays, column: u8, id: u64) -> LogOverlays
     ensures { result ≡ with_last_ids overlays (set overlays.last_record_ids column id) }
 {
-    let c = column as usize;
-    let mut o = overlays;
-    if 8 <= c {
-        return o;
+    if column < 8 {
+        overlays.last_record_ids[usize::from(column)] = id;
     }
-    o.last_record_ids[c] = id;
-    o
+    overlays
 }
 
 // The n values of the list's part, each setting its column's.
@@ -46,12 +42,10 @@ fn last_ids(
 {
     let cut = 4 * room;
     let mut o = overlays;
-    let mut i: usize = 0;
-    while i < n {
+    for i in 0..n {
         let p = listed[cut + i] as usize;
         let table = listed[4 * p] as u16;
         o = with_last_id(o, column_of(directory, table), id);
-        i += 1;
     }
     o
 }
@@ -67,15 +61,13 @@ pub(crate) fn set_last_ids(
     requires { KeysIn List Value list list_words.now }
     ensures { result ≡ with_last_ids overlays (last_ids_put directory id (part_of List Value list list_words.now []) overlays.last_record_ids) }
 {
-    let s = memory::span_of(Holder::List, TableKind::Value);
-    let a = s.words_at;
-    let e = s.words_end;
+    let mine = Holder::List.words(TableKind::Value, list_words);
     last_ids(
         directory,
         overlays,
         id,
-        s.room,
-        &list_words[a..e],
+        Holder::List.room(TableKind::Value),
+        mine,
         list.value,
     )
 }

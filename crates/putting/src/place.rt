@@ -76,12 +76,10 @@ pub(crate) fn put_listed<'a>(
 {
     let cut = 4 * room;
     let mut m = counts;
-    let mut i: usize = 0;
-    while i < n {
+    for i in 0..n {
         let p = listed[cut + i] as usize;
         let row = row_at(listed, p);
         m = put_place(Holder::Shared, kind, m, words, bytes, id, row, stored, p);
-        i += 1;
     }
     m
 }

@@ -25,20 +25,15 @@ fn put_kind<'a>(
     ensures { parts_at Shared result words.new bytes.new
         ≡ put_kind kind id (parts_at List list list_words.now list_bytes.now) (parts_at Shared counts words.old bytes.old) }
 {
-    let s = memory::span_of(Holder::List, kind);
-    let a = s.words_at;
-    let e = s.words_end;
-    let b = s.bytes_at;
-    let f = s.bytes_end;
     put_listed(
         kind,
         counts,
         words,
         bytes,
         id,
-        s.room,
-        &list_words[a..e],
-        &list_bytes[b..f],
+        Holder::List.room(kind),
+        Holder::List.words(kind, list_words),
+        Holder::List.bytes(kind, list_bytes),
         list.of(kind),
     )
 }

@@ -1,8 +1,7 @@
 -- `last_ids` meets its contract. The invariant: the values from the i-th of the order on are left to set theirs. Assumes nothing.
 use mathlib.Core.Path.{◌≡◌, refl, sym, ap, ◌∙◌}
 use mathlib.Core.List.{List}
-use borrow.Author.Rules.{rules}
-use Prim.Native.Nat.{ℕ, ◌+◌, ◌-◌, ◌*◌, ◌≤◌, ◌<◌}
+use Prim.Native.Nat.{ℕ, ◌+◌, ◌*◌, ◌≤◌, ◌<◌}
 use native.Mathlib.Omega.{arith}
 use lib.ListN.{length, get_or}
 use Rattle.directory.specs.declared.table.TableKind.TheVariants.{Value}
@@ -38,7 +37,7 @@ module _ (room n : ℕ) (words : List ℕ) (whole : length words ≡ 5 * room) (
     small = rw table_is (table_at Value room _ _ n i long h kept)
 
 pub loop-i-init : goal.loop-i-init
-loop-i-init c = (search rules, refl)
+loop-i-init c = refl
 
 pub overflow_add-p : goal.overflow_add-p
 overflow_add-p c = omega (arith, few c.args.room c.args.n c.args.listed.now c.requires.0 c.requires.2, c.loop-i-test.true)
@@ -61,18 +60,12 @@ bounds-listed-p c = omega (arith, place c.args.room c.args.n c.args.listed.now c
 pub overflow_cast-table : goal.overflow_cast-table
 overflow_cast-table c = omega (arith, small c.args.room c.args.n c.args.listed.now c.requires.0 c.requires.2 c.loop-i.i c.loop-i-test.true)
 
-pub overflow_add-i : goal.overflow_add-i
-overflow_add-i c = omega (arith, c.loop-i-test.true, few c.args.room c.args.n c.args.listed.now c.requires.0 c.requires.2)
-
-pub loop-i-smaller : goal.loop-i-smaller
-loop-i-smaller c = omega (arith, c.loop-i-test.true)
-
 pub loop-i-preserved : goal.loop-i-preserved
 loop-i-preserved c =
     let words : List ℕ = c.args.listed.now in
     let l = long c.args.room c.args.n words c.requires.0 c.requires.2 in
     let h = c.loop-i-test.true in
-    (omega (arith, h), ids_next _ _ _ _ _ l c.loop-i.i _ _ c.loop-i.invariant.1 h _ (table_is c.args.room c.args.n words c.requires.0 c.requires.2 c.loop-i.i h) _ c.column_of.ensures _ c.with_last_id-o.ensures)
+    ids_next _ _ _ _ _ l c.loop-i.i _ _ c.loop-i.invariant h _ (table_is c.args.room c.args.n words c.requires.0 c.requires.2 c.loop-i.i h) _ c.column_of.ensures _ c.with_last_id-o.ensures
 
 pub returns : goal.returns
-returns c = ids-done _ _ _ _ _ (long c.args.room c.args.n c.args.listed.now c.requires.0 c.requires.2) c.loop-i.i _ _ c.loop-i.invariant.1 c.loop-i-test.false
+returns c = ids-done _ _ _ _ _ (long c.args.room c.args.n c.args.listed.now c.requires.0 c.requires.2) c.loop-i.i _ _ c.loop-i.invariant c.loop-i-test.false

@@ -1,6 +1,5 @@
 -- What each turn keeps.
 use mathlib.Core.Path.{◌≡◌}
-use Prim.Native.Nat.{◌-◌, ◌≤◌}
 use lib.ListN.{take, drop}
 use Rattle.overlay.specs.Rules.{rows_of, order_of}
 use Rattle.putting.specs.Listed.{last_ids_by}
@@ -8,7 +7,4 @@ use Rattle.putting.specs.Inner.{with_last_ids}
 use Rattle.putting.proofs.last_id.last_ids.Given as goal
 
 abbrev pub invariant-loop-i : goal.invariant-loop-i
-invariant-loop-i l = (l.i ≤ l.n) × (with_last_ids l.o (last_ids_by l.directory l.id (rows_of l.room l.listed) (drop l.i (take l.n (order_of l.room l.listed))) l.o.last_record_ids) ≡ with_last_ids l.initial.o (last_ids_by l.directory l.id (rows_of l.room l.listed) (take l.n (order_of l.room l.listed)) l.initial.o.last_record_ids))
-
-abbrev pub decreases-loop-i : goal.decreases-loop-i
-decreases-loop-i l = l.n - l.i
+invariant-loop-i l = with_last_ids l.o (last_ids_by l.directory l.id (rows_of l.room l.listed) (drop l.i (take l.n (order_of l.room l.listed))) l.o.last_record_ids) ≡ with_last_ids l.initial.o (last_ids_by l.directory l.id (rows_of l.room l.listed) (take l.n (order_of l.room l.listed)) l.initial.o.last_record_ids)

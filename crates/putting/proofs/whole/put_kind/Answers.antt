@@ -1,42 +1,26 @@
 -- `put_kind` meets its contract: the list's parts of the kind lent at once. Assumes nothing.
-use native.Mathlib.Omega.{arith}
-use Rattle.memory.specs.Parts.{Parts}
+use mathlib.Core.Path.{refl}
+use Rattle.memory.specs.Parts.{Parts, span_of}
 use Rattle.putting.specs.Inner.{parts_at}
 use Rattle.memory.specs.declared.span.Holder.TheVariants.{Shared, List}
-use Rattle.memory.proofs.Lent.{fits}
 use Rattle.putting.proofs.Long.{at_words, at-bytes}
 use Rattle.putting.proofs.Kept.{kind-goes, kind-put}
 use Rattle.putting.proofs.whole.put_kind.Goals as goal
 
-pub offset_bounds-list_words-a : goal.offset_bounds-list_words-a
-offset_bounds-list_words-a c = let l = fits List c.args.kind c.span_of-s.result c.span_of-s.ensures in omega (arith, l.words-rise, l.words_in, l.words-most)
+pub words-requires : goal.words-requires
+words-requires c = let a = c.args in at_words List a.list a.list_words.now a.list_bytes.now c.requires.listed
 
-pub slice_bounds-put_listed-count : goal.slice_bounds-put_listed-count
-slice_bounds-put_listed-count c = (fits List c.args.kind c.span_of-s.result c.span_of-s.ensures).words-rise
-
-pub slice_bounds-put_listed-start : goal.slice_bounds-put_listed-start
-slice_bounds-put_listed-start c = (fits List c.args.kind c.span_of-s.result c.span_of-s.ensures).words-rise
-
-pub slice_bounds-put_listed-end : goal.slice_bounds-put_listed-end
-slice_bounds-put_listed-end c = let a = c.args in omega (arith, (fits List a.kind c.span_of-s.result c.span_of-s.ensures).words_in, at_words List a.list a.list_words.now a.list_bytes.now c.requires.listed)
-
-pub slice_bounds-put_listed-count-2 : goal.slice_bounds-put_listed-count-2
-slice_bounds-put_listed-count-2 c = (fits List c.args.kind c.span_of-s.result c.span_of-s.ensures).bytes-rise
-
-pub slice_bounds-put_listed-start-2 : goal.slice_bounds-put_listed-start-2
-slice_bounds-put_listed-start-2 c = (fits List c.args.kind c.span_of-s.result c.span_of-s.ensures).bytes-rise
-
-pub slice_bounds-put_listed-end-2 : goal.slice_bounds-put_listed-end-2
-slice_bounds-put_listed-end-2 c = let a = c.args in omega (arith, (fits List a.kind c.span_of-s.result c.span_of-s.ensures).bytes_in, at-bytes List a.list a.list_words.now a.list_bytes.now c.requires.listed)
+pub bytes-requires : goal.bytes-requires
+bytes-requires c = let a = c.args in at-bytes List a.list a.list_words.now a.list_bytes.now c.requires.listed
 
 pub put_listed-requires : goal.put_listed-requires
 put_listed-requires c =
-    let shared : Parts = parts_at Shared c.args.counts c.args.words.now c.args.bytes.now in
     let a = c.args in
-    kind-goes a.kind a.list a.list_words.now a.list_bytes.now shared c.span_of-s.result c.span_of-s.ensures c.of.result c.of.ensures c.requires
+    let shared : Parts = parts_at Shared a.counts a.words.now a.bytes.now in
+    rw (c.room.ensures, c.words.ensures, c.bytes.ensures) (kind-goes a.kind a.list a.list_words.now a.list_bytes.now shared (span_of List a.kind) refl c.of.result c.of.ensures c.requires)
 
 pub returns : goal.returns
 returns c =
-    let shared : Parts = parts_at Shared c.args.counts c.args.words.now c.args.bytes.now in
     let a = c.args in
-    kind-put a.kind a.list a.list_words.now a.list_bytes.now shared c.span_of-s.result c.span_of-s.ensures c.of.result c.of.ensures a.id _ c.put_listed.ensures
+    let shared : Parts = parts_at Shared a.counts a.words.now a.bytes.now in
+    kind-put a.kind a.list a.list_words.now a.list_bytes.now shared (span_of List a.kind) refl c.of.result c.of.ensures a.id _ (rw (c.room.ensures, c.words.ensures, c.bytes.ensures) at c.put_listed.ensures)

@@ -1,6 +1,5 @@
 -- `put_list` meets its contract: the last ids, then three kinds, each leaving the others their room. Assumes nothing.
 use mathlib.Core.Path.{ap}
-use mathlib.Core.List.{List}
 use Rattle.directory.specs.declared.table.TableKind.TheVariants.{Value}
 use Rattle.memory.specs.Parts.{Parts}
 use Rattle.putting.specs.Inner.{parts_at}
