@@ -3,101 +3,58 @@
 
 mod input;
 
-use directory_text::{Number, number_of};
-use input::{End, check_input};
+use input::check_input;
 use log_input::ROOM;
 use program_files::{
-    PATH_ROOM, TEXT_ROOM, argument, argument_count, fail, read_directory, tell, tell_answer,
+    PATH_ROOM, Report, TEXT_ROOM, Teller, Told, argument, argument_count, first_id, read_directory,
 };
 use replay::Ran;
 use std::io::Input;
 use std::rt::{Env, Files};
 
-fn report(out: &impl Print, err: &impl Print, ran: Ran) {
-    let answer = ran.answer;
-    let number = answer.number();
+fn report<P: Print>(out: &impl Print, teller: &Teller<P>, ran: Ran) {
+    let number = ran.answer.number();
     let position = ran.position;
     let count = ran.count;
     if let Err(why) = println!(out; "{number} {position} {count}") {
-        fail(err, b"standard output", &why);
+        teller.fail(b"standard output", &why);
     }
-    tell_answer(
-        err,
-        b"checking",
-        answer,
-        position as u64,
-        ran.fault_at as u64,
-        b"; the records before it are whole",
-    );
+    let report = Report {
+        answer: ran.answer,
+        position: position as u64,
+        fault_at: ran.fault_at as u64,
+    };
+    teller.say(format_args!("{report}; the records before it are whole"));
 }
 
-fn check<R: Files + Input + Print>(
+// The path, and the id. The program's own name counts as an argument.
+fn with_arguments<R: Files + Env + Input + Print, P: Print>(
     rt: &R,
-    err: &impl Print,
-    listed: &[u8],
-    first: u64,
+    teller: &Teller<P>,
     text: &mut [u8; TEXT_ROOM],
     window: &mut [u8; ROOM],
-) {
-    let read = read_directory(rt, err, b"checking", listed, text);
-    if !read.good {
-        return;
-    }
-    let directory = read.directory;
-    match check_input(&mut rt.reader(), directory, first, window) {
-        End::Unreadable(why) => fail(err, b"standard input", &why),
-        End::At(ran) => report(rt, err, ran),
-    }
-}
-
-fn with_id<R: Files + Env + Input + Print>(
-    rt: &R,
-    err: &impl Print,
-    first: u64,
-    text: &mut [u8; TEXT_ROOM],
-    window: &mut [u8; ROOM],
-) {
-    let mut listed = [0u8; PATH_ROOM];
-    let n = argument(rt, 1, &mut listed);
-    if n == 0 {
-        tell(err, b"checking", b"the path is empty, or too long", b"");
-        return;
-    }
-    check(rt, err, &listed[..n], first, text, window);
-}
-
-// The program's own name counts as an argument.
-fn with_arguments<R: Files + Env + Input + Print>(
-    rt: &R,
-    err: &impl Print,
-    text: &mut [u8; TEXT_ROOM],
-    window: &mut [u8; ROOM],
-) {
+) -> Result<(), Told> {
     if argument_count(rt) != 3 {
-        tell(
-            err,
-            b"checking",
-            b"usage: checking DIRECTORY FIRST-ID, the log over standard input",
-            b"",
-        );
-        return;
+        return Err(teller.say("usage: checking DIRECTORY FIRST-ID, the log over standard input"));
     }
-    let mut word = [0u8; PATH_ROOM];
-    let n = argument(rt, 2, &mut word);
-    match number_of(&word[..n]) {
-        Number::NotDecimal => tell(
-            err,
-            b"checking",
-            b"FIRST-ID is no decimal number: ",
-            &word[..n],
-        ),
-        Number::TooLarge => tell(err, b"checking", b"FIRST-ID isn't below 2^64: ", &word[..n]),
-        Number::Is(first) => with_id(rt, err, first, text, window),
-    }
+    let first = first_id(rt, teller, 2)?;
+    let mut listed = [0u8; PATH_ROOM];
+    let Some(listed) = argument(rt, 1, &mut listed) else {
+        return Err(teller.say("the path is empty, or too long"));
+    };
+    let directory = read_directory(rt, teller, listed, text)?;
+    let ran = check_input(&mut rt.reader(), directory, first, window).map_err(|why| teller.fail(
+        b"standard input",
+        &why,
+    ))?;
+    report(rt, teller, ran);
+    Ok(())
 }
 
 fn main(rt: HostRuntime) {
     let mut text = [0u8; TEXT_ROOM];
     let mut window = [0u8; ROOM];
-    with_arguments(&rt, &rt.stderr(), &mut text, &mut window);
+    let err = rt.stderr();
+    let teller = Teller::new(&err, "checking");
+    let _ = with_arguments(&rt, &teller, &mut text, &mut window);
 }

@@ -3,4 +3,4 @@
 
 mod opcode;
 
-pub use opcode::{Held, serve};
+pub use opcode::serve;

@@ -1,9 +1,8 @@
-// Commands from standard input, answers to standard output, and what standard error is told.
+// Commands from standard input, and answers to standard output.
 #![tactic(auto)]
 
-mod fault;
 mod stdin;
 mod stdout;
 
-pub use stdin::{Found, Input, Next, TURNS};
+pub use stdin::{Input, TURNS};
 pub use stdout::Output;

@@ -1,134 +1,120 @@
 // Standard input, chunk by chunk, and the commands in it.
-ghost use Rattle.std.specs.Prelude.{◌≤◌};
-ghost use Rattle.compare_console.specs.Bounds.{Held, CommandFits, Ready};
+ghost use Rattle.std.specs.Prelude.{◌≤◌, ◌*◌};
 
-use compare_lines::{Decoded, Fault, decode, value_of};
+use compare_lines::{Fault, value_of};
+use std::io;
 use std::io::Read;
 
-// Nothing says that the input ends, so a loop over it counts its turns down from a number that no run uses up.
+// Nothing says that the input ends, so a loop over it counts its turns, up to a number that no run reaches.
 pub const TURNS: u64 = 4611686018427387904;
 
-// The number of the line that was read last. The chunk holds so many bytes, and is read up to a place.
-#[derive(Clone, Copy)]
-pub struct Input {
-    pub line: u64,
-    pub at: usize,
-    pub held: usize,
+// What was read of standard input, and from where on it is still to be looked at.
+#[derive(Drop)]
+struct Chunk {
+    room: [u8; 65536],
+    at: usize,
+    held: usize,
+    ghost within: { at ≤ held },
+    ghost fits: { held ≤ 65536 },
 }
 
-// How many bytes the command has that a line holds.
-#[derive(Clone, Copy)]
-pub enum Found {
-    Command(usize),
-    End,
-    Broken(Fault),
-}
-
-#[derive(Clone, Copy)]
-pub struct Next {
-    pub input: Input,
-    pub found: Found,
-}
-
-// At a line's end.
-fn whole(digits: usize) -> Found
-    requires { digits ≤ 160010 }
-    ensures { CommandFits result }
-{
-    if digits < 1 {
-        return Found::Broken(Fault::ShortCommand);
-    }
-    if digits % 2 == 1 {
-        return Found::Broken(Fault::OddDigits);
-    }
-    Found::Command(digits / 2)
-}
-
-// At a character that was not decoded.
-fn stopped_at(character: u8, digits: usize) -> Found
-    requires { digits ≤ 160010 }
-    ensures { CommandFits result }
-{
-    if character == b'\n' {
-        return whole(digits);
-    }
-    if value_of(character) < 16 {
-        return Found::Broken(Fault::LongLine);
-    }
-    Found::Broken(Fault::NoDigit)
-}
-
-// Where nothing was read. The last line may lack its end.
-fn no_more(failed: bool, digits: usize) -> Found
-    requires { digits ≤ 160010 }
-    ensures { CommandFits result }
-{
-    if failed {
-        return Found::Broken(Fault::NoInput);
-    }
-    if digits == 0 {
-        return Found::End;
-    }
-    whole(digits)
-}
-
-impl Input {
-    pub fn new() -> Input
-        ensures { Held result }
-    {
-        Input {
-            line: 0,
+impl Chunk {
+    fn new() -> Chunk {
+        Chunk {
+            room: [0; 65536],
             at: 0,
             held: 0,
         }
     }
 
-    // No run has 2^64 lines.
-    fn found(self, found: Found, at: usize, held: usize) -> Next
-        requires { (CommandFits found) × (at ≤ held) × (held ≤ 65536) }
-        ensures { Ready result }
-    {
-        Next {
-            input: Input {
-                line: self.line.wrapping_add(1),
-                at: at,
-                held: held,
-            },
-            found: found,
+    // The next character, if there is one.
+    fn next<R: Read>(&mut self, reader: &mut R) -> io::Result<Option<u8>> {
+        if self.at == self.held {
+            let held = reader.read(&mut self.room)?;
+            self.at = 0;
+            self.held = held;
+            if held == 0 {
+                return Ok(None);
+            }
+        }
+        let character = self.room[self.at];
+        self.at += 1;
+        Ok(Some(character))
+    }
+}
+
+// The command that a line holds, as far as its digits were read.
+#[derive(Drop)]
+struct Command {
+    room: [u8; 80005],
+    digits: usize,
+    ghost fits: { digits ≤ 160010 },
+}
+
+impl Command {
+    fn new() -> Command {
+        Command {
+            room: [0; 80005],
+            digits: 0,
         }
     }
 
-    // Reads up to the end of a line.
-    pub fn next_command<R: Read>(
-        self,
-        reader: &mut R,
-        chunk: &mut [u8; 65536],
-        command: &mut [u8; 80005],
-    ) -> Next
-        requires { Held self }
-        ensures { Ready result }
-    {
-        let mut held = self.held;
-        let mut d = Decoded {
-            at: self.at,
-            digits: 0,
-            high: 0,
-        };
-        let mut turns = TURNS;
-        while 0 < turns {
-            d = decode(chunk, held, d, command);
-            let at = d.at;
-            if at < held {
-                return self.found(stopped_at(chunk[at], d.digits), at + 1, held);
-            }
-            match reader.read(chunk) {
-                Ok(0) => return self.found(no_more(false, d.digits), 0, 0),
-                Ok(n) => held = n,
-                Err(_) => return self.found(no_more(true, d.digits), 0, 0),
-            }
-            d.at = 0;
-            turns -= 1;
+    fn push(&mut self, character: u8) -> Result<(), Fault> {
+        let value = value_of(character).ok_or(Fault::NoDigit)?;
+        if self.digits == 160010 {
+            return Err(Fault::LongLine);
         }
-        self.found(Found::End, 0, 0)
+        let i = self.digits / 2;
+        self.room[i] = if self.digits % 2 == 0 {
+            value
+        } else {
+            (self.room[i] << 4) | value
+        };
+        self.digits += 1;
+        Ok(())
+    }
+
+    // At the line's end.
+    fn whole(&self) -> Result<&[u8], Fault> {
+        if self.digits == 0 {
+            return Err(Fault::ShortCommand);
+        }
+        if self.digits % 2 == 1 {
+            return Err(Fault::OddDigits);
+        }
+        Ok(&self.room[..self.digits / 2])
+    }
+}
+
+// The number of the line that was read last, and the command in it.
+#[derive(Drop)]
+pub struct Input {
+    pub line: u64,
+    chunk: Chunk,
+    command: Command,
+}
+
+impl Input {
+    pub fn new() -> Input {
+        Input {
+            line: 0,
+            chunk: Chunk::new(),
+            command: Command::new(),
+        }
+    }
+
+    // Reads up to the end of a line; the last one may lack it. No run has 2^64 lines.
+    pub fn next_command<R: Read>(&mut self, reader: &mut R) -> Result<Option<&[u8]>, Fault> {
+        self.line = self.line.wrapping_add(1);
+        self.command.digits = 0;
+        for _ in 0..TURNS {
+            match self.chunk.next(reader) {
+                Err(_) => return Err(Fault::NoInput),
+                Ok(None) if self.command.digits == 0 => return Ok(None),
+                Ok(None) | Ok(Some(b'\n')) => return Ok(Some(self.command.whole()?)),
+                Ok(Some(character)) => self.command.push(character)?,
+            }
+        }
+        Ok(None)
     }
 }

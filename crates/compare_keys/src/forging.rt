@@ -3,113 +3,102 @@ ghost use Rattle.std.specs.Prelude.{◌+◌, ◌*◌, ◌≤◌, ◌<◌, length
 ghost use Rattle.memory.specs.Parts.{words_all, bytes_all};
 
 use super::part::{part_of, slot_of};
-use compare_lines::least;
+use compare_lines::{Fault, Fields, kind_of};
 use directory::TableKind;
+use keys::{Key, Keys, ascending, row_put};
 use memory::{Counts, Holder};
 
 // A row as the command has it, and the byte that fills its slot.
 #[derive(Clone, Copy)]
 pub struct Forged {
-    pub table: u64,
-    pub index: u64,
-    pub id: u64,
-    pub mark: u64,
-    pub byte: u8,
+    kind: TableKind,
+    key: Key,
+    id: u64,
+    mark: u64,
+    byte: u8,
 }
 
-// A value's length, or a mask.
-fn mark_of(kind: TableKind, mask: u64, length: u16) -> u64 {
-    if let TableKind::Value = kind {
-        length as u64
-    } else {
-        mask
-    }
-}
-
-// Table and index stand behind the opcode and the kind; mask, byte and length at a place.
-pub fn forged_at(command: &[u8], at: usize, kind: TableKind, id: u64) -> Forged
-    requires { (12 ≤ at) × (at + 11 ≤ length command.now) }
-{
-    let mask = words::u64_at(command, at);
-    Forged {
-        table: words::u16_at(command, 2) as u64,
-        index: words::u64_at(command, 4),
-        id: id,
-        mark: mark_of(kind, mask, words::u16_at(command, at + 9)),
-        byte: command[at + 8],
+impl Forged {
+    // The key that a command has. Its id is among the fields where no other is given.
+    pub fn of(mut fields: Fields, id: Option<u64>) -> Result<Forged, Fault> {
+        let number = fields.u8()?;
+        let table = u64::from(fields.u16()?);
+        let index = fields.u64()?;
+        let id = match id {
+            Some(id) => id,
+            None => fields.u64()?,
+        };
+        let mask = fields.u64()?;
+        let byte = fields.u8()?;
+        let length = fields.u16()?;
+        fields.end()?;
+        let kind = kind_of(number)?;
+        let mark = match kind {
+            TableKind::Value => u64::from(length),
+            TableKind::Index | TableKind::RefCount => mask,
+        };
+        Ok(Forged {
+            kind,
+            key: Key { table, index },
+            id,
+            mark,
+            byte,
+        })
     }
 }
 
 // Where the key belongs in the order. An order that is broken stays so wherever one goes.
-fn place_in<'a>(rows: &'a [u64], order: &'a [u64], n: usize, table: u64, index: u64) -> usize
-    requires { (4 * n ≤ length rows.now) × (n ≤ length order.now) }
-    ensures { result ≤ n }
+fn place_in<'a>(rows: &'a [u64], order: &'a [u64], key: Key) -> usize
+    requires { 4 * length order.now ≤ length rows.now }
+    ensures { result ≤ length order.now }
 {
-    if !keys::ascending(rows, order, n) {
-        return n;
+    let n = order.len();
+    if ascending(rows, order) {
+        n.min(Keys { rows, order }.place(key))
+    } else {
+        n
     }
-    least(keys::place(rows, order, n, table, index), n)
 }
 
-fn place(words: &[u64], room: usize, n: usize, table: u64, index: u64) -> usize
-    requires { (room ≤ 256) × (n ≤ room) × (5 * room ≤ length words.now) }
-    ensures { result ≤ n }
-{
-    let cut = 4 * room;
-    place_in(&words[..cut], &words[cut..], n, table, index)
-}
-
-fn fill_slot(bytes: &mut [u8], kind: TableKind, p: usize, byte: u8)
+fn fill_slot(bytes: &mut [u8], p: usize, forged: Forged)
     requires { p < 256 }
 {
-    let slot = slot_of(kind, p, 512, bytes.len());
-    compare_lines::fill(bytes, slot.start, slot.end, byte);
+    let (start, end) = slot_of(forged.kind, p, 512, bytes.len());
+    bytes[start..end].fill(forged.byte);
 }
 
-// In the next place of its kind's part; where the room is full, only the count rises.
-fn append_in(
-    kind: TableKind,
-    room: usize,
-    words: &mut [u64],
-    bytes: &mut [u8],
-    n: usize,
-    row: Forged,
-) -> usize
+// In the next place of its kind's part. Answers how many keys it has then; where the room is full, only the count rises.
+fn append_in(room: usize, words: &mut [u64], bytes: &mut [u8], n: usize, forged: Forged) -> usize
     requires { (room ≤ 256) × (5 * room ≤ length words.old) }
 {
     if room <= n {
         return room + 1;
     }
-    let j = place(words, room, n, row.table, row.index);
-    let cut = 4 * room;
-    numbers::put(&mut words[cut..], j, n, n as u64);
-    keys::row_put(words, n, row.table, row.index, row.id, row.mark);
-    fill_slot(bytes, kind, n, row.byte);
+    let (rows, order) = words.split_at_mut(4 * room);
+    let key = forged.key;
+    let j = place_in(rows, &order[..n], key);
+    numbers::put(order, j, n, n as u64);
+    row_put(rows, n, key.table, key.index, forged.id, forged.mark);
+    fill_slot(bytes, n, forged);
     n + 1
 }
 
 pub fn append(
     holder: Holder,
-    kind: TableKind,
     counts: Counts,
     words: &mut [u64],
     bytes: &mut [u8],
-    row: Forged,
+    forged: Forged,
 ) -> Counts
     requires { (words_all holder ≤ length words.old) × (bytes_all holder ≤ length bytes.old) }
 {
-    let s = part_of(holder, kind);
-    let a = s.words_at;
-    let e = s.words_end;
-    let b = s.bytes_at;
-    let f = s.bytes_end;
+    let s = part_of(holder, forged.kind);
     let n = append_in(
-        kind,
         s.room,
-        &mut words[a..e],
-        &mut bytes[b..f],
-        counts.of(kind),
-        row,
+        &mut words[s.words_at..s.words_end],
+        &mut bytes[s.bytes_at..s.bytes_end],
+        counts.of(forged.kind),
+        forged,
     );
-    counts.with(kind, n)
+    counts.with(forged.kind, n)
 }

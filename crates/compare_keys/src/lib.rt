@@ -5,6 +5,6 @@ mod forging;
 mod part;
 mod telling;
 
-pub use forging::{Forged, append, forged_at};
+pub use forging::{Forged, append};
 pub use part::part_of;
 pub use telling::put_keys;

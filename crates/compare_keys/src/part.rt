@@ -2,15 +2,8 @@
 ghost use Rattle.std.specs.Prelude.{◌≤◌, ◌<◌};
 ghost use Rattle.compare_keys.specs.Bounds.{PartFits};
 
-use compare_lines::least;
 use directory::TableKind;
 use memory::{Holder, Span};
-
-#[derive(Clone, Copy)]
-pub struct Slot {
-    pub start: usize,
-    pub end: usize,
-}
 
 // The part of a kind, with its bounds.
 pub fn part_of(holder: Holder, kind: TableKind) -> Span
@@ -19,24 +12,12 @@ pub fn part_of(holder: Holder, kind: TableKind) -> Span
     memory::span_of(holder, kind)
 }
 
-fn start_of(kind: TableKind, p: usize) -> usize
+// Where the bytes of place p, a chunk or a value of that length, start and end within a memory of so many.
+pub fn slot_of(kind: TableKind, p: usize, length: u16, memory: usize) -> (usize, usize)
     requires { p < 256 }
+    ensures { (result.0 ≤ result.1) × (result.1 ≤ memory) }
 {
-    match kind {
-        TableKind::Index => 512 * p,
-        TableKind::Value => 512 * p,
-        TableKind::RefCount => 1024 * p,
-    }
-}
-
-// The bytes of place p within a memory of so many: a chunk, or a value of that length.
-pub fn slot_of(kind: TableKind, p: usize, length: u16, memory: usize) -> Slot
-    requires { p < 256 }
-    ensures { (result.start ≤ result.end) × (result.end ≤ memory) }
-{
-    let start = least(start_of(kind, p), memory);
-    Slot {
-        start: start,
-        end: start + least(kind.unit(length), memory - start),
-    }
+    let start = memory.min(kind.unit(512) * p);
+    let end = start + kind.unit(length).min(memory - start);
+    (start, end)
 }

@@ -4,7 +4,6 @@
 mod lists;
 mod reading;
 mod records;
-mod slices;
 mod tables;
 
 pub use tables::Tables;

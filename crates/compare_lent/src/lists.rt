@@ -1,14 +1,12 @@
 // The calls of a change list, in the form that the script asks for.
-use super::slices::{
-    drop_ref_count_table, drop_table, insert_index, insert_ref_count, insert_value, record_size,
-};
 use super::tables::Tables;
-use change::{Changed, LogChange, Sized};
+use answer::Answer;
+use change::{Changed, LogChange};
 use directory::{IndexTableId, RefCountTableId, ValueTableId};
 
 impl Tables {
     pub fn insert_index(
-        self,
+        &self,
         list: LogChange,
         words: &mut [u64],
         bytes: &mut [u8],
@@ -18,15 +16,14 @@ impl Tables {
         data: &[u8],
     ) -> Changed {
         if self.lent {
-            let rows = self.rows;
-            let n = self.shown();
-            return insert_index(list, rows, n, words, bytes, table, index, sub, data);
+            lent::insert_index(list, self.shown(), words, bytes, table, index, sub, data)
+        } else {
+            list.insert_index(self.directory(), words, bytes, table, index, sub, data)
         }
-        list.insert_index(self.directory(), words, bytes, table, index, sub, data)
     }
 
     pub fn insert_value(
-        self,
+        &self,
         list: LogChange,
         words: &mut [u64],
         bytes: &mut [u8],
@@ -35,15 +32,14 @@ impl Tables {
         data: &[u8],
     ) -> Changed {
         if self.lent {
-            let rows = self.rows;
-            let n = self.shown();
-            return insert_value(list, rows, n, words, bytes, table, index, data);
+            lent::insert_value(list, self.shown(), words, bytes, table, index, data)
+        } else {
+            list.insert_value(self.directory(), words, bytes, table, index, data)
         }
-        list.insert_value(self.directory(), words, bytes, table, index, data)
     }
 
     pub fn insert_ref_count(
-        self,
+        &self,
         list: LogChange,
         words: &mut [u64],
         bytes: &mut [u8],
@@ -53,46 +49,50 @@ impl Tables {
         data: &[u8],
     ) -> Changed {
         if self.lent {
-            let rows = self.rows;
-            let n = self.shown();
-            return insert_ref_count(list, rows, n, words, bytes, table, index, sub, data);
+            lent::insert_ref_count(list, self.shown(), words, bytes, table, index, sub, data)
+        } else {
+            list.insert_ref_count(self.directory(), words, bytes, table, index, sub, data)
         }
-        list.insert_ref_count(self.directory(), words, bytes, table, index, sub, data)
     }
 
     pub fn drop_table(
-        self,
+        &self,
         list: LogChange,
         words: &[u64],
         bytes: &[u8],
         id: IndexTableId,
     ) -> Changed {
         if self.lent {
-            let rows = self.rows;
-            return drop_table(list, rows, self.shown(), words, bytes, id);
+            lent::drop_table(list, self.shown(), words, bytes, id)
+        } else {
+            list.drop_table(self.directory(), words, bytes, id)
         }
-        list.drop_table(self.directory(), words, bytes, id)
     }
 
     pub fn drop_ref_count_table(
-        self,
+        &self,
         list: LogChange,
         words: &[u64],
         bytes: &[u8],
         id: RefCountTableId,
     ) -> Changed {
         if self.lent {
-            let rows = self.rows;
-            return drop_ref_count_table(list, rows, self.shown(), words, bytes, id);
+            lent::drop_ref_count_table(list, self.shown(), words, bytes, id)
+        } else {
+            list.drop_ref_count_table(self.directory(), words, bytes, id)
         }
-        list.drop_ref_count_table(self.directory(), words, bytes, id)
     }
 
-    pub fn record_size(self, list: LogChange, words: &[u64], bytes: &[u8]) -> Sized {
+    pub fn record_size(
+        &self,
+        list: LogChange,
+        words: &[u64],
+        bytes: &[u8],
+    ) -> Result<usize, Answer> {
         if self.lent {
-            let rows = self.rows;
-            return record_size(list, rows, self.shown(), words, bytes);
+            lent::record_size(list, self.shown(), words, bytes)
+        } else {
+            list.record_size(self.directory(), words, bytes)
         }
-        list.record_size(self.directory(), words, bytes)
     }
 }

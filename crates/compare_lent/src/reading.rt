@@ -1,40 +1,51 @@
 // The calls of reader, replay and salvage, in the form that the script asks for.
-use super::slices::{next, replay, run, salvage};
 use super::tables::Tables;
-use record::{LogReader, Step};
-use replay::{Ran, Replayed};
+use answer::{Answer, Refusal};
+use record::{LogReader, Stepped};
+use replay::Ran;
 use salvaging::Salvaged;
 
 impl Tables {
-    pub fn next(self, reader: LogReader, log: &[u8]) -> Step {
+    pub fn next(&self, reader: LogReader, log: &[u8]) -> Result<Stepped, Refusal> {
         if self.lent {
-            let rows = self.rows;
-            return next(reader, rows, self.shown(), log);
+            lent::next(reader, self.shown(), log)
+        } else {
+            reader.next(self.directory(), log)
         }
-        reader.next(self.directory(), log)
     }
 
-    pub fn replay(self, log: &[u8], at: usize, expected: u64, image: &mut [u8]) -> Replayed {
+    pub fn replay(
+        &self,
+        log: &[u8],
+        at: usize,
+        expected: u64,
+        image: &mut [u8],
+    ) -> Result<usize, Refusal> {
         if self.lent {
-            let rows = self.rows;
-            return replay(rows, self.shown(), log, at, expected, image);
+            lent::replay(self.shown(), log, at, expected, image)
+        } else {
+            replay::replay(self.directory(), log, at, expected, image)
         }
-        replay::replay(self.directory(), log, at, expected, image)
     }
 
-    pub fn run(self, log: &[u8], at: usize, expected: u64, image: &mut [u8]) -> Ran {
+    pub fn run(&self, log: &[u8], at: usize, expected: u64, image: &mut [u8]) -> Ran {
         if self.lent {
-            let rows = self.rows;
-            return run(rows, self.shown(), log, at, expected, image);
+            lent::run(self.shown(), log, at, expected, image)
+        } else {
+            replay::run(self.directory(), log, at, expected, image)
         }
-        replay::run(self.directory(), log, at, expected, image)
     }
 
-    pub fn salvage(self, log: &[u8], out: &mut [u8], list: &mut [u64]) -> Salvaged {
+    pub fn salvage(
+        &self,
+        log: &[u8],
+        out: &mut [u8],
+        list: &mut [u64],
+    ) -> Result<Salvaged, Answer> {
         if self.lent {
-            let rows = self.rows;
-            return salvage(rows, self.shown(), log, out, list);
+            lent::salvage(self.shown(), log, out, list)
+        } else {
+            salvaging::salvage(self.directory(), log, out, list)
         }
-        salvaging::salvage(self.directory(), log, out, list)
     }
 }

@@ -1,7 +1,7 @@
 // The calls that write a record, end it and clear it, in the form that the script asks for.
-use super::slices::{end_read, end_record, flush_to_file};
 use super::tables::Tables;
-use change::{LogChange, Sized};
+use answer::{Answer, Refusal};
+use change::LogChange;
 use clearing::EndRead;
 use ending::Ended;
 use files::Queues;
@@ -9,39 +9,38 @@ use memory::LogOverlays;
 
 impl Tables {
     pub fn flush_to_file(
-        self,
+        &self,
         list: LogChange,
         words: &[u64],
         bytes: &[u8],
         out: &mut [u8],
-    ) -> Sized {
+    ) -> Result<usize, Answer> {
         if self.lent {
-            let rows = self.rows;
-            return flush_to_file(list, rows, self.shown(), words, bytes, out);
+            lent::flush_to_file(list, self.shown(), words, bytes, out)
+        } else {
+            writer::flush_to_file(list, self.directory(), words, bytes, out)
         }
-        writer::flush_to_file(list, self.directory(), words, bytes, out)
     }
 
     pub fn end_read(
-        self,
+        &self,
         log: &[u8],
         position: usize,
         overlays: LogOverlays,
         words: &mut [u64],
         bytes: &mut [u8],
         next: u64,
-    ) -> EndRead {
+    ) -> Result<EndRead, Refusal> {
         if self.lent {
-            let rows = self.rows;
-            let n = self.shown();
-            return end_read(rows, n, log, position, overlays, words, bytes, next);
+            lent::end_read(self.shown(), log, position, overlays, words, bytes, next)
+        } else {
+            let d = self.directory();
+            clearing::end_read(d, log, position, overlays, words, bytes, next)
         }
-        let d = self.directory();
-        clearing::end_read(d, log, position, overlays, words, bytes, next)
     }
 
     pub fn end_record<'a>(
-        self,
+        &self,
         list: LogChange,
         list_words: &'a [u64],
         list_bytes: &'a [u8],
@@ -53,9 +52,7 @@ impl Tables {
         out: &mut [u8],
     ) -> Ended {
         if self.lent {
-            let rows = self.rows;
-            return end_record(
-                rows,
+            lent::end_record(
                 self.shown(),
                 list,
                 list_words,
@@ -66,19 +63,20 @@ impl Tables {
                 queues,
                 next,
                 out,
-            );
+            )
+        } else {
+            ending::end_record(
+                self.directory(),
+                list,
+                list_words,
+                list_bytes,
+                overlays,
+                words,
+                bytes,
+                queues,
+                next,
+                out,
+            )
         }
-        ending::end_record(
-            self.directory(),
-            list,
-            list_words,
-            list_bytes,
-            overlays,
-            words,
-            bytes,
-            queues,
-            next,
-            out,
-        )
     }
 }

@@ -1,6 +1,4 @@
 // What a script says of the tables, and in which form they are handed on.
-ghost use Rattle.std.specs.Prelude.{◌≤◌};
-
 use directory::{Directory, TableDescription, TableKind};
 
 // A count may pass the rows: 17 tables are as many as it takes to be too many.
@@ -21,23 +19,16 @@ impl Tables {
         }
     }
 
-    // How many rows are lent.
-    pub fn shown(self) -> usize
-        ensures { result ≤ 17 }
-    {
-        if self.count < 17 { self.count } else { 17 }
+    // The rows that are lent.
+    pub fn shown(&self) -> &[TableDescription] {
+        &self.rows[..self.count.min(17)]
     }
 
     // By value: the first 16 rows, and the count as it is.
-    pub fn directory(self) -> Directory {
-        let rows = self.rows;
+    pub fn directory(&self) -> Directory {
         let mut d = Directory::new();
         d.count = self.count;
-        let mut i = 0;
-        while i < 16 {
-            d.tables[i] = rows[i];
-            i += 1;
-        }
+        d.tables.copy_from_slice(&self.rows[..16]);
         d
     }
 }

@@ -1,20 +1,18 @@
 // The fields of a command, the bytes of an answer, and both as hex digits. What a command does isn't known here.
 #![tactic(auto)]
 
-mod answering;
-mod command;
+mod buffer;
 mod fault;
+mod fields;
 mod hex;
 mod kind;
+mod line;
 mod place;
-mod reply;
-mod room;
 
-pub use answering::{flag, put, put_all, put_nums};
-pub use command::{Blob, check_blob, last_blob, wide};
+pub use buffer::Buffer;
 pub use fault::Fault;
-pub use hex::{Decoded, decode, encode, value_of};
+pub use fields::Fields;
+pub use hex::{encode, value_of};
 pub use kind::kind_of;
-pub use place::Place;
-pub use reply::{Reply, wrong_length};
-pub use room::{fill, least};
+pub use line::Line;
+pub use place::refused_at;

@@ -1,41 +1,38 @@
 // FORGE_LIST and FORGE_DROP: lists that no call makes.
-ghost use Rattle.std.specs.Prelude.{◌≤◌, length};
+use super::list::List;
+use answer::Answer;
+use change::Drops;
+use compare_keys::{Forged, append};
+use compare_lines::{Fault, Fields, Line, kind_of};
+use directory::TableKind;
+use memory::Holder;
 
-use super::listed::{Listed, replied};
-use super::parts::{with_drop, with_entry};
-use change::LogChange;
-use compare_keys::forged_at;
-use compare_lines::{Fault, Reply, kind_of, put, wrong_length};
-
-pub fn forge_entry(
-    list: LogChange,
-    command: &[u8],
-    words: &mut [u64; 400],
-    bytes: &mut [u8; 49152],
-    answer: &mut [u8; 65536],
-) -> Listed {
-    if command.len() != 23 {
-        return replied(list, wrong_length(command.len(), 23));
-    }
-    if 2 < command[1] {
-        return replied(list, Reply::Broken(Fault::UnknownKind));
-    }
-    let kind = kind_of(command[1]);
-    let row = forged_at(command, 12, kind, list.record_id);
-    put(answer, 0, 0, 1);
-    replied(with_entry(list, kind, row, words, bytes), Reply::Line(1))
+pub fn forge_entry(list: &mut List, fields: Fields, line: &mut Line) -> Result<(), Fault> {
+    let key = Forged::of(fields, Some(list.list.record_id))?;
+    let counts = list.list.counts;
+    list.list.counts = append(Holder::List, counts, &mut list.words, &mut list.bytes, key);
+    line.begin(Answer::Done);
+    Ok(())
 }
 
-pub fn forge_drop(list: LogChange, command: &[u8], answer: &mut [u8; 65536]) -> Listed {
-    if command.len() != 4 {
-        return replied(list, wrong_length(command.len(), 4));
+// Where the room is full, only the count rises.
+fn push(drops: &mut Drops, number: u16) {
+    let n = drops.count.min(16);
+    if n < 16 {
+        drops.tables[n] = number;
     }
-    if 2 < command[1] {
-        return replied(list, Reply::Broken(Fault::UnknownKind));
+    drops.count = n + 1;
+}
+
+// Kind 1, of which no table is dropped, counts as kind 0.
+pub fn forge_drop(list: &mut List, mut fields: Fields, line: &mut Line) -> Result<(), Fault> {
+    let kind = fields.u8()?;
+    let number = fields.u16()?;
+    fields.end()?;
+    match kind_of(kind)? {
+        TableKind::RefCount => push(&mut list.list.dropped_ref_count_tables, number),
+        TableKind::Index | TableKind::Value => push(&mut list.list.dropped_tables, number),
     }
-    put(answer, 0, 0, 1);
-    replied(
-        with_drop(list, command[1] == 2, words::u16_at(command, 2)),
-        Reply::Line(1),
-    )
+    line.begin(Answer::Done);
+    Ok(())
 }

@@ -3,11 +3,9 @@
 
 mod changing;
 mod forging;
-mod listed;
+mod list;
 mod opcode;
-mod parts;
-mod summing;
+mod telling;
 mod writing;
 
-pub use listed::Listed;
-pub use opcode::serve;
+pub use list::List;

@@ -2,10 +2,9 @@
 #![tactic(auto)]
 
 mod ends;
-mod lived;
+mod life;
 mod opcode;
 mod records;
 mod state;
 
-pub use lived::{Life, Lived};
-pub use opcode::serve;
+pub use life::Life;

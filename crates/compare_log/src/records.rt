@@ -1,52 +1,55 @@
 // BEGIN and CLEAR: a record begun, and one read again and cleared.
-use super::lived::{Life, Lived};
-use compare_lent::Tables;
-use compare_lines::{Place, Reply, put, wrong_length};
+use super::life::Life;
+use answer::Answer;
+use compare_lines::{Fault, Fields, Line, refused_at};
+use compare_reading::Reading;
 
 // A refusal leaves the list.
-pub fn begin(life: Life, command: &[u8], answer: &mut [u8; 65536]) -> Lived {
-    if command.len() != 1 {
-        return life.replied(wrong_length(command.len(), 1));
+pub fn begin(life: &mut Life, fields: Fields, line: &mut Line) -> Result<(), Fault> {
+    fields.end()?;
+    match log_calls::begin_record(life.next_record_id) {
+        Ok(begun) => {
+            life.list.list = begun.list;
+            life.next_record_id = begun.next_record_id;
+            line.begin(Answer::Done);
+            line.put(begun.list.record_id, 8);
+        }
+        Err(answer) => line.begin(answer),
     }
-    let done = log_calls::begin_record(life.next_record_id);
-    let number = done.answer;
-    put(answer, 0, number.number() as u64, 1);
-    if number.number() != 0 {
-        return life.replied(Reply::Line(1));
-    }
-    let begun = done.list;
-    put(answer, 1, begun.record_id, 8);
-    let mut after = life;
-    after.list = begun;
-    after.next_record_id = done.next_record_id;
-    after.replied(Reply::Line(9))
+    Ok(())
 }
 
 pub fn clear(
-    life: Life,
-    tables: Tables,
-    command: &[u8],
-    log: &[u8],
-    words: &mut [u64; 3840],
-    bytes: &mut [u8; 524288],
-    answer: &mut [u8; 65536],
-) -> Lived {
-    if command.len() != 9 {
-        return life.replied(wrong_length(command.len(), 9));
+    life: &mut Life,
+    reading: &mut Reading,
+    mut fields: Fields,
+    line: &mut Line,
+) -> Result<(), Fault> {
+    let position = fields.u64()? as usize;
+    fields.end()?;
+    let done = reading.tables.end_read(
+        reading.log.bytes(),
+        position,
+        life.overlays.overlays,
+        &mut life.overlays.words,
+        &mut life.overlays.bytes,
+        life.next_record_id,
+    );
+    match done {
+        Ok(cleared) => {
+            life.overlays.overlays = cleared.overlays;
+            life.next_record_id = cleared.next_record_id;
+            reading.place = None;
+            line.begin(Answer::Done);
+            line.put(cleared.position as u64, 8);
+            line.put(cleared.record_id, 8);
+        }
+        Err(refusal) => {
+            reading.place = refused_at(refusal.answer, refusal.position);
+            line.begin(refusal.answer);
+            line.put(position as u64, 8);
+            line.put(0, 8);
+        }
     }
-    let before = life.overlays;
-    let next = life.next_record_id;
-    let position = words::u64_at(command, 1) as usize;
-    let done = tables.end_read(log, position, before, words, bytes, next);
-    let refused = done.answer;
-    let number = refused.number();
-    let overlays = done.overlays;
-    put(answer, 0, number as u64, 1);
-    put(answer, 1, done.position as u64, 8);
-    put(answer, 9, done.record_id, 8);
-    let mut after = life;
-    after.overlays = overlays;
-    after.place = Place::after(number, done.fault_at);
-    after.next_record_id = done.next_record_id;
-    after.replied(Reply::Line(17))
+    Ok(())
 }

@@ -1,91 +1,46 @@
 // OPEN, CLEAR_REPLAY, STATE and FORGE_NEXT_ID: the log's state.
-ghost use Rattle.std.specs.Prelude.{◌≤◌};
-
-use super::lived::{Life, Lived};
-use compare_lines::{Reply, put, put_all, wrong_length};
+use super::life::Life;
+use answer::Answer;
+use compare_lines::{Fault, Fields, Line};
 use memory::LogOverlays;
 
-// A refused open has its number alone for an answer.
-fn is_opened(reply: Reply) -> bool {
-    let Reply::Line(length) = reply else {
-        return false;
-    };
-    1 < length
-}
-
-pub fn open(life: Life, command: &[u8], answer: &mut [u8; 65536]) -> Lived {
-    let queues = life.queues;
-    let list = life.list;
-    let done = compare_queues::open(queues, command, answer);
-    let opened = done.queues;
-    let reply = done.reply;
-    if is_opened(reply) {
-        let place = life.place;
-        let mut after = Life::new(list, opened);
-        after.place = place;
-        return after.replied(reply);
+// A refused open leaves the state.
+pub fn open(life: &mut Life, fields: Fields, line: &mut Line) -> Result<(), Fault> {
+    if compare_queues::open(&mut life.queues, fields, line)? {
+        life.overlays.overlays = LogOverlays::new();
+        life.next_record_id = log_calls::first_record_id();
     }
-    let mut after = life;
-    after.queues = opened;
-    after.replied(reply)
+    Ok(())
 }
 
-pub fn clear_replay(
-    life: Life,
-    command: &[u8],
-    words: &[u64; 3840],
-    bytes: &[u8; 524288],
-    answer: &mut [u8; 65536],
-) -> Lived {
-    if command.len() != 1 {
-        return life.replied(wrong_length(command.len(), 1));
+pub fn clear_replay(life: &mut Life, fields: Fields, line: &mut Line) -> Result<(), Fault> {
+    fields.end()?;
+    let done = log_calls::clear_replay_logs(
+        life.overlays.overlays,
+        &life.overlays.words,
+        &life.overlays.bytes,
+        life.queues,
+    );
+    life.overlays.overlays = done.overlays;
+    life.queues = done.queues;
+    line.begin(done.answer);
+    Ok(())
+}
+
+// The queues, and the last ids of the columns.
+pub fn state(life: &Life, fields: Fields, line: &mut Line) -> Result<(), Fault> {
+    fields.end()?;
+    compare_queues::put_queues(line, life.queues, life.next_record_id);
+    for id in &life.overlays.overlays.last_record_ids {
+        line.put(*id, 8);
     }
-    let before = life.overlays;
-    let queues = life.queues;
-    let done = log_calls::clear_replay_logs(before, words, bytes, queues);
-    let number = done.answer;
-    let overlays = done.overlays;
-    let cleared = done.queues;
-    put(answer, 0, number.number() as u64, 1);
-    let mut after = life;
-    after.overlays = overlays;
-    after.queues = cleared;
-    after.replied(Reply::Line(1))
+    Ok(())
 }
 
-fn put_ids(answer: &mut [u8; 65536], at: usize, ids: &[u64; 8]) -> usize
-    requires { at ≤ 4000 }
-    ensures { result ≤ 5000 }
-{
-    put_all(answer, at, ids, 8, 8, 8)
-}
-
-// The last ids of the columns.
-fn put_last_ids(answer: &mut [u8; 65536], at: usize, overlays: LogOverlays) -> usize
-    requires { at ≤ 4000 }
-    ensures { result ≤ 5000 }
-{
-    let ids = overlays.last_record_ids;
-    put_ids(answer, at, &ids)
-}
-
-pub fn state(life: Life, command: &[u8], answer: &mut [u8; 65536]) -> Reply {
-    if command.len() != 1 {
-        return wrong_length(command.len(), 1);
-    }
-    let queues = life.queues;
-    let at = compare_queues::put_queues(answer, queues, life.next_record_id);
-    let overlays = life.overlays;
-    let end = put_last_ids(answer, at, overlays);
-    Reply::Line(end as u16)
-}
-
-pub fn forge_next_id(life: Life, command: &[u8], answer: &mut [u8; 65536]) -> Lived {
-    if command.len() != 9 {
-        return life.replied(wrong_length(command.len(), 9));
-    }
-    let mut after = life;
-    after.next_record_id = words::u64_at(command, 1);
-    put(answer, 0, 0, 1);
-    after.replied(Reply::Line(1))
+pub fn forge_next_id(life: &mut Life, mut fields: Fields, line: &mut Line) -> Result<(), Fault> {
+    let id = fields.u64()?;
+    fields.end()?;
+    life.next_record_id = id;
+    line.begin(Answer::Done);
+    Ok(())
 }

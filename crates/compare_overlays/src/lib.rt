@@ -3,7 +3,6 @@
 
 mod lookups;
 mod opcode;
-mod parts;
-mod values;
+mod overlays;
 
-pub use opcode::{Overlaid, serve};
+pub use overlays::Overlays;

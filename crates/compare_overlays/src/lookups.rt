@@ -1,168 +1,91 @@
-// LOOKUP: the bytes stored for a key.
-ghost use Rattle.std.specs.Prelude.{◌≤◌, length};
-
-use change::LogChange;
-use compare_keys::part_of;
-use compare_lines::{Fault, Reply, flag, kind_of, least, put, wrong_length};
+// LOOKUP and VALUE_INTO: the bytes stored for a key, and a value copied to a destination.
+use super::overlays::Overlays;
+use answer::Answer;
+use compare_lines::{Buffer, Fault, Fields, Line, kind_of};
+use compare_lists::List;
 use directory::{IndexTableId, RefCountTableId, TableKind, ValueTableId};
-use memory::{Holder, LogOverlays};
+use memory::Holder;
+use query::{Listed, Lookup, Shared};
 
-// In its kind's part of the shared memories.
-fn in_shared<'a>(
-    kind: TableKind,
-    overlays: LogOverlays,
-    words: &'a [u64],
-    bytes: &'a [u8],
-    table: u16,
-    index: u64,
-    number: &mut u64,
-) -> &'a [u8] {
-    match kind {
-        TableKind::Index => {
-            let id = IndexTableId::from_u16(table);
-            query::shared::with_index(overlays, words, bytes, id, index, number)
-        }
-        TableKind::Value => {
-            let id = ValueTableId::from_u16(table);
-            query::shared::value_ref(overlays, words, bytes, id, index, number)
-        }
-        TableKind::RefCount => {
-            let id = RefCountTableId::from_u16(table);
-            query::shared::ref_count(overlays, words, bytes, id, index, number)
-        }
+// The list, and behind it the kind's part of the shared memories.
+fn lent<'a>(list: &'a List, overlays: &'a Overlays, kind: TableKind) -> Listed<'a> {
+    let shared = Shared {
+        overlays: overlays.overlays,
+        words: Holder::Shared.words(kind, &overlays.words),
+        bytes: Holder::Shared.bytes(kind, &overlays.bytes),
+    };
+    Listed {
+        list: list.list,
+        words: &list.words,
+        bytes: &list.bytes,
+        shared,
     }
 }
 
-// In the list first, then in its kind's part of the shared memories.
-fn in_list<'a>(
-    kind: TableKind,
-    list: LogChange,
-    list_words: &'a [u64],
-    list_bytes: &'a [u8],
-    overlays: LogOverlays,
-    words: &'a [u64],
-    bytes: &'a [u8],
-    table: u16,
-    index: u64,
-    number: &mut u64,
-) -> &'a [u8] {
+fn look<L: Lookup>(within: &L, kind: TableKind, table: u16, index: u64) -> Result<&[u8], Answer> {
     match kind {
-        TableKind::Index => {
-            let id = IndexTableId::from_u16(table);
-            query::listed::with_index(
-                list, list_words, list_bytes, overlays, words, bytes, id, index, number,
-            )
-        }
-        TableKind::Value => {
-            let id = ValueTableId::from_u16(table);
-            query::listed::value_ref(
-                list, list_words, list_bytes, overlays, words, bytes, id, index, number,
-            )
-        }
-        TableKind::RefCount => {
-            let id = RefCountTableId::from_u16(table);
-            query::listed::ref_count(
-                list, list_words, list_bytes, overlays, words, bytes, id, index, number,
-            )
-        }
+        TableKind::Index => within.with_index(IndexTableId::from_u16(table), index),
+        TableKind::Value => within.value_ref(ValueTableId::from_u16(table), index),
+        TableKind::RefCount => within.ref_count(RefCountTableId::from_u16(table), index),
     }
 }
 
 // No key has more than 1,024 bytes.
-fn put_stored(answer: &mut [u8; 65536], number: u64, stored: &[u8]) -> Reply {
-    let n = least(stored.len(), 1024);
-    put(answer, 0, number, 1);
-    put(answer, 1, flag(0 < n), 1);
-    put(answer, 2, n as u64, 4);
-    output::copy_into(answer, 6, &stored[0..n]);
-    Reply::Line((6 + n) as u16)
+fn put_stored(line: &mut Line, outcome: Result<&[u8], Answer>) {
+    line.begin_with(outcome);
+    let stored = outcome.unwrap_or(b"");
+    let n = stored.len().min(1024);
+    line.put_flag(0 < n);
+    line.put(n as u64, 4);
+    line.put_bytes(&stored[..n]);
 }
 
-fn look<'a>(
-    kind: TableKind,
-    list: LogChange,
-    overlays: LogOverlays,
-    command: &[u8],
-    list_words: &'a [u64],
-    list_bytes: &'a [u8],
-    words: &'a [u64],
-    bytes: &'a [u8],
-    answer: &mut [u8; 65536],
-) -> Reply
-    requires { 13 ≤ length command.now }
-{
-    let table = words::u16_at(command, 3);
-    let index = words::u64_at(command, 5);
-    let mut number: u64 = 0;
-    if command[2] == 0 {
-        let stored = in_shared(kind, overlays, words, bytes, table, index, &mut number);
-        return put_stored(answer, number, stored);
+pub fn lookup(
+    list: &List,
+    overlays: &Overlays,
+    mut fields: Fields,
+    line: &mut Line,
+) -> Result<(), Fault> {
+    let kind = fields.u8()?;
+    let with_list = fields.flag()?;
+    let table = fields.u16()?;
+    let index = fields.u64()?;
+    fields.end()?;
+    let kind = kind_of(kind)?;
+    let listed = lent(list, overlays, kind);
+    if with_list {
+        put_stored(line, look(&listed, kind, table, index));
+    } else {
+        put_stored(line, look(&listed.shared, kind, table, index));
     }
-    let stored = in_list(
-        kind,
-        list,
-        list_words,
-        list_bytes,
-        overlays,
-        words,
-        bytes,
-        table,
-        index,
-        &mut number,
-    );
-    put_stored(answer, number, stored)
+    Ok(())
 }
 
-// The kind's part of the shared memories is handed on.
-fn look_part<'a>(
-    kind: TableKind,
-    list: LogChange,
-    overlays: LogOverlays,
-    command: &[u8],
-    list_words: &'a [u64],
-    list_bytes: &'a [u8],
-    words: &'a [u64],
-    bytes: &'a [u8],
-    answer: &mut [u8; 65536],
-) -> Reply
-    requires { (13 ≤ length command.now) × (3840 ≤ length words.now) × (524288 ≤ length bytes.now) }
-{
-    let s = part_of(Holder::Shared, kind);
-    let a = s.words_at;
-    let e = s.words_end;
-    let b = s.bytes_at;
-    let f = s.bytes_end;
-    look(
-        kind,
-        list,
-        overlays,
-        command,
-        list_words,
-        list_bytes,
-        &words[a..e],
-        &bytes[b..f],
-        answer,
-    )
-}
-
-pub fn lookup<'a>(
-    list: LogChange,
-    overlays: LogOverlays,
-    command: &[u8],
-    list_words: &'a [u64; 400],
-    list_bytes: &'a [u8; 49152],
-    words: &'a [u64; 3840],
-    bytes: &'a [u8; 524288],
-    answer: &mut [u8; 65536],
-) -> Reply {
-    if command.len() != 13 {
-        return wrong_length(command.len(), 13);
+pub fn value_into(
+    list: &List,
+    overlays: &Overlays,
+    room: &mut Buffer<60000>,
+    mut fields: Fields,
+    line: &mut Line,
+) -> Result<(), Fault> {
+    let with_list = fields.flag()?;
+    let table = ValueTableId::from_u16(fields.u16()?);
+    let index = fields.u64()?;
+    let n = fields.u32()? as usize;
+    fields.end()?;
+    if 60000 < n {
+        return Err(Fault::LongOutput);
     }
-    if 2 < command[1] {
-        return Reply::Broken(Fault::UnknownKind);
-    }
-    let kind = kind_of(command[1]);
-    look_part(
-        kind, list, overlays, command, list_words, list_bytes, words, bytes, answer,
-    )
+    room.hold(n, 0x5a);
+    let listed = lent(list, overlays, TableKind::Value);
+    let found = if with_list {
+        listed.value(table, index, room.bytes_mut())
+    } else {
+        listed.shared.value(table, index, room.bytes_mut())
+    };
+    line.begin_with(found);
+    line.put_flag(found.unwrap_or(false));
+    line.put(room.bytes().len() as u64, 4);
+    line.put_bytes(room.bytes());
+    Ok(())
 }

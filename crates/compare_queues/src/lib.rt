@@ -2,14 +2,11 @@
 #![tactic(auto)]
 
 mod forging;
-mod nums;
 mod opcode;
 mod opening;
-mod queued;
 mod queues;
 mod state;
 
 pub use opcode::serve;
 pub use opening::open;
-pub use queued::Queued;
 pub use state::put_queues;

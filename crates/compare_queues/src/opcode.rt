@@ -1,23 +1,26 @@
 // One command, by its opcode.
-ghost use Rattle.std.specs.Prelude.{◌≤◌, length};
-
 use super::forging::forge_queues;
-use super::queued::{Queued, replied};
 use super::queues::{clean, flush, kill, read_next, replay_next};
-use compare_lines::Reply;
+use compare_lines::{Fault, Fields, Line};
 use files::Queues;
 
-pub fn serve(queues: Queues, command: &[u8], log: &[u8], answer: &mut [u8; 65536]) -> Queued
-    requires { 1 ≤ length command.now }
-{
-    let opcode = command[0];
+pub fn serve(
+    queues: &mut Queues,
+    log: &[u8],
+    opcode: u8,
+    fields: Fields,
+    line: &mut Line,
+) -> Result<(), Fault> {
     match opcode {
-        0x14 => flush(queues, command, answer),
-        0x15 => read_next(queues, command, log, answer),
-        0x16 => replay_next(queues, command, answer),
-        0x17 => clean(queues, command, answer),
-        0x19 => kill(queues, command, answer),
-        0x1f => forge_queues(queues, command, answer),
-        _ => replied(queues, Reply::Unknown),
+        0x14 => flush(queues, fields, line),
+        0x15 => read_next(queues, log, fields, line),
+        0x16 => replay_next(queues, fields, line),
+        0x17 => clean(queues, fields, line),
+        0x19 => kill(queues, fields, line),
+        0x1f => forge_queues(queues, fields, line),
+        _ => {
+            line.unknown();
+            Ok(())
+        }
     }
 }

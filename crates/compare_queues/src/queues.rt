@@ -1,77 +1,73 @@
 // FLUSH, READ_NEXT, REPLAY_NEXT, CLEAN and KILL: the files and the queues they stand in.
-use super::nums::put_queue;
-use super::queued::{Queued, replied};
-use compare_lines::{Reply, flag, put, wrong_length};
-use files::Queues;
+ghost use Rattle.std.specs.Prelude.{◌+◌, ◌≤◌};
 
-pub fn flush(queues: Queues, command: &[u8], answer: &mut [u8; 65536]) -> Queued {
-    if command.len() != 9 {
-        return replied(queues, wrong_length(command.len(), 9));
-    }
-    let done = queues.flush_one(words::u64_at(command, 1));
-    let number = done.answer;
-    put(answer, 0, number.number() as u64, 1);
-    put(answer, 1, flag(done.moved), 1);
-    let after = done.queues;
-    replied(after, Reply::Line(2))
+use answer::Answer;
+use compare_lines::{Fault, Fields, Line};
+use files::{NumberQueue, Queues};
+
+pub fn put_queue(line: &mut Line, queue: NumberQueue)
+    requires { line.old.held + 322 ≤ 81920 }
+    ensures { line.new.held ≤ line.old.held + 322 }
+{
+    line.put_nums(&queue.numbers[..queue.count.min(64)]);
 }
 
-pub fn read_next(queues: Queues, command: &[u8], log: &[u8], answer: &mut [u8; 65536]) -> Queued {
-    if command.len() != 10 {
-        return replied(queues, wrong_length(command.len(), 10));
-    }
-    let position = words::u64_at(command, 1) as usize;
-    let done = queues.read_next(log, position, command[9] != 0);
-    let number = done.answer;
-    let reader = done.reader;
-    let after = done.queues;
-    put(answer, 0, number.number() as u64, 1);
-    if number.number() != 0 {
-        return replied(after, Reply::Line(1));
-    }
-    put(answer, 1, reader.record_id(), 8);
-    put(answer, 9, reader.position as u64, 8);
-    replied(after, Reply::Line(17))
+pub fn flush(queues: &mut Queues, mut fields: Fields, line: &mut Line) -> Result<(), Fault> {
+    let minimum = fields.u64()?;
+    fields.end()?;
+    let done = queues.flush_one(minimum);
+    *queues = done.queues;
+    line.begin(done.answer);
+    line.put_flag(done.moved.is_some());
+    Ok(())
 }
 
-pub fn replay_next(queues: Queues, command: &[u8], answer: &mut [u8; 65536]) -> Queued {
-    if command.len() != 1 {
-        return replied(queues, wrong_length(command.len(), 1));
+pub fn read_next(
+    queues: &mut Queues,
+    log: &[u8],
+    mut fields: Fields,
+    line: &mut Line,
+) -> Result<(), Fault> {
+    let position = fields.u64()? as usize;
+    let validate = fields.flag()?;
+    fields.end()?;
+    let done = queues.read_next(log, position, validate);
+    *queues = done.queues;
+    line.begin(done.answer);
+    if done.answer == Answer::Done {
+        line.put(done.reader.record_id(), 8);
+        line.put(done.reader.position as u64, 8);
     }
+    Ok(())
+}
+
+pub fn replay_next(queues: &mut Queues, fields: Fields, line: &mut Line) -> Result<(), Fault> {
+    fields.end()?;
     let done = queues.replay_next();
-    let number = done.answer;
-    put(answer, 0, number.number() as u64, 1);
-    put(answer, 1, flag(done.found), 1);
-    put(answer, 2, done.number, 4);
-    let after = done.queues;
-    replied(after, Reply::Line(6))
+    *queues = done.queues;
+    line.begin(done.answer);
+    line.put_flag(done.number.is_some());
+    line.put(done.number.unwrap_or(0), 4);
+    Ok(())
 }
 
-pub fn clean(queues: Queues, command: &[u8], answer: &mut [u8; 65536]) -> Queued {
-    if command.len() != 9 {
-        return replied(queues, wrong_length(command.len(), 9));
-    }
-    let done = queues.clean_logs(words::u64_at(command, 1) as usize);
-    let number = done.answer;
-    put(answer, 0, number.number() as u64, 1);
-    put(answer, 1, flag(done.more), 1);
-    let empty = done.empty;
-    let remove = done.remove;
-    let emptied = put_queue(answer, 2, empty);
-    let removed = put_queue(answer, emptied, remove);
-    let after = done.queues;
-    replied(after, Reply::Line(removed as u16))
+pub fn clean(queues: &mut Queues, mut fields: Fields, line: &mut Line) -> Result<(), Fault> {
+    let n = fields.u64()? as usize;
+    fields.end()?;
+    let done = queues.clean_logs(n);
+    *queues = done.queues;
+    line.begin(done.answer);
+    line.put_flag(done.more);
+    put_queue(line, done.empty);
+    put_queue(line, done.remove);
+    Ok(())
 }
 
-pub fn kill(queues: Queues, command: &[u8], answer: &mut [u8; 65536]) -> Queued {
-    if command.len() != 1 {
-        return replied(queues, wrong_length(command.len(), 1));
-    }
+pub fn kill(queues: &mut Queues, fields: Fields, line: &mut Line) -> Result<(), Fault> {
+    fields.end()?;
     let done = queues.kill_logs();
-    let number = done.answer;
-    put(answer, 0, number.number() as u64, 1);
-    let remove = done.remove;
-    let removed = put_queue(answer, 1, remove);
-    let after = done.queues;
-    replied(after, Reply::Line(removed as u16))
+    *queues = done.queues;
+    line.begin(done.answer);
+    put_queue(line, done.remove);
+    Ok(())
 }

@@ -8,5 +8,4 @@ mod state;
 mod steps;
 mod tables;
 
-pub use opcode::serve;
-pub use state::{Read, Reading};
+pub use state::Reading;

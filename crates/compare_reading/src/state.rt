@@ -1,55 +1,25 @@
-// What these commands keep, besides the bytes of the log and of the image.
-ghost use Rattle.compare_reading.specs.Bounds.{Kept};
-
+// What these commands keep: the tables, a reader, the bytes of a log and of an image, and where the last call that reads was refused.
 use compare_lent::Tables;
-use compare_lines::{Place, Reply};
+use compare_lines::Buffer;
 use record::LogReader;
 
-#[derive(Clone, Copy)]
+#[derive(Drop)]
 pub struct Reading {
     pub tables: Tables,
     pub reader: LogReader,
-    pub logged: usize,
-    pub imaged: usize,
-    pub place: Place,
-}
-
-#[derive(Clone, Copy)]
-pub struct Read {
-    pub reading: Reading,
-    pub reply: Reply,
+    pub log: Buffer<80000>,
+    pub image: Buffer<300000>,
+    pub place: Option<usize>,
 }
 
 impl Reading {
-    pub fn new() -> Reading
-        ensures { Kept result }
-    {
+    pub fn new() -> Reading {
         Reading {
             tables: Tables::new(),
             reader: LogReader::new(0, false),
-            logged: 0,
-            imaged: 0,
-            place: Place::none(),
-        }
-    }
-
-    // A call that reads has answered with that number, and told a place.
-    pub fn answered(self, number: u8, position: usize) -> Reading
-        requires { Kept self }
-        ensures { Kept result }
-    {
-        let mut r = self;
-        r.place = Place::after(number, position);
-        r
-    }
-
-    pub fn replied(self, reply: Reply) -> Read
-        requires { Kept self }
-        ensures { Kept result.reading }
-    {
-        Read {
-            reading: self,
-            reply: reply,
+            log: Buffer::new(),
+            image: Buffer::new(),
+            place: None,
         }
     }
 }

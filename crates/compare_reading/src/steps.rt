@@ -1,19 +1,19 @@
 // STEP_AT and STEP: the reader.
-ghost use Rattle.compare_reading.specs.Bounds.{Kept};
+ghost use Rattle.std.specs.Prelude.{◌≡◌};
 
-use super::state::{Read, Reading};
-use compare_lines::{Reply, put, wrong_length};
-use record::{LogAction, LogReader, Step, Stepped};
+use super::state::Reading;
+use answer::Answer;
+use compare_lines::{Fault, Fields, Line, refused_at};
+use record::{LogAction, LogReader, Stepped};
 
 fn table_of(action: LogAction) -> u16 {
     match action {
-        LogAction::BeginRecord => 0,
         LogAction::InsertIndex(a) => a.table.as_u16(),
         LogAction::InsertValue(a) => a.table.as_u16(),
         LogAction::InsertRefCount(a) => a.table.as_u16(),
         LogAction::DropTable(t) => t.as_u16(),
         LogAction::DropRefCountTable(t) => t.as_u16(),
-        LogAction::EndRecord => 0,
+        LogAction::BeginRecord | LogAction::EndRecord => 0,
     }
 }
 
@@ -22,99 +22,59 @@ fn index_of(action: LogAction) -> u64 {
         LogAction::InsertIndex(a) => a.index,
         LogAction::InsertValue(a) => a.index,
         LogAction::InsertRefCount(a) => a.index,
-        LogAction::BeginRecord => 0,
-        LogAction::DropTable(_) => 0,
-        LogAction::DropRefCountTable(_) => 0,
-        LogAction::EndRecord => 0,
+        _ => 0,
     }
 }
 
 // The id, if a record begins.
 fn id_of(action: LogAction, reader: LogReader) -> u64 {
-    if let LogAction::BeginRecord = action {
-        reader.record_id()
-    } else {
-        0
+    match action {
+        LogAction::BeginRecord => reader.record_id(),
+        _ => 0,
     }
 }
 
-// Where there is no payload, its place is 0.
-fn payload_start(start: usize, length: usize) -> usize {
-    if length == 0 { 0 } else { start }
-}
-
-// An action takes 44 bytes.
-fn put_stepped(answer: &mut [u8; 65536], s: Stepped) {
-    let action = s.action;
-    let reader = s.reader;
-    let tag = action.tag();
-    put(answer, 0, 0, 1);
-    put(answer, 1, tag.0 as u64, 1);
-    put(answer, 2, table_of(action) as u64, 2);
-    put(answer, 4, index_of(action), 8);
-    put(answer, 12, id_of(action, reader), 8);
-    put(answer, 20, payload_start(s.start, s.length) as u64, 8);
-    put(answer, 28, s.length as u64, 8);
-    put(answer, 36, reader.position as u64, 8);
+// An action takes 44 bytes. Where there is no payload, its place is 0.
+fn put_stepped(line: &mut Line, s: Stepped) {
+    line.begin(Answer::Done);
+    line.put(u64::from(s.action.tag().0), 1);
+    line.put(u64::from(table_of(s.action)), 2);
+    line.put(index_of(s.action), 8);
+    line.put(id_of(s.action, s.reader), 8);
+    line.put(if s.length == 0 { 0 } else { s.start as u64 }, 8);
+    line.put(s.length as u64, 8);
+    line.put(s.reader.position as u64, 8);
 }
 
 // A refusal leaves the reader where it stands.
-fn step_from(
-    reading: Reading,
-    reader: LogReader,
-    log: &[u8; 80000],
-    answer: &mut [u8; 65536],
-) -> Read
-    requires { Kept reading }
-    ensures { Kept result.reading }
-{
-    let tables = reading.tables;
-    let length = reading.logged;
-    let room: &[u8] = log;
-    match tables.next(reader, &room[0..length]) {
-        Step::Refused(refusal) => {
-            let refused = refusal.answer;
-            let number = refused.number();
-            let mut kept = reading.answered(number, refusal.position);
-            kept.reader = reader;
-            put(answer, 0, number as u64, 1);
-            kept.replied(Reply::Line(1))
+fn step_from(reading: &mut Reading, reader: LogReader, line: &mut Line) {
+    match reading.tables.next(reader, reading.log.bytes()) {
+        Err(refusal) => {
+            reading.place = refused_at(refusal.answer, refusal.position);
+            reading.reader = reader;
+            line.begin(refusal.answer);
         }
-        Step::Took(s) => {
-            let behind = s.reader;
-            let mut kept = reading.answered(0, 0);
-            kept.reader = behind;
-            put_stepped(answer, s);
-            kept.replied(Reply::Line(44))
+        Ok(s) => {
+            reading.place = None;
+            reading.reader = s.reader;
+            put_stepped(line, s);
         }
     }
 }
 
-pub fn step_at(
-    reading: Reading,
-    command: &[u8],
-    log: &[u8; 80000],
-    answer: &mut [u8; 65536],
-) -> Read
-    requires { Kept reading }
-    ensures { Kept result.reading }
-{
-    if command.len() != 10 {
-        return reading.replied(wrong_length(command.len(), 10));
-    }
-    let position = words::u64_at(command, 1) as usize;
-    let reader = LogReader::new(position, command[9] != 0);
-    step_from(reading, reader, log, answer)
+pub fn step_at(reading: &mut Reading, mut fields: Fields, line: &mut Line) -> Result<(), Fault> {
+    let position = fields.u64()? as usize;
+    let validate = fields.flag()?;
+    fields.end()?;
+    step_from(reading, LogReader::new(position, validate), line);
+    Ok(())
 }
 
-pub fn step(reading: Reading, command: &[u8], log: &[u8; 80000], answer: &mut [u8; 65536]) -> Read
-    requires { Kept reading }
-    ensures { Kept result.reading }
-{
-    if command.len() != 2 {
-        return reading.replied(wrong_length(command.len(), 2));
-    }
+pub fn step(reading: &mut Reading, mut fields: Fields, line: &mut Line) -> Result<(), Fault> {
+    let validate = fields.flag()?;
+    fields.end()?;
     let mut reader = reading.reader;
-    reader.validate = command[1] != 0;
-    step_from(reading, reader, log, answer)
+    reader.validate = validate;
+    step_from(reading, reader, line);
+    Ok(())
 }

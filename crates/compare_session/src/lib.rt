@@ -1,8 +1,6 @@
-// The run protocol without its lines: what is kept from command to command, and one command served.
+// All commands of the run protocol.
 #![tactic(auto)]
 
-mod opcode;
 mod session;
 
-pub use opcode::serve;
-pub use session::{Served, Session};
+pub use session::Session;

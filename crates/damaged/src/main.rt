@@ -5,7 +5,6 @@
 ghost use Rattle.std.specs.Prelude.{◌<◌};
 
 use directory::Directory;
-use replay::Ran;
 use std::io;
 
 const LENGTH: usize = 201;
@@ -19,29 +18,15 @@ fn tables() -> Directory {
 
 // The log of the sample that `recover` is run on.
 fn write_log(log: &mut [u8; LENGTH]) {
-    output::copy_into(
-        log,
-        0,
+    log[..49].copy_from_slice(
         b"\x01\x01\x00\x00\x00\x00\x00\x00\x00\x02\x03\x00\x00\x00\x00\x00\x00\x00\x00\x00\x05\x00\x00\x00\x00\x00\x00\x00\x11\x11\x00\x00\x00\x00\x00\x00\x22\x22\x00\x00\x00\x00\x00\x00\x04\x2b\x3a\xca\xa3",
     );
-    output::copy_into(
-        log,
-        49,
+    log[49..94].copy_from_slice(
         b"\x01\x02\x00\x00\x00\x00\x00\x00\x00\x03\x07\x00\x05\x00\x00\x00\x00\x00\x00\x00\x74\x77\x65\x6e\x74\x79\x20\x62\x79\x74\x65\x73\x20\x6f\x66\x20\x74\x65\x78\x74\x04\x34\xf0\x70\xcd",
     );
-    output::copy_into(
-        log,
-        94,
+    log[94..].copy_from_slice(
         b"\x01\x03\x00\x00\x00\x00\x00\x00\x00\x06\x02\x00\x01\x00\x00\x00\x00\x00\x00\x00\x00\x00\x00\x00\x00\x00\x00\x80\x07\x00\x00\x00\x00\x00\x00\x00\x00\x00\x00\x00\x00\x00\x00\x00\x02\x03\x00\x3f\x00\x00\x00\x00\x00\x00\x00\x00\x00\x00\x00\x00\x00\x00\x80\x01\x00\x00\x00\x00\x00\x00\x00\x03\x07\x00\x7f\x00\x00\x00\x00\x00\x00\x00\x00\x01\x02\x03\x04\x05\x06\x07\x08\x09\x0a\x0b\x0c\x0d\x0e\x0f\x10\x11\x12\x13\x04\x93\xb5\x50\x82",
     );
-}
-
-fn tell_ran(out: &impl Print, place: usize, by: u8, ran: Ran) -> io::Result<()> {
-    let answer = ran.answer.number();
-    let position = ran.position;
-    let count = ran.count;
-    let fault_at = ran.fault_at;
-    println!(out; "{place} {by} {answer} {position} {count} {fault_at}")
 }
 
 // The byte is as it was afterwards.
@@ -55,11 +40,14 @@ fn damage(
 ) -> io::Result<()>
     requires { place < 201 }
 {
-    let whole = log[place];
-    log[place] = whole ^ by;
+    log[place] ^= by;
     let ran = replay::run(directory, log, 0, 1, image);
-    log[place] = whole;
-    tell_ran(out, place, by, ran)
+    log[place] ^= by;
+    let answer = ran.answer.number();
+    let position = ran.position;
+    let count = ran.count;
+    let fault_at = ran.fault_at;
+    println!(out; "{place} {by} {answer} {position} {count} {fault_at}")
 }
 
 fn main(rt: HostRuntime) -> io::Result<()> {
@@ -68,8 +56,9 @@ fn main(rt: HostRuntime) -> io::Result<()> {
     let mut image = [0u8; IMAGE];
     write_log(&mut log);
     for place in 0..LENGTH {
-        damage(&rt, directory, &mut log, &mut image, place, 1)?;
-        damage(&rt, directory, &mut log, &mut image, place, 255)?;
+        for by in [1, 255] {
+            damage(&rt, directory, &mut log, &mut image, place, by)?;
+        }
     }
     Ok(())
 }

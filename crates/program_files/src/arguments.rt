@@ -1,6 +1,8 @@
-// The program's arguments, byte by byte as they were given.
-ghost use Rattle.std.specs.Prelude.{◌≤◌};
+// The arguments that the program was given.
+ghost use Rattle.std.specs.Prelude.{◌≤◌, length, IfSome};
 
+use super::message::{Teller, Told};
+use directory_text::{Number, number_of};
 use std::env::FillError;
 use std::rt::Env;
 
@@ -8,12 +10,7 @@ use std::rt::Env;
 pub const PATH_ROOM: usize = 4096;
 
 fn is_given(env: &impl Env, i: usize) -> bool {
-    let mut none = [0u8; 0];
-    match env.arg(i, &mut none) {
-        Ok(_) => true,
-        Err(FillError::TooLong) => true,
-        Err(FillError::NotPresent) => false,
-    }
+    !matches!(env.arg(i, &mut [0u8; 0]), Err(FillError::NotPresent))
 }
 
 // How many there are, the program's own name among them.
@@ -26,9 +23,23 @@ pub fn argument_count(env: &impl Env) -> usize {
     usize::MAX
 }
 
-// How many bytes an argument has, which stand at the buffer's front: 0 where it is missing, or longer than the buffer.
-pub fn argument(env: &impl Env, i: usize, buffer: &mut [u8; PATH_ROOM]) -> usize
-    ensures { result ≤ 4096 }
+// An argument, which stands at the buffer's front then. There is none where it is missing, empty, or longer than the buffer.
+pub fn argument<'a>(env: &impl Env, i: usize, buffer: &'a mut [u8; PATH_ROOM]) -> Option<&'a [u8]>
+    ensures { IfSome result (λ bytes. length bytes.now ≤ 4096) }
 {
-    env.arg(i, buffer).unwrap_or(0)
+    match env.arg(i, buffer) {
+        Ok(0) | Err(_) => None,
+        Ok(n) => Some(&buffer[..n]),
+    }
+}
+
+// An argument that is the first id, a decimal number.
+pub fn first_id<P: Print>(env: &impl Env, teller: &Teller<P>, i: usize) -> Result<u64, Told> {
+    let mut buffer = [0; PATH_ROOM];
+    let word = argument(env, i, &mut buffer).unwrap_or(b"");
+    match number_of(word) {
+        Number::Is(first) => Ok(first),
+        Number::NotDecimal => Err(teller.quote("FIRST-ID is no decimal number: ", word)),
+        Number::TooLarge => Err(teller.quote("FIRST-ID isn't below 2^64: ", word)),
+    }
 }

@@ -1,10 +1,10 @@
 // A directory's text, read from its file.
-ghost use Rattle.std.specs.Prelude.{◌≡◌, true};
+ghost use Rattle.std.specs.Prelude.{◌≡◌, true, IfOk};
 ghost use Rattle.directory.specs.Directory.{directory_kept};
 
 use super::fault::tell_fault;
-use super::message::{fail, tell};
-use super::opening::open_read;
+use super::message::{Teller, Told};
+use super::opening::open_told;
 use directory::Directory;
 use directory_text::directory_of;
 use log_input::fill;
@@ -13,68 +13,34 @@ use std::rt::Files;
 // The longest text of a directory, and a byte more, by which a longer one shows.
 pub const TEXT_ROOM: usize = 65537;
 
-// A directory that is good keeps the rules.
-#[derive(Clone, Copy)]
-pub struct Read {
-    pub directory: Directory,
-    pub good: bool,
-}
-
-fn refused() -> Read
-    ensures { result.good ≡ true → directory_kept result.directory ≡ true }
-{
-    Read {
-        directory: Directory::new(),
-        good: false,
-    }
-}
-
-fn read_text(err: &impl Print, who: &[u8], path: &[u8], text: &[u8]) -> Read
-    ensures { result.good ≡ true → directory_kept result.directory ≡ true }
+fn read_text<P: Print>(teller: &Teller<P>, path: &[u8], text: &[u8]) -> Result<Directory, Told>
+    ensures { IfOk result (λ directory. directory_kept directory ≡ true) }
 {
     let parsed = directory_of(text);
     let fault = parsed.fault;
     if fault.is_any() {
-        tell_fault(err, who, fault, path, parsed.line);
-        return refused();
+        return Err(tell_fault(teller, path, parsed.line, fault));
     }
     let directory = parsed.directory;
     if !directory.kept() {
-        tell(err, who, path, b": the directory breaks a rule");
-        return refused();
+        return Err(teller.tell(path, ": the directory breaks a rule"));
     }
-    Read {
-        directory: directory,
-        good: true,
-    }
+    Ok(directory)
 }
 
-pub fn read_directory<R: Files>(
+// One that keeps the rules.
+pub fn read_directory<R: Files, P: Print>(
     files: &R,
-    err: &impl Print,
-    who: &[u8],
+    teller: &Teller<P>,
     path: &[u8],
     text: &mut [u8; TEXT_ROOM],
-) -> Read
-    ensures { result.good ≡ true → directory_kept result.directory ≡ true }
+) -> Result<Directory, Told>
+    ensures { IfOk result (λ directory. directory_kept directory ≡ true) }
 {
-    let mut file = match open_read(files, path) {
-        Ok(file) => file,
-        Err(why) => {
-            fail(err, path, &why);
-            return refused();
-        }
-    };
-    let filled = fill(&mut file, text, 0);
-    if let Some(why) = filled.failed {
-        fail(err, path, &why);
-        return refused();
-    }
-    let held = filled.held;
+    let mut file = open_told(files, teller, path)?;
+    let held = fill(&mut file, text, 0).map_err(|why| teller.fail(path, &why))?;
     if held == TEXT_ROOM {
-        tell(err, who, path, b": more than 65536 bytes");
-        return refused();
+        return Err(teller.tell(path, ": more than 65536 bytes"));
     }
-    let bytes: &[u8] = text;
-    read_text(err, who, path, &bytes[0..held])
+    read_text(teller, path, &text[..held])
 }

@@ -1,64 +1,47 @@
 // How standard error is told what is wrong in a line of the directory's text.
-use super::message::{name, put, put_number};
+use super::message::{Teller, Told};
 use directory_text::Fault;
+use std::fmt;
 
-fn tell_number(err: &impl Print, which: u8) {
-    put(err, b"number ");
-    put_number(err, which as u64);
-    match which {
-        1 => put(err, b", the table's own,"),
-        2 => put(err, b", the column,"),
-        3 => put(err, b", the count,"),
-        _ => put(err, b", the value's length,"),
-    };
+// A number by its place in the line.
+#[derive(Clone, Copy)]
+struct Numbered(u8);
+
+impl fmt::Display for Numbered {
+    fn fmt<W: fmt::Write>(&self, f: &mut fmt::Formatter<W>) -> fmt::Result {
+        let name = match self.0 {
+            1 => "the table's own",
+            2 => "the column",
+            3 => "the count",
+            _ => "the value's length",
+        };
+        write!(f, "number {}, {name},", self.0)
+    }
 }
 
-fn tell_too_large(err: &impl Print, which: u8) {
-    tell_number(err, which);
-    match which {
-        2 => put(err, b" is above 255"),
-        _ => put(err, b" is above 65535"),
-    };
-}
+#[derive(Clone, Copy)]
+struct Words(Fault);
 
-fn tell_number_fault(err: &impl Print, which: u8, text: &[u8]) {
-    tell_number(err, which);
-    put(err, text);
-}
-
-fn tell_text(err: &impl Print, fault: Fault) {
-    match fault {
-        Fault::None => {}
-        Fault::UnknownKind => {
-            put(err, b"the first word isn't index, value or refcount");
-        }
-        Fault::Missing(which) => tell_number_fault(err, which, b" is missing"),
-        Fault::NotDecimal(which) => tell_number_fault(err, which, b" is no decimal number"),
-        Fault::TooLarge(which) => tell_too_large(err, which),
-        Fault::MoreWords => {
-            put(err, b"a word stands behind the last number");
-        }
-        Fault::SeventeenthTable => {
-            put(err, b"a 17th table; a directory has at most 16");
-        }
-        Fault::RuleBroken => {
-            put(
-                err,
-                b"a rule is broken: column 0 to 7, count 1 to 4096, a value's length 1 to 512",
-            );
-        }
-        Fault::NameTaken => {
-            put(err, b"a line before has a table of this kind and number");
+impl fmt::Display for Words {
+    fn fmt<W: fmt::Write>(&self, f: &mut fmt::Formatter<W>) -> fmt::Result {
+        match self.0 {
+            Fault::None => Ok(()),
+            Fault::UnknownKind => f.write_str("the first word isn't index, value or refcount"),
+            Fault::Missing(which) => write!(f, "{} is missing", Numbered(which)),
+            Fault::NotDecimal(which) => write!(f, "{} is no decimal number", Numbered(which)),
+            Fault::TooLarge(2) => write!(f, "{} is above 255", Numbered(2)),
+            Fault::TooLarge(which) => write!(f, "{} is above 65535", Numbered(which)),
+            Fault::MoreWords => f.write_str("a word stands behind the last number"),
+            Fault::SeventeenthTable => f.write_str("a 17th table; a directory has at most 16"),
+            Fault::RuleBroken => f.write_str(
+                "a rule is broken: column 0 to 7, count 1 to 4096, a value's length 1 to 512",
+            ),
+            Fault::NameTaken => f.write_str("a line before has a table of this kind and number"),
         }
     }
 }
 
-pub fn tell_fault(err: &impl Print, who: &[u8], fault: Fault, path: &[u8], line: u64) {
-    name(err, who);
-    put(err, path);
-    put(err, b": line ");
-    put_number(err, line);
-    put(err, b": ");
-    tell_text(err, fault);
-    put(err, b"\n");
+pub fn tell_fault<P: Print>(teller: &Teller<P>, path: &[u8], line: u64, fault: Fault) -> Told {
+    let words = Words(fault);
+    teller.tell(path, format_args!(": line {line}: {words}"))
 }

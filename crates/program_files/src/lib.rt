@@ -12,10 +12,10 @@ mod reason;
 mod replacing;
 mod same;
 
-pub use arguments::{PATH_ROOM, argument, argument_count};
-pub use directory_file::{Read, TEXT_ROOM, read_directory};
-pub use meaning::tell_answer;
-pub use message::{fail, put, put_number, tell, tell_lengths, tell_record};
-pub use opening::open_read;
+pub use arguments::{PATH_ROOM, argument, argument_count, first_id};
+pub use directory_file::{TEXT_ROOM, read_directory};
+pub use meaning::Report;
+pub use message::{Teller, Told};
+pub use opening::{open_read, open_told};
 pub use replacing::{NAME_ROOM, drop_new, new_name, put_in_place, start_new};
 pub use same::same_file;

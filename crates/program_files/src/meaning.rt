@@ -1,55 +1,44 @@
 // What an answer means, in words.
-use super::message::{name, put, put_number};
 use answer::Answer;
+use std::fmt;
 
-// A run, and a check, give those from 1 to 8, 12 and 13.
-fn tell_meaning(err: &impl Print, answer: Answer) {
+fn meaning(answer: Answer) -> &'static str {
     match answer {
-        Answer::Done => put(err, b"done"),
-        Answer::EndOfLog => put(err, b"end of log: no further record begins"),
-        Answer::Cut => put(err, b"the log ends inside the record"),
-        Answer::UnknownTag => put(err, b"the record has an unknown tag"),
-        Answer::OutOfPlace => put(
-            err,
-            b"the record doesn't start with a begin tag, or has a second one",
-        ),
-        Answer::WrongId => put(err, b"the record's id isn't the expected one"),
-        Answer::NoTable => put(
-            err,
-            b"the record names a table that the directory doesn't have",
-        ),
-        Answer::NoIndex => put(
-            err,
-            b"the record has an index that isn't below its table's count",
-        ),
-        Answer::WrongSum => put(err, b"the checksum of the record differs"),
-        Answer::NoRoom => put(err, b"no room"),
-        Answer::ShortOutput => put(err, b"the output is too short"),
-        Answer::NotNext => put(err, b"the id isn't the next one"),
-        Answer::UsedUp => put(err, b"record ids are used up"),
-        Answer::BadState => put(err, b"the directory breaks a rule, or the image isn't its"),
-        Answer::BadArgument => put(err, b"the position is beyond the log"),
+        Answer::Done => "done",
+        Answer::EndOfLog => "end of log: no further record begins",
+        Answer::Cut => "the log ends inside the record",
+        Answer::UnknownTag => "the record has an unknown tag",
+        Answer::OutOfPlace => "the record doesn't start with a begin tag, or has a second one",
+        Answer::WrongId => "the record's id isn't the expected one",
+        Answer::NoTable => "the record names a table that the directory doesn't have",
+        Answer::NoIndex => "the record has an index that isn't below its table's count",
+        Answer::WrongSum => "the checksum of the record differs",
+        Answer::NoRoom => "no room",
+        Answer::ShortOutput => "the output is too short",
+        Answer::NotNext => "the id isn't the next one",
+        Answer::UsedUp => "record ids are used up",
+        Answer::BadState => "the directory breaks a rule, or the image isn't its",
+        Answer::BadArgument => "the position is beyond the log",
     }
 }
 
-// The answer's number, its meaning, where the record and the action at fault begin, and what became of the records before.
-pub fn tell_answer(
-    err: &impl Print,
-    who: &[u8],
-    answer: Answer,
-    position: u64,
-    fault_at: u64,
-    before: &[u8],
-) {
-    name(err, who);
-    put_number(err, answer.number() as u64);
-    put(err, b": ");
-    tell_meaning(err, answer);
-    put(err, b" (record at ");
-    put_number(err, position);
-    put(err, b", fault at ");
-    put_number(err, fault_at);
-    put(err, b")");
-    put(err, before);
-    put(err, b"\n");
+// What a run, or a check, ended with: its answer, and where the record and the action at fault begin.
+#[derive(Clone, Copy)]
+pub struct Report {
+    pub answer: Answer,
+    pub position: u64,
+    pub fault_at: u64,
+}
+
+impl fmt::Display for Report {
+    fn fmt<W: fmt::Write>(&self, f: &mut fmt::Formatter<W>) -> fmt::Result {
+        let number = self.answer.number();
+        let meaning = meaning(self.answer);
+        let position = self.position;
+        let fault_at = self.fault_at;
+        write!(
+            f,
+            "{number}: {meaning} (record at {position}, fault at {fault_at})"
+        )
+    }
 }

@@ -1,50 +1,58 @@
-// What standard error is told, besides the faults of a directory's text. Nothing is told of a message that can't be written.
+// What standard error is told. Nothing is told of a message that can't be written.
 use super::reason::Reason;
+use std::fmt::Display;
 use std::io;
 
-pub fn put(err: &impl Print, text: &[u8]) {
-    let _ = err.write_all(text);
+// Standard error has been told of a failure, for which nothing more is to be done.
+#[derive(Clone, Copy)]
+pub struct Told;
+
+// Standard error, and the program in whose name it is told.
+#[derive(Drop)]
+pub struct Teller<'a, P> {
+    err: &'a P,
+    program: &'a str,
 }
 
-pub fn put_number(err: &impl Print, number: u64) {
-    let _ = err.print(number);
-}
+impl<'a, P: Print> Teller<'a, P> {
+    pub fn new(err: &'a P, program: &'a str) -> Teller<'a, P> {
+        Teller { err, program }
+    }
 
-pub fn name(err: &impl Print, who: &[u8]) {
-    put(err, who);
-    put(err, b": ");
-}
+    // What failed, and why.
+    pub fn fail(&self, what: &[u8], why: &io::Error) -> Told {
+        let reason = Reason::new(why);
+        let text = reason.text();
+        let _ = self.err.write_all(what);
+        let _ = println!(self.err; ": {text}");
+        Told
+    }
 
-// What failed, and why.
-pub fn fail(err: &impl Print, what: &[u8], why: &io::Error) {
-    let reason = Reason::new(why);
-    name(err, what);
-    put(err, reason.text().as_bytes());
-    put(err, b"\n");
-}
+    // A path is told as its bytes stand.
+    pub fn tell(&self, path: &[u8], text: impl Display + Drop) -> Told {
+        let program = self.program;
+        let _ = print!(self.err; "{program}: ");
+        let _ = self.err.write_all(path);
+        let _ = println!(self.err; "{text}");
+        Told
+    }
 
-pub fn tell(err: &impl Print, who: &[u8], what: &[u8], text: &[u8]) {
-    name(err, who);
-    put(err, what);
-    put(err, text);
-    put(err, b"\n");
-}
+    // Of no path.
+    pub fn say(&self, text: impl Display + Drop) -> Told {
+        self.tell(b"", text)
+    }
 
-// A number of bytes that differs from, or passes, the one due.
-pub fn tell_lengths(err: &impl Print, who: &[u8], path: &[u8], has: u64, text: &[u8], due: u64) {
-    name(err, who);
-    name(err, path);
-    put_number(err, has);
-    put(err, text);
-    put_number(err, due);
-    put(err, b"\n");
-}
+    // A word as its bytes stand, behind what is said of it.
+    pub fn quote(&self, text: &str, word: &[u8]) -> Told {
+        let program = self.program;
+        let _ = print!(self.err; "{program}: {text}");
+        let _ = self.err.write_all(word);
+        let _ = self.err.write_all(b"\n");
+        Told
+    }
 
-pub fn tell_record(err: &impl Print, who: &[u8], path: &[u8], position: u64, text: &[u8]) {
-    name(err, who);
-    put(err, path);
-    put(err, b": the record at ");
-    put_number(err, position);
-    put(err, text);
-    put(err, b"\n");
+    // A line without the program's name.
+    pub fn print(&self, text: impl Display + Drop) {
+        let _ = println!(self.err; "{text}");
+    }
 }

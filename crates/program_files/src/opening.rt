@@ -1,21 +1,27 @@
 // A file opened by the bytes of its path.
+use super::message::{Teller, Told};
 use std::fs::{File, OpenOptions};
 use std::io;
 use std::rt::Files;
 
 // std names files by text.
-pub fn text_of(path: &[u8]) -> io::Result<&str> {
-    match std::str::from_utf8(path) {
-        Ok(text) => Ok(text),
-        Err(_) => {
-            let message = "the path is no UTF-8";
-            Err(io::Error::new(io::ErrorKind::InvalidInput, message))
-        }
-    }
+fn text_of(path: &[u8]) -> io::Result<&str> {
+    std::str::from_utf8(path).map_err(|_| io::Error::new(
+        io::ErrorKind::InvalidInput,
+        "the path is no UTF-8",
+    ))
 }
 
 pub fn open_read<R: Files>(files: &R, path: &[u8]) -> io::Result<R::File> {
     File::open(files, text_of(path)?)
+}
+
+pub fn open_told<R: Files, P: Print>(
+    files: &R,
+    teller: &Teller<P>,
+    path: &[u8],
+) -> Result<R::File, Told> {
+    open_read(files, path).map_err(|why| teller.fail(path, &why))
 }
 
 // Fails where there is a file of that name.

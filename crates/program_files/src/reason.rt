@@ -6,7 +6,7 @@ use std::{fmt, io};
 
 const ROOM: usize = 256;
 
-// Text as it is written, up to the room that there is.
+// Text as it is written, up to the room that there is: a program allocates nothing for a message.
 #[derive(Drop)]
 pub struct Reason {
     bytes: [u8; ROOM],
@@ -16,19 +16,19 @@ pub struct Reason {
 
 impl Write for Reason {
     fn write_str(&mut self, text: &str) -> fmt::Result {
-        for b in text.as_bytes() {
-            if self.held == ROOM {
-                return Err(fmt::Error);
-            }
-            self.bytes[self.held] = *b;
-            self.held += 1;
+        let n = text.len().min(ROOM - self.held);
+        let end = self.held + n;
+        self.bytes[self.held..end].copy_from_slice(&text.as_bytes()[..n]);
+        self.held = end;
+        if n < text.len() {
+            Err(fmt::Error)
+        } else {
+            Ok(())
         }
-        Ok(())
     }
 }
 
 impl Reason {
-    // Behind the system's words for an error std puts its number, which is left out.
     pub fn new(why: &io::Error) -> Reason {
         let mut reason = Reason {
             bytes: [0; ROOM],
@@ -38,18 +38,10 @@ impl Reason {
         reason
     }
 
+    // Without the number that std puts behind the system's words.
     pub fn text(&self) -> &str {
-        let all = &self.bytes[..];
-        match std::str::from_utf8(&all[..self.held]) {
-            Ok(text) => without_number(text),
-            Err(_) => "",
-        }
-    }
-}
-
-fn without_number(text: &str) -> &str {
-    match text.split_once(" (os error ") {
-        Some((words, _)) => words,
-        None => text,
+        let text = std::str::from_utf8(&self.bytes[..self.held]).unwrap_or("");
+        text.split_once(" (os error ")
+            .map_or(text, |(words, _)| words)
     }
 }

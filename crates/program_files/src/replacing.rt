@@ -1,7 +1,7 @@
 // A file written under another name, brought to its device, and only then put in its place.
 ghost use Rattle.std.specs.Prelude.{◌+◌, ◌≤◌, ◌≡◌, length};
 
-use super::message::{fail, tell};
+use super::message::{Teller, Told};
 use super::opening::{create_new, remove, rename};
 use std::fs::OpenFile;
 use std::io::ErrorKind;
@@ -9,32 +9,29 @@ use std::rt::Files;
 
 pub const NAME_ROOM: usize = 4100;
 
-// Puts the path and ".new" into a name. Answers how many bytes it has.
-pub fn new_name(path: &[u8], name: &mut [u8; NAME_ROOM]) -> usize
+// The path and ".new", put into a name.
+pub fn new_name<'a>(path: &[u8], name: &'a mut [u8; NAME_ROOM]) -> &'a [u8]
     requires { length path.now ≤ 4096 }
-    ensures { result ≤ 4100 }
 {
-    let end = output::copy_into(name, 0, path);
-    output::copy_into(name, end, b".new")
+    let end = path.len() + 4;
+    name[..path.len()].copy_from_slice(path);
+    name[path.len()..end].copy_from_slice(b".new");
+    &name[..end]
 }
 
-// A file of that name that is there already may be another run's. Answers the file, if it is a new one.
-pub fn start_new<R: Files>(
+// A file of that name that is there already may be another run's.
+pub fn start_new<R: Files, P: Print>(
     files: &R,
-    err: &impl Print,
-    who: &[u8],
+    teller: &Teller<P>,
     name: &[u8],
-) -> Option<R::File> {
-    match create_new(files, name) {
-        Ok(file) => Some(file),
-        Err(why) => {
-            fail(err, name, &why);
-            if why.kind() == ErrorKind::AlreadyExists {
-                tell(err, who, name, b": remove it if no other run is at work");
-            }
-            None
+) -> Result<R::File, Told> {
+    create_new(files, name).map_err(|why| {
+        let told = teller.fail(name, &why);
+        if why.kind() == ErrorKind::AlreadyExists {
+            teller.tell(name, ": remove it if no other run is at work");
         }
-    }
+        told
+    })
 }
 
 pub fn drop_new<R: Files>(files: &R, file: R::File, name: &[u8]) {
@@ -42,24 +39,23 @@ pub fn drop_new<R: Files>(files: &R, file: R::File, name: &[u8]) {
     let _ = remove(files, name);
 }
 
-// Answers whether the file is whole on its device under its own path. If it isn't, the path is as it was.
-pub fn put_in_place<R: Files>(
+// The file is whole on its device then, under its own path. Where that fails, the path is as it was.
+pub fn put_in_place<R: Files, P: Print>(
     files: &R,
-    err: &impl Print,
+    teller: &Teller<P>,
     file: R::File,
     name: &[u8],
     path: &[u8],
-) -> bool {
+) -> Result<(), Told> {
     if let Err(why) = file.sync_all() {
-        fail(err, name, &why);
+        let told = teller.fail(name, &why);
         drop_new(files, file, name);
-        return false;
+        return Err(told);
     }
     drop(file);
-    if let Err(why) = rename(files, name, path) {
-        fail(err, path, &why);
+    rename(files, name, path).map_err(|why| {
+        let told = teller.fail(path, &why);
         let _ = remove(files, name);
-        return false;
-    }
-    true
+        told
+    })
 }

@@ -1,35 +1,30 @@
 // The list, a line each.
-ghost use Rattle.std.specs.Prelude.{◌<◌};
+ghost use Rattle.std.specs.Prelude.{◌≤◌};
 
-use program_files::fail;
-use salvaging::Lines;
+use program_files::{Teller, Told};
+use salvaging::{Line, Lines};
 use std::io;
 
-fn print_line(out: &impl Print, words: &[u64; 256], i: usize) -> io::Result<()>
-    requires { i < 64 }
-{
-    let row = 4 * i;
-    let from = words[row + 1];
-    let count = words[row + 2];
-    let id = words[row + 3];
-    if words[row] == 0 {
-        println!(out; "lost {from} {count}")
-    } else {
-        println!(out; "kept {from} {count} {id}")
+fn print_line(out: &impl Print, line: Line) -> io::Result<()> {
+    match line {
+        Line::Lost { position, length } => println!(out; "lost {position} {length}"),
+        Line::Kept {
+            position,
+            length,
+            id,
+        } => println!(out; "kept {position} {length} {id}"),
     }
 }
 
-pub fn print_lines(out: &impl Print, err: &impl Print, lines: Lines) {
-    let words = lines.words;
-    let mut i = 0;
-    while i < lines.count {
-        if 64 <= i {
-            break;
-        }
-        if let Err(why) = print_line(out, &words, i) {
-            fail(err, b"standard output", &why);
-            return;
-        }
-        i += 1;
+pub fn print_lines<P: Print>(
+    out: &impl Print,
+    teller: &Teller<P>,
+    lines: &Lines,
+) -> Result<(), Told>
+    requires { lines.now.count ≤ 64 }
+{
+    for line in lines.all() {
+        print_line(out, *line).map_err(|why| teller.fail(b"standard output", &why))?;
     }
+    Ok(())
 }

@@ -1,6 +1,8 @@
 // Values of CRC-32 from outside, held against the crate `checksum`: a line each, "ok" and the name, or the number that came out instead.
 #![tactic(auto)]
 
+ghost use Rattle.std.specs.Prelude.{◌≤◌, length};
+
 use checksum::START;
 use std::io;
 
@@ -26,12 +28,11 @@ fn fill(bytes: &mut [u8], first: u8, step: u8) {
 }
 
 // What a host does that has the bytes in two pieces.
-fn in_two(bytes: &[u8], cut: usize) -> u32 {
-    if bytes.len() < cut {
-        return 0;
-    }
-    let r = checksum::update(START, &bytes[0..cut]);
-    checksum::finish(checksum::update(r, &bytes[cut..]))
+fn in_two(bytes: &[u8], cut: usize) -> u32
+    requires { cut ≤ length bytes.now }
+{
+    let (front, rest) = bytes.split_at(cut);
+    checksum::finish(checksum::update(checksum::update(START, front), rest))
 }
 
 // Published values of CRC-32, these and those of `runs`. Python's zlib.crc32 gives the same.

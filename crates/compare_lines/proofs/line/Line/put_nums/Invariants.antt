@@ -1,0 +1,5 @@
+use Rattle.std.proofs.Common.{◌≤◌, ◌+◌, ◌*◌}
+use Rattle.compare_lines.proofs.line.Line.put_nums.Given as goal
+
+abbrev pub invariant-loop-number : goal.invariant-loop-number
+invariant-loop-number l = l.self.held ≤ l.fn.self.held + 2 + 4 * l.number-index
