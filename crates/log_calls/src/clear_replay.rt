@@ -9,7 +9,6 @@ use memory::{Holder, LogOverlays};
 
 #[derive(Clone, Copy)]
 pub struct LogsCleared {
-    pub answer: Answer,
     pub overlays: LogOverlays,
     pub queues: Queues,
 }
@@ -19,32 +18,24 @@ pub fn clear_replay_logs_kept(queues: Queues) -> LogsCleared
     requires { queues_kept queues ≡ true }
     ensures { result ≡ logs_cleared_kept queues }
 {
-    let q = queues.clear_replay_logs_kept().queues;
     LogsCleared {
-        answer: Answer::Done,
         overlays: LogOverlays::new(),
-        queues: q,
+        queues: queues.clear_replay_logs_kept().queues,
     }
 }
 
-// Empties overlays and what was to be replayed; the overlays' memory is only read.
+// Empties overlays and what was to be replayed; the overlays' memory is only read. A refusal changes nothing.
 pub fn clear_replay_logs(
     overlays: LogOverlays,
     words: &[u64],
     bytes: &[u8],
     queues: Queues,
-) -> LogsCleared
+) -> Result<LogsCleared, Answer>
     ensures { result ≡ logs_cleared overlays words.now bytes.now queues }
 {
-    let counts = overlays.counts;
-    if memory::all_kept(Holder::Shared, counts, words, bytes) {
-        if queues.kept() {
-            return clear_replay_logs_kept(queues);
-        }
-    }
-    LogsCleared {
-        answer: Answer::BadState,
-        overlays,
-        queues,
+    if memory::all_kept(Holder::Shared, overlays.counts, words, bytes) && queues.kept() {
+        Ok(clear_replay_logs_kept(queues))
+    } else {
+        Err(Answer::BadState)
     }
 }
