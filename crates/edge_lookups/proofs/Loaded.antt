@@ -1,17 +1,15 @@
 -- Lookups on states that were loaded from words: the state that the code has, and the one that the definition has. Assumes nothing.
 use mathlib.Core.Path.{◌≡◌, ap, ap₂, ◌∙◌}
-use mathlib.Core.Bool.{Bool, true}
+use mathlib.Core.Bool.{true}
 use mathlib.Core.List.{List}
 use Prim.Native.Nat.{ℕ}
-use Rattle.answer.specs.declared.answer.Answer.TheVariants.{Done}
+use Rattle.std.specs.Option.{option_or}
 use Rattle.directory.specs.declared.table.TableKind.{TableKind}
 use Rattle.memory.specs.declared.overlays.LogOverlays.{LogOverlays}
 use Rattle.memory.specs.declared.span.Holder.TheVariants as holder
 use Rattle.change.specs.Change.{change_of, change_ruled}
 use Rattle.change.specs.declared.change.LogChange.{LogChange}
-use Rattle.query.specs.Query.{Looked}
-use Rattle.edge_lookups.specs.Lookups.{nowhere, spotted_in, shared_kept_of, shared_spot, listed_spot, value_look, value_listed_look}
-use Rattle.edge_lookups.specs.declared.lookups.Spotted.{Spotted}
+use Rattle.edge_lookups.specs.Lookups.{spotted_in, spotted_first, shared_kept_of, shared_spot, listed_spot, value_look, value_listed_look}
 
 module _ {o p : LogOverlays} (f : o ≡ p) (words bytes : List ℕ) where
   pub kept_from : {k m : TableKind} → k ≡ m → shared_kept_of m p.counts words bytes ≡ true → shared_kept_of k o.counts words bytes ≡ true
@@ -25,8 +23,8 @@ module _ {o p : LogOverlays} (f : o ≡ p) (words bytes : List ℕ) where
       pub spot-from : shared_spot k o.counts words bytes key ≡ shared_spot m p.counts words bytes key
       spot-from = ap₂ (λ (x : TableKind) (y : LogOverlays). shared_spot x y.counts words bytes key) e f
 
-      pub spotted-from : spotted_in holder.Shared k o.counts words bytes key (nowhere Done) ≡ spotted_in holder.Shared m p.counts words bytes key (nowhere Done)
-      spotted-from = ap₂ (λ (x : TableKind) (y : LogOverlays). spotted_in holder.Shared x y.counts words bytes key (nowhere Done)) e f
+      pub spotted-from : spotted_in holder.Shared k o.counts words bytes key ≡ spotted_in holder.Shared m p.counts words bytes key
+      spotted-from = ap₂ (λ (x : TableKind) (y : LogOverlays). spotted_in holder.Shared x y.counts words bytes key) e f
 
 module _ {a b : LogChange} (g : a ≡ b) (items chunks : List ℕ) where
   pub ruled-from : change_ruled (change_of b items chunks) ≡ true → change_ruled (change_of a items chunks) ≡ true
@@ -42,8 +40,7 @@ module _ {a b : LogChange} (g : a ≡ b) (items chunks : List ℕ) where
           ap (λ (x : LogChange). listed_spot k x items chunks o.counts words bytes key) g
           ∙ ap₂ (λ (x : TableKind) (y : LogOverlays). listed_spot x b items chunks y.counts words bytes key) e f
 
-      pub spotted-listed-from : spotted_in holder.List k a.counts items chunks key (spotted_in holder.Shared k o.counts words bytes key (nowhere Done))
-          ≡ spotted_in holder.List m b.counts items chunks key (spotted_in holder.Shared m p.counts words bytes key (nowhere Done))
+      pub spotted-listed-from : spotted_first k a items chunks o.counts words bytes key ≡ spotted_first m b items chunks p.counts words bytes key
       spotted-listed-from =
-          ap₂ (λ (x : TableKind) (y : LogChange). spotted_in holder.List x y.counts items chunks key (spotted_in holder.Shared k o.counts words bytes key (nowhere Done))) e g
-          ∙ ap (spotted_in holder.List m b.counts items chunks key) (spotted-from f words bytes key e)
+          ap₂ (λ (x : TableKind) (y : LogChange). option_or (spotted_in holder.List x y.counts items chunks key) (spotted_in holder.Shared k o.counts words bytes key)) e g
+          ∙ ap (option_or (spotted_in holder.List m b.counts items chunks key)) (spotted-from f words bytes key e)

@@ -1,10 +1,10 @@
 -- What the memories' rules give to the lookups, and a place as one in its memory. Assumes nothing.
-use mathlib.Core.Path.{◌≡◌, sym, ap, subst, ◌∙◌}
-use mathlib.Core.Bool.{Bool, true, false, ◌&&◌}
+use mathlib.Core.Path.{◌≡◌, sym, subst}
+use mathlib.Core.Bool.{true}
 use mathlib.Core.List.{List}
-use Prim.Native.Nat.{ℕ, ◌+◌, ◌≤◌}
+use Prim.Native.Nat.{ℕ, ◌≤◌}
 use native.Mathlib.Omega.{arith}
-use borrow.Author.Tests.{eqb-true, eq-eqb, ne_eqb}
+use borrow.Author.Tests.{eqb-true}
 use lib.Dec.{eqb}
 use lib.ListN.{length, take, drop, length-take, length-drop}
 use Rattle.directory.specs.declared.table.TableKind.{TableKind}
@@ -16,12 +16,11 @@ use Rattle.memory.specs.declared.counts.Counts.{Counts}
 use Rattle.memory.specs.declared.span.Holder.{Holder}
 use Rattle.memory.specs.declared.span.Holder.TheVariants as holder
 use Rattle.memory.proofs.OneKind.{shared_room}
-use Rattle.memory.proofs.Spans.{words-all, bytes-all, of_parts, AllKept, all-shows}
-use Rattle.edge_lookups.specs.Lookups.{memory_number, spot_by, shared_kept_of, SpotLeft}
-use Rattle.query.specs.declared.find.Place.{Place}
-use Rattle.edge_lookups.specs.declared.lookups.Spotted.{Spotted}
-use Rattle.answer.specs.declared.answer.Answer.TheVariants.{Done}
-use Rattle.memory.specs.declared.span.Span.{Span}
+use Rattle.memory.proofs.Spans.{words-all, bytes-all, of_parts, all-shows}
+use Rattle.edge_lookups.specs.Lookups.{shared_kept_of, SpotLeft}
+use Rattle.std.specs.Prelude.{Option, Result}
+use Rattle.answer.specs.declared.answer.Answer.{Answer}
+use Rattle.edge_lookups.specs.declared.lookups.Spot.{Spot}
 
 pub part-le : (n b : ℕ) (l : List ℕ) → length (take n (drop b l)) ≤ length l
 part-le n b l = simp (length-take, length-drop) (omega arith)
@@ -62,32 +61,6 @@ all-ready h kind c words bytes ok =
       rules = subst (λ (o : Overlay). overlay_kept kind (span_of h kind).room o ≡ true) (of_parts h kind c words bytes) ((all-shows h (parts_of h c words bytes) ok).each kind);
     }
 
--- the test in its parts
-module _ (kind : TableKind) (c : Counts) (words bytes : List ℕ) where
-  pub shared_words : (length words ≡ 3840 → ⊥) → false ≡ shared_kept_of kind c words bytes
-  unfolding shared_kept_of
-  shared_words h = rw (ne_eqb _ _ h)
-
-  pub shared_bytes : length words ≡ 3840 → (length bytes ≡ 524288 → ⊥) → false ≡ shared_kept_of kind c words bytes
-  unfolding shared_kept_of
-  shared_bytes w h = rw (eq-eqb _ _ w, ne_eqb _ _ h)
-
-  pub shared_rest : length words ≡ 3840 → length bytes ≡ 524288 → (r : Bool) → r ≡ overlay_kept kind (span_of holder.Shared kind).room (part_of holder.Shared kind c words bytes) → r ≡ shared_kept_of kind c words bytes
-  unfolding shared_kept_of
-  shared_rest w b r e = rw (eq-eqb _ _ w, eq-eqb _ _ b) (e ∙ ap (λ (n : ℕ). overlay_kept kind n (part_of holder.Shared kind c words bytes)) (shared_room kind))
-
--- a place that the code has, as a place in its memory
-module _ (h : Holder) (kind : TableKind) (p q : Place) (e : p ≡ q) (otherwise : Spotted) where
-  pub spot-none : p.found ≡ false → otherwise ≡ spot_by h kind q otherwise
-  spot-none f =
-      let g : q.found ≡ false = ap (λ (x : Place). x.found) (sym e) ∙ f in
-      rw g
-
-  pub spot-some : p.found ≡ true → (m : ℕ) → m ≡ memory_number h → (s : Span) → s ≡ span_of h kind → record { answer = Done; memory = m; place = s.bytes_at + p.at; length = p.length } ≡ spot_by h kind q otherwise
-  spot-some f m a s b =
-      let g : q.found ≡ true = ap (λ (x : Place). x.found) (sym e) ∙ f in
-      rw (g, a, b, e)
-
 -- as words: of what is handed back, and of what the definition says
-pub told : {s t : Spotted} {answer memory place long : ℕ} → s ≡ t → SpotLeft s answer memory place long → SpotLeft t answer memory place long
-told {answer = answer} {memory = memory} {place = place} {long = long} e p = subst (λ (x : Spotted). SpotLeft x answer memory place long) e p
+pub told : {s t : Result (Option Spot) Answer} {answer memory place long : ℕ} → s ≡ t → SpotLeft s answer memory place long → SpotLeft t answer memory place long
+told {answer = answer} {memory = memory} {place = place} {long = long} e p = subst (λ (x : Result (Option Spot) Answer). SpotLeft x answer memory place long) e p

@@ -1,5 +1,5 @@
 // Where a key's bytes lie in one kind's part of a memory.
-ghost use Rattle.std.specs.Prelude.{◌≡◌, true, ◌≤◌, length};
+ghost use Rattle.std.specs.Prelude.{◌≡◌, true, ◌≤◌, length, IfSome};
 ghost use Rattle.keys.specs.Keys.{rank};
 ghost use Rattle.overlay.specs.Rules.{overlay_kept};
 ghost use Rattle.memory.specs.Parts.{span_of, words_all, bytes_all, part_of};
@@ -7,7 +7,7 @@ ghost use Rattle.query.specs.Places.{stored_place};
 
 use directory::TableKind;
 use memory::{Counts, Holder};
-use query::{Place, place_in};
+use query::place_in;
 
 pub(crate) fn place_of(
     holder: Holder,
@@ -17,22 +17,18 @@ pub(crate) fn place_of(
     bytes: &[u8],
     table: u16,
     index: u64,
-) -> Place
+) -> Option<(usize, usize)>
     requires { (length words.now ≡ words_all holder) × (length bytes.now ≡ bytes_all holder) × (overlay_kept kind (span_of holder kind).room (part_of holder kind counts words.now bytes.now) ≡ true) }
-    ensures { (result ≡ stored_place kind (part_of holder kind counts words.now bytes.now) (rank table index)) × (result.at ≤ length bytes.now) }
+    ensures place { result ≡ stored_place kind (part_of holder kind counts words.now bytes.now) (rank table index) }
+    ensures within { IfSome result (λ p. p.0 ≤ length bytes.now) }
 {
-    let s = memory::span_of(holder, kind);
-    let a = s.words_at;
-    let e = s.words_end;
-    let b = s.bytes_at;
-    let f = s.bytes_end;
     place_in(
         kind,
-        s.room,
-        &words[a..e],
-        &bytes[b..f],
+        holder.room(kind),
+        holder.words(kind, words),
+        holder.bytes(kind, bytes),
         counts.of(kind),
-        table as u64,
+        u64::from(table),
         index,
     )
 }

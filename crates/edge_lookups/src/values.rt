@@ -1,34 +1,37 @@
 // A value copied out of the memory that it lies in.
-ghost use Rattle.std.specs.Prelude.{◌≡◌, true, false};
-ghost use Rattle.std.proofs.Math.Option.{none};
-ghost use Rattle.answer.specs.Answer.{number_of};
+ghost use Rattle.std.specs.Prelude.{◌≡◌, true};
 ghost use Rattle.directory.specs.declared.table.TableKind.TheVariants.{Value};
-ghost use Rattle.numbers.specs.Numbers.{one_if};
 ghost use Rattle.keys.specs.Keys.{rank};
+ghost use Rattle.memory.specs.Parts.{words_in, bytes_in};
 ghost use Rattle.change.specs.Change.{change_of, change_ruled};
-ghost use Rattle.query.specs.Query.{looked_if, copied_by, CopiesOut};
+ghost use Rattle.query.specs.Query.{is_there, bytes_of, copied_over};
 ghost use Rattle.host_words.specs.Change.{list_from};
 ghost use Rattle.host_words.specs.Overlays.{overlays_from};
-ghost use Rattle.edge_lookups.specs.Lookups.{shared_kept_of, value_look, value_listed_look, CopyLeft};
+ghost use Rattle.edge_lookups.specs.Lookups.{shared_kept_of, value_look, value_listed_look, Copied, FoundLeft, CopyLeft};
 
 use super::lookups::shared_kept;
 use answer::Answer;
 use change::LogChange;
 use directory::{TableKind, ValueTableId};
-use host_words::{flag, list_of, number, overlays_of};
+use host_words::{list_of, overlays_of};
 use memory::{Holder, LogOverlays};
-use query::Copied;
+use query::{Listed, Lookup, Shared};
 
-fn not_copied() -> Copied
-    ensures { result ≡ copied_by (looked_if false none) }
+// The values' parts of the shared memories, to be looked in.
+fn shared_values<'a>(overlays: LogOverlays, words: &'a [u64], bytes: &'a [u8]) -> Shared<'a>
+    requires { shared_kept_of Value overlays.counts words.now bytes.now ≡ true }
+    ensures overlays { result.overlays ≡ overlays }
+    ensures words { result.words.now ≡ words_in Holder.Shared Value words.now }
+    ensures bytes { result.bytes.now ≡ bytes_in Holder.Shared Value bytes.now }
 {
-    Copied {
-        answer: Answer::BadState,
-        found: false,
+    Shared {
+        overlays,
+        words: Holder::Shared.words(TableKind::Value, words),
+        bytes: Holder::Shared.bytes(TableKind::Value, bytes),
     }
 }
 
-// Behind 13: the values' parts are lent.
+// Behind 13.
 fn copied_kept<'a>(
     overlays: LogOverlays,
     words: &'a [u64],
@@ -36,23 +39,12 @@ fn copied_kept<'a>(
     table: u16,
     index: u64,
     dest: &mut [u8],
-) -> Copied
+) -> bool
     requires { shared_kept_of Value overlays.counts words.now bytes.now ≡ true }
-    ensures { CopiesOut (value_look overlays words.now bytes.now (rank table index)) result dest.old dest.new }
+    ensures told { result ≡ is_there (value_look overlays words.now bytes.now (rank table index)).entry }
+    ensures copied { dest.new ≡ copied_over (bytes_of (value_look overlays words.now bytes.now (rank table index)).entry) dest.old }
 {
-    let s = memory::span_of(Holder::Shared, TableKind::Value);
-    let a = s.words_at;
-    let e = s.words_end;
-    let b = s.bytes_at;
-    let f = s.bytes_end;
-    query::shared::value_kept(
-        overlays,
-        &words[a..e],
-        &bytes[b..f],
-        ValueTableId(table),
-        index,
-        dest,
-    )
+    shared_values(overlays, words, bytes).value_kept(ValueTableId(table), index, dest)
 }
 
 fn copied<'a>(
@@ -62,14 +54,14 @@ fn copied<'a>(
     table: u16,
     index: u64,
     dest: &mut [u8],
-) -> Copied
-    ensures { CopiesOut (value_look overlays words.now bytes.now (rank table index)) result dest.old dest.new }
+) -> Result<bool, Answer>
+    ensures told { Copied (value_look overlays words.now bytes.now (rank table index)) result }
+    ensures copied { dest.new ≡ copied_over (bytes_of (value_look overlays words.now bytes.now (rank table index)).entry) dest.old }
 {
-    let counts = overlays.counts;
-    if !shared_kept(TableKind::Value, counts, words, bytes) {
-        return not_copied();
+    if !shared_kept(TableKind::Value, overlays.counts, words, bytes) {
+        return Err(Answer::BadState);
     }
-    copied_kept(overlays, words, bytes, table, index, dest)
+    Ok(copied_kept(overlays, words, bytes, table, index, dest))
 }
 
 fn copied_listed_kept<'a>(
@@ -82,26 +74,18 @@ fn copied_listed_kept<'a>(
     table: u16,
     index: u64,
     dest: &mut [u8],
-) -> Copied
+) -> bool
     requires { (change_ruled (change_of list items.now chunks.now) ≡ true) × (shared_kept_of Value overlays.counts words.now bytes.now ≡ true) }
-    ensures { CopiesOut (value_listed_look list items.now chunks.now overlays words.now bytes.now (rank table index)) result dest.old dest.new }
+    ensures told { result ≡ is_there (value_listed_look list items.now chunks.now overlays words.now bytes.now (rank table index)).entry }
+    ensures copied { dest.new ≡ copied_over (bytes_of (value_listed_look list items.now chunks.now overlays words.now bytes.now (rank table index)).entry) dest.old }
 {
-    let s = memory::span_of(Holder::Shared, TableKind::Value);
-    let a = s.words_at;
-    let e = s.words_end;
-    let b = s.bytes_at;
-    let f = s.bytes_end;
-    query::listed::value_kept(
+    let listed = Listed {
         list,
-        items,
-        chunks,
-        overlays,
-        &words[a..e],
-        &bytes[b..f],
-        ValueTableId(table),
-        index,
-        dest,
-    )
+        words: items,
+        bytes: chunks,
+        shared: shared_values(overlays, words, bytes),
+    };
+    listed.value_kept(ValueTableId(table), index, dest)
 }
 
 fn copied_listed<'a>(
@@ -114,28 +98,35 @@ fn copied_listed<'a>(
     table: u16,
     index: u64,
     dest: &mut [u8],
-) -> Copied
-    ensures { CopiesOut (value_listed_look list items.now chunks.now overlays words.now bytes.now (rank table index)) result dest.old dest.new }
+) -> Result<bool, Answer>
+    ensures told { Copied (value_listed_look list items.now chunks.now overlays words.now bytes.now (rank table index)) result }
+    ensures copied { dest.new ≡ copied_over (bytes_of (value_listed_look list items.now chunks.now overlays words.now bytes.now (rank table index)).entry) dest.old }
 {
     if !list.ruled(items, chunks) {
-        return not_copied();
+        return Err(Answer::BadState);
     }
-    let counts = overlays.counts;
-    if !shared_kept(TableKind::Value, counts, words, bytes) {
-        return not_copied();
+    if !shared_kept(TableKind::Value, overlays.counts, words, bytes) {
+        return Err(Answer::BadState);
     }
-    copied_listed_kept(
+    Ok(copied_listed_kept(
         list, items, chunks, overlays, words, bytes, table, index, dest,
-    )
+    ))
 }
 
-// What a copy came to, stored where the host lent room for it: one for all of them.
-fn keep_copied(done: Copied, found: &mut u64) -> u64
-    ensures { (result ≡ number_of done.answer) × (found.new ≡ one_if done.found) }
+// Whether there was a value, 0 where the copy was refused.
+fn keep_copied(done: Result<bool, Answer>, found: &mut u64) -> u64
+    ensures { FoundLeft done result found.new }
 {
-    *found = flag(done.found);
-    let answer = done.answer;
-    number(answer)
+    match done {
+        Ok(there) => {
+            *found = u64::from(there);
+            0
+        }
+        Err(answer) => {
+            *found = 0;
+            u64::from(answer.number())
+        }
+    }
 }
 
 #[unsafe(no_mangle)]
@@ -167,8 +158,8 @@ pub extern "C" fn hongsathep_value_kept<'a>(
     requires { shared_kept_of Value (overlays_from overlays.now).counts words.now bytes.now ≡ true }
     ensures { CopyLeft (value_look (overlays_from overlays.now) words.now bytes.now (rank table index)) dest.old result dest.new found.new }
 {
-    let done = copied_kept(overlays_of(overlays), words, bytes, table, index, dest);
-    keep_copied(done, found)
+    let there = copied_kept(overlays_of(overlays), words, bytes, table, index, dest);
+    keep_copied(Ok(there), found)
 }
 
 #[unsafe(no_mangle)]
@@ -210,6 +201,6 @@ pub extern "C" fn hongsathep_value_listed_kept<'a>(
 {
     let l = list_of(list);
     let o = overlays_of(overlays);
-    let done = copied_listed_kept(l, items, chunks, o, words, bytes, table, index, dest);
-    keep_copied(done, found)
+    let there = copied_listed_kept(l, items, chunks, o, words, bytes, table, index, dest);
+    keep_copied(Ok(there), found)
 }

@@ -1,7 +1,7 @@
--- `hongsathep_lookup_listed` meets its contract. Assumes nothing.
+-- The states that were loaded are those of the words. Assumes nothing.
 use mathlib.Core.Path.{◌∙◌}
-use Rattle.edge_lookups.proofs.Places.{told}
 use Rattle.edge_lookups.proofs.Loaded.{spot-listed-from}
+use Rattle.edge_lookups.proofs.Places.{told}
 use Rattle.edge_lookups.proofs.lookups.hongsathep_lookup_listed.Goals as goal
 
 pub returns : goal.returns

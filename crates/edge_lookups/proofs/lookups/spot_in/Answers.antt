@@ -1,20 +1,17 @@
--- `spot_in` meets its contract. Assumes nothing.
-use mathlib.Core.Path.{ap}
-use mathlib.Core.Bool.{true, false}
-use native.Mathlib.Omega.{arith}
-use borrow.Author.Tests.{not-true, not-false}
+-- A place in the kind's part, as a place in its memory. Assumes nothing.
+use mathlib.Core.Path.{sym, ap, ◌∙◌}
+use Prim.Native.Nat.{◌+◌}
+use Rattle.std.specs.Prelude.{Some}
 use Rattle.memory.specs.declared.span.Span.{Span}
-use Rattle.edge_lookups.specs.Lookups.{spotted_in}
-use Rattle.edge_lookups.proofs.Places.{span_low, bytes_low, spot-none, spot-some}
+use Rattle.edge_lookups.specs.Lookups.{spot_by, spotted_in}
 use Rattle.edge_lookups.proofs.lookups.spot_in.Goals as goal
 
-pub returns-then-not-p : goal.returns-then-not-p
+pub returns-in_err-at : goal.returns-in_err-at
 unfolding spotted_in
-returns-then-not-p c = spot-none c.args.holder c.args.kind c.place_of-p.result _ c.place_of-p.ensures.0 c.args.otherwise (not-true _ c.if-not-p.true)
-
-pub overflow_add-result : goal.overflow_add-result
-overflow_add-result c = omega (arith, c.place_of-p.ensures.1, c.requires.1, bytes_low c.args.holder, span_low c.args.holder c.args.kind, ap (λ (s : Span). s.bytes_at) c.span_of-s.ensures)
+returns-in_err-at c = c.from_residual.ensures ∙ ap (spot_by c.args.holder c.args.kind) (sym c.in_err-at.was ∙ c.place_of.ensures.place)
 
 pub returns : goal.returns
 unfolding spotted_in
-returns c = spot-some c.args.holder c.args.kind c.place_of-p.result _ c.place_of-p.ensures.0 c.args.otherwise (not-false _ c.if-not-p.false) c.memory_number.result c.memory_number.ensures c.span_of-s.result c.span_of-s.ensures
+returns c =
+    ap (λ (s : Span). Some (record { memory = c.args.holder; place = s.bytes_at + c.in_ok-at.at; length = c.in_ok-at.length })) c.span_of.ensures
+    ∙ ap (spot_by c.args.holder c.args.kind) (sym c.in_ok-at.was ∙ c.place_of.ensures.place)

@@ -1,10 +1,7 @@
--- `hongsathep_value_listed` meets its contract. Assumes nothing.
-use Rattle.edge_lookups.proofs.Copies.{told}
+-- As words. Assumes nothing.
 use Rattle.edge_lookups.proofs.Loaded.{value-listed-from}
+use Rattle.edge_lookups.proofs.Copies.{told}
 use Rattle.edge_lookups.proofs.values.hongsathep_value_listed.Goals as goal
 
-pub shape_of-dest : goal.shape_of-dest
-shape_of-dest c = c.dest-1.given
-
 pub returns : goal.returns
-returns c = told _ (value-listed-from c.list_of-l.ensures _ _ c.overlays_of-o.ensures _ _ _) _ c.args.dest.now _ c.copied_listed-done.ensures c.keep_copied.ensures
+returns c = told _ _ (value-listed-from c.list_of-l.ensures _ _ c.overlays_of-o.ensures _ _ _) _ c.args.dest.now _ c.copied_listed-done.ensures.told c.copied_listed-done.ensures.copied c.keep_copied.ensures
