@@ -1,15 +1,12 @@
 -- `gathered` is the directory by value that holds just these tables. Assumes nothing.
-use mathlib.Core.Path.{◌≡◌, refl, sym, ap, ◌∙◌}
-use mathlib.Core.Bool.{Bool, true, false, ◌&&◌}
-use mathlib.Core.List.{List, [], ◌∷◌, ◌++◌}
-use Prim.Native.Nat.{ℕ, ◌+◌, ◌≤◌, ◌<◌}
+use mathlib.Core.Path.{◌≡◌}
+use mathlib.Core.Bool.{false, ◌&&◌}
+use mathlib.Core.List.{List}
+use Prim.Native.Nat.{ℕ, ◌≤◌, ◌<◌}
 use native.Mathlib.Omega.{arith}
-use native.Mathlib.Numerals.{add-one}
-use lib.Dec.{leb, ltb}
-use lib.ListN.{length, take, drop, get_or, length-append, take-append-drop}
-use lib.Seq.{length-take-le, take_all, take-suc, take-append_seam, take-length}
-use borrow.Author.Tests.{ltb-true, ltb-false, le-ltb, le-leb, lt-leb}
-use Rattle.std.specs.Prelude.{if◌then◌else◌}
+use lib.ListN.{length, take, drop, take-append-drop}
+use lib.Seq.{length-take-le, take_all, take-append_seam}
+use borrow.Author.Tests.{le-leb, lt-leb}
 use Rattle.directory.specs.Directory.{no_tables, tables_of, find_from, find_table, each_kept, apart, directory_kept, sizes_of, start_of, image_length}
 use Rattle.directory.specs.declared.table.TableKind.{TableKind}
 use Rattle.directory.specs.declared.table.TableDescription.{TableDescription}

@@ -3,6 +3,7 @@ use mathlib.Core.Path.{◌≡◌}
 use mathlib.Core.Bool.{false}
 use mathlib.Core.List.{List}
 use Prim.Native.Nat.{ℕ, ◌<◌}
+use Rattle.std.specs.Prelude.{Err}
 use lib.ListN.{length}
 use Rattle.answer.specs.declared.answer.Answer.TheVariants.{BadState}
 use Rattle.directory.specs.declared.table.TableKind.{TableKind}
@@ -60,7 +61,7 @@ module _ (ts : List TableDescription) (many : 16 < length ts) (l : Change) where
   unfolding count_table_dropped
   many-count-dropped number = rw not_kept
 
-  pub many-sized : sized (gathered ts) l ≡ record { answer = BadState; length = 0 }
+  pub many-sized : sized (gathered ts) l ≡ Err BadState
   unfolding sized
   many-sized = rw not_kept
 

@@ -8,7 +8,8 @@ ghost use Rattle.change.specs.Size.{sized};
 ghost use Rattle.lent.specs.Lent.{gathered};
 
 use super::slice::gather;
-use change::{Changed, LogChange, Sized};
+use answer::Answer;
+use change::{Changed, LogChange};
 use directory::{IndexTableId, RefCountTableId, TableDescription, ValueTableId};
 
 pub fn insert_index(
@@ -89,7 +90,7 @@ pub fn record_size(
     tables: &[TableDescription],
     words: &[u64],
     bytes: &[u8],
-) -> Sized
+) -> Result<usize, Answer>
     ensures { result ≡ sized (gathered tables.now) (change_of list words.now bytes.now) }
 {
     list.record_size(gather(tables), words, bytes)

@@ -8,7 +8,8 @@ ghost use Rattle.ending.specs.EndRecord.{handed_of, end_state_of, end_record};
 ghost use Rattle.lent.specs.Lent.{gathered};
 
 use super::slice::gather;
-use change::{LogChange, Sized};
+use answer::{Answer, Refusal};
+use change::LogChange;
 use clearing::EndRead;
 use directory::TableDescription;
 use ending::Ended;
@@ -21,7 +22,7 @@ pub fn flush_to_file(
     words: &[u64],
     bytes: &[u8],
     out: &mut [u8],
-) -> Sized
+) -> Result<usize, Answer>
     ensures { flushed_of result out.new
         ≡ flush_to_file (gathered tables.now) (change_of list words.now bytes.now) out.old }
 {
@@ -36,8 +37,8 @@ pub fn end_read(
     words: &mut [u64],
     bytes: &mut [u8],
     next: u64,
-) -> EndRead
-    ensures { end_read_of_of result words.new bytes.new
+) -> Result<EndRead, Refusal>
+    ensures { end_read_of_of position overlays next result words.new bytes.new
         ≡ end_read_of (gathered tables.now) log.now position (overlays_of overlays words.old bytes.old) next }
 {
     clearing::end_read(gather(tables), log, position, overlays, words, bytes, next)
@@ -54,11 +55,20 @@ pub fn end_record<'a>(
     queues: Queues,
     next: u64,
     out: &mut [u8],
-) -> Ended
-    ensures { end_state_of result words.new bytes.new out.new
+) -> Result<Ended, Answer>
+    ensures { end_state_of overlays queues result words.new bytes.new out.new
         ≡ end_record (gathered tables.now) (handed_of list list_words.now list_bytes.now overlays words.old bytes.old queues next out.old) }
 {
     ending::end_record(
-        gather(tables), list, list_words, list_bytes, overlays, words, bytes, queues, next, out,
+        gather(tables),
+        list,
+        list_words,
+        list_bytes,
+        overlays,
+        words,
+        bytes,
+        queues,
+        next,
+        out,
     )
 }
