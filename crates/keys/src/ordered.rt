@@ -23,7 +23,8 @@ pub fn ascending(rows: &[u64], order: &[u64]) -> bool
         return false;
     }
     for j in 1..order.len() {
-        if key_in(rows, order[j] as usize) <= key_in(rows, order[j - 1] as usize) {
+        let before = key_in(rows, order[j - 1] as usize);
+        if key_in(rows, order[j] as usize).rank() <= before.rank() {
             return false;
         }
     }
@@ -47,7 +48,7 @@ impl<'a> Keys<'a> {
         ensures value { result ≡ one_if (ltb j (spot (rank_of key) (keys_in self.entry))) }
         ensures bound { result ≤ 1 }
     {
-        usize::from(self.key(j) < key)
+        usize::from(self.key(j).rank() < key.rank())
     }
 
     // Where the key stands or belongs. Each turn asks three keys at once and leaves a quarter.
@@ -87,7 +88,7 @@ impl<'a> Keys<'a> {
         let mut i = 0;
         for j in 0..listed.order.len() {
             let key = listed.key(j);
-            while i < self.order.len() && self.key(i) < key {
+            while i < self.order.len() && self.key(i).rank() < key.rank() {
                 i += 1;
             }
             if !self.stands(key, i) {

@@ -4,11 +4,9 @@ use mathlib.Core.Bool.{Bool, true, false, ◌&&◌, and-false}
 use mathlib.Core.List.{List, [], ◌∷◌, map}
 use Prim.Native.Nat.{ℕ, ◌+◌, ◌*◌, ◌<◌, ◌≤◌}
 use native.Mathlib.Omega.{arith}
-use native.Mathlib.Numerals.{add-one}
-use lib.Seq.{drop-cons}
 use lib.Dec.{ltb, leb}
 use lib.ListN.{get_or, take, drop, length}
-use borrow.Author.Tests.{lt-ltb, le-ltb, ltb-true, ltb-false, le-leb, lt-leb}
+use borrow.Author.Tests.{ltb-true, ltb-false, le-leb, lt-leb}
 use Rattle.directory.specs.declared.table.TableKind.{TableKind}
 use Rattle.directory.specs.declared.table.TableKind.TheVariants.{Index, Value, RefCount}
 use Rattle.numbers.specs.Numbers.{above, ascends}
@@ -75,26 +73,3 @@ module _ (kind : TableKind) (rows : List ℕ) (words : (i : ℕ) → get_or rows
         && followed most rows n (key_at rows (get_or os 0 0)) (drop 1 (take n os)))
     unfolding keys_ruled
     ruled-by g k h most e = rw (le-leb n room g, e) (pass os n k h)
-
--- a turn
-module _ (most : ℕ) (rows qs : List ℕ) (n k j : ℕ) (h : j < length qs) where
-  abbrev q : ℕ
-  q = get_or qs j 0
-
-  cons : followed most rows n k (drop j qs)
-      ≡ ltb q n && (is_within most (get_or rows (4 * q) 0) (mark_at rows q) && (ltb k (key_at rows q) && followed most rows n (key_at rows q) (drop (j + 1) qs)))
-  cons = let e : drop j qs ≡ q ∷ drop (j + 1) qs = rw add-one (drop-cons qs j 0 h) in ap (followed most rows n k) e
-
-  pub no_place : n ≤ q → followed most rows n k (drop j qs) ≡ false
-  no_place g = cons ∙ rw (le-ltb q n g)
-
-  module _ (g : q < n) where
-    pub no_row : is_within most (get_or rows (4 * q) 0) (mark_at rows q) ≡ false → followed most rows n k (drop j qs) ≡ false
-    no_row e = cons ∙ rw (lt-ltb q n g, e)
-
-    module _ (e : is_within most (get_or rows (4 * q) 0) (mark_at rows q) ≡ true) where
-      pub no-rise : ltb k (key_at rows q) ≡ false → followed most rows n k (drop j qs) ≡ false
-      no-rise i = cons ∙ rw (lt-ltb q n g, e, i)
-
-      pub rises-on : ltb k (key_at rows q) ≡ true → followed most rows n k (drop j qs) ≡ followed most rows n (key_at rows q) (drop (j + 1) qs)
-      rises-on i = cons ∙ rw (lt-ltb q n g, e, i)

@@ -13,11 +13,6 @@ use Rattle.numbers.proofs.Laws.{both, left-of, right_of}
 use Rattle.keys.specs.Keys.{every, ruled}
 use Rattle.overlay.specs.Rules.{stored_length, Overlay, slot_size, mark_ruled, row_ruled, keys_ruled, overlay_kept}
 
-pub slot-most : (kind : TableKind) → slot_size kind ≤ 1024
-slot-most Index = omega arith
-slot-most Value = omega arith
-slot-most RefCount = omega arith
-
 -- what a ruled mark stands for fits a slot
 pub unit-fits : (kind : TableKind) (mark : ℕ) → mark_ruled kind mark ≡ true → stored_length kind mark ≤ slot_size kind
 unit-fits Index mark e = omega arith

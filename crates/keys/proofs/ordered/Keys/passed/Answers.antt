@@ -1,5 +1,5 @@
 -- `Keys::passed` meets its contract: the key at j is below exactly if j is before the place. Assumes nothing.
-use Rattle.std.proofs.Common.{rules, ◌≡◌, ◌∙◌, ap, ltb, ℕ}
+use Rattle.std.proofs.Common.{◌≡◌, ◌∙◌, ap, ltb, ℕ}
 use Rattle.numbers.specs.Numbers.{one_if}
 use Rattle.numbers.proofs.Methods.{one-from}
 use Rattle.keys.specs.Keys.{rank_of}
@@ -9,5 +9,7 @@ use Rattle.keys.proofs.ordered.Keys.passed.Goals as goal
 pub returns-clause-value : goal.returns-clause-value
 returns-clause-value c =
     let k : ℕ = rank_of c.args.key in
-    let b : c.lt.result ≡ ltb (rank_of c.key.result) k = search rules in
-    c.from.ensures ∙ one-from c.lt.result ∙ ap one_if (b ∙ ap (λ (a : ℕ). ltb a k) c.key.ensures ∙ below-place c.args.self c.args.j c.requires k)
+    let low : c.rank.result ≡ _ = c.rank.ensures ∙ c.key.ensures in
+    c.from.ensures
+    ∙ one-from (ltb c.rank.result c.rank-2.result)
+    ∙ ap one_if (ap (λ (a : ℕ). ltb a c.rank-2.result) low ∙ ap (ltb _) c.rank-2.ensures ∙ below-place c.args.self c.args.j c.requires k)
