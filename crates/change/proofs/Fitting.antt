@@ -20,8 +20,9 @@ use Rattle.std.specs.List.{list_all}
 use Rattle.numbers.proofs.Laws.{left-of, right_of}
 use Rattle.keys.specs.Keys.{mark_at, every}
 use Rattle.overlay.specs.Rules.{Overlay, lists_of, mark_ruled, row_ruled, keys_ruled}
-use Rattle.keys.proofs.Places.{in_use}
-use Rattle.overlay.proofs.Ruled.{keys-each, keys-room, keys-order}
+use Rattle.keys.specs.declared.ordered.Keys.{Keys}
+use Rattle.keys.proofs.Lent.{row-fits}
+use Rattle.overlay.proofs.Ruled.{keys-each}
 use Rattle.change.specs.Change.{mark_fits, key_fits, entry_fits, entries_fit}
 
 -- a search finds a table exactly where one stands
@@ -56,7 +57,7 @@ unfolding entries_fit entry_fits
 fit-keys d kind rows order bytes n = refl
 
 -- what holds of every place in use holds of the one at j
-every-at : (f : ℕ → Bool) (l : List ℕ) (j : ℕ) → j < length l → every f l ≡ true → f (get_or l j 0) ≡ true
+pub every-at : (f : ℕ → Bool) (l : List ℕ) (j : ℕ) → j < length l → every f l ≡ true → f (get_or l j 0) ≡ true
 every-at f [] j h e = absurd (omega arith)
 every-at f (p ∷ l) zero h e = left-of (f p) (every f l) e
 every-at f (p ∷ l) (suc j) h e = every-at f l j (omega arith) (right_of (f p) (every f l) e)
@@ -84,27 +85,9 @@ module _ (kind : TableKind) (room : ℕ) (rows order : List ℕ) (n j : ℕ) (w 
   pub mark-at : mark_ruled kind (mark_at rows (get_or order j 0)) ≡ true
   mark-at = row-mark kind rows (get_or order j 0) row_at
 
--- a turn of a loop over the places in use: the key at j of the order
-pub record Turn (kind : TableKind) (rows order : List ℕ) (n j : ℕ) : Type 0 where
-  pub low : j < n
-  pub row : 4 * get_or (take n order) j 0 + 4 ≤ length rows
-  pub small : get_or rows (4 * get_or (take n order) j 0) 0 < 65536
-  pub mark : mark_ruled kind (mark_at rows (get_or (take n order) j 0)) ≡ true
-
-pub places-few : (kind : TableKind) (room : ℕ) (rows order : List ℕ) (n : ℕ) → room ≤ length order → keys_ruled kind room rows order n ≡ true → n ≤ length order
-places-few kind room rows order n long ok = omega (arith, keys-room kind room rows order n ok)
-
-pub turn : (kind : TableKind) (room : ℕ) (rows order : List ℕ) (n : ℕ) → 4 * room ≤ length rows → room ≤ length order → keys_ruled kind room rows order n ≡ true
-    → (j : ℕ) → j < length (take n order) → Turn kind rows order n j
-turn kind room rows order n rows_long order-long ok j h =
-    let few : n ≤ length order = places-few kind room rows order n order-long ok in
-    let low : j < n = omega (arith, length-take-le n order few) in
-    record {
-      low = low;
-      row = rw (get_or-take n order j 0 low) (omega (arith, in_use rows order n j (keys-order kind room rows order n ok) few low, keys-room kind room rows order n ok));
-      small = rw (get_or-take n order j 0 low) (table_at kind room rows order n j few low ok);
-      mark = rw (get_or-take n order j 0 low) (mark-at kind room rows order n j few low ok);
-    }
+-- the row of the place at j is there
+pub row_there : (k : Keys) (j : ℕ) → j < length k.order.now → 4 * get_or k.order.now j 0 + 4 ≤ length k.rows.now
+row_there k j h = row-fits k j h
 
 -- the places from j on, one by one
 pub every-next : (f : ℕ → Bool) (ps : List ℕ) (j : ℕ) → j < length ps → every f (drop j ps) ≡ f (get_or ps j 0) && every f (drop (j + 1) ps)

@@ -73,9 +73,13 @@ unfoldable pub entry_fits : Directory → TableKind → Overlay → ℕ → Bool
 entry_fits d kind o p =
     key_fits kind (find_table d kind (get_or o.rows (4 * p) 0)) (get_or o.rows (4 * p + 1) 0) (mark_at o.rows p)
 
+-- the places in use, as the order of their keys has them
+abbrev pub places_of : Overlay → List ℕ
+places_of o = take o.count o.order
+
 -- all keys of a kind do
 unfoldable pub entries_fit : Directory → TableKind → Overlay → Bool
-entries_fit d kind o = every (entry_fits d kind o) (take o.count o.order)
+entries_fit d kind o = every (entry_fits d kind o) (places_of o)
 
 -- the keys of all three kinds
 abbrev pub keys_fit : Directory → Change → Bool

@@ -1,12 +1,15 @@
 // The change list by value: its id, how many keys it has, and its drops. log.rs lines 355 to 374 and 471 to 478.
-ghost use Rattle.std.specs.Prelude.{◌≡◌, true};
+ghost use Rattle.std.specs.Prelude.{◌≡◌, true, ◌≤◌, length};
+ghost use Rattle.keys.specs.Keys.{every};
+ghost use Rattle.overlay.specs.Rules.{row_ruled};
 ghost use Rattle.memory.specs.Parts.{of_kind};
-ghost use Rattle.change.specs.Change.{change_of, new_list, entries_fit, change_ruled, keys_fit, change_fits, change_kept};
+ghost use Rattle.change.specs.Change.{change_of, new_list, places_of, entries_fit, change_ruled, keys_fit, change_fits, change_kept};
 
 use super::drops::Drops;
-use super::fits::entries_fit;
+use super::fits::all_fit;
 use answer::Answer;
 use directory::{Directory, TableKind};
+use keys::Keys;
 use memory::{Counts, Holder};
 
 #[derive(Clone, Copy)]
@@ -52,19 +55,27 @@ impl LogChange {
             && memory::all_kept(Holder::List, self.counts, words, bytes)
     }
 
+    // The keys of a kind.
+    pub(crate) fn keys<'a>(self, kind: TableKind, words: &'a [u64], bytes: &[u8]) -> Keys<'a>
+        requires { change_ruled (change_of self words.now bytes.now) ≡ true }
+        ensures rows { result.rows.now ≡ (of_kind kind (change_of self words.now bytes.now).parts).rows }
+        ensures order { result.order.now ≡ places_of (of_kind kind (change_of self words.now bytes.now).parts) }
+        ensures each { every (row_ruled kind result.rows.now) result.order.now ≡ true }
+        ensures few { length result.order.now ≤ 32 }
+    {
+        overlay::keys_in(
+            Holder::List.room(kind),
+            Holder::List.words(kind, words),
+            self.counts.of(kind),
+        )
+    }
+
     // Whether the keys of a kind fit the directory.
     fn kind_fits(self, directory: Directory, kind: TableKind, words: &[u64], bytes: &[u8]) -> bool
         requires { change_ruled (change_of self words.now bytes.now) ≡ true }
         ensures { result ≡ entries_fit directory kind (of_kind kind (change_of self words.now bytes.now).parts) }
     {
-        let s = memory::span_of(Holder::List, kind);
-        entries_fit(
-            directory,
-            kind,
-            s.room,
-            &words[s.words_at..s.words_end],
-            self.counts.of(kind),
-        )
+        all_fit(directory, kind, self.keys(kind, words, bytes))
     }
 
     fn keys_fit(self, directory: Directory, words: &[u64], bytes: &[u8]) -> bool

@@ -1,10 +1,12 @@
 // Whether what is listed fits the directory.
-ghost use Rattle.std.specs.Prelude.{◌≡◌, true, [], ◌*◌, ◌≤◌, length};
+ghost use Rattle.std.specs.Prelude.{◌≡◌, true, []};
 ghost use Rattle.directory.specs.Directory.{find_table};
-ghost use Rattle.overlay.specs.Rules.{keys_ruled, lists_of, rows_of, order_of, overlay_of};
-ghost use Rattle.change.specs.Change.{mark_fits, key_fits, entries_fit};
+ghost use Rattle.keys.specs.Keys.{every};
+ghost use Rattle.overlay.specs.Rules.{row_ruled, lists_of};
+ghost use Rattle.change.specs.Change.{mark_fits, key_fits, entry_fits};
 
 use directory::{Directory, TableDescription, TableKind};
+use keys::Keys;
 
 fn mark_fits(kind: TableKind, t: TableDescription, mark: u64) -> bool
     ensures { result ≡ mark_fits kind t mark }
@@ -46,42 +48,22 @@ fn table_after(
     directory.find(kind, table)
 }
 
-fn all_fit<'a>(
-    directory: Directory,
-    kind: TableKind,
-    room: usize,
-    rows: &'a [u64],
-    order: &'a [u64],
-    n: usize,
-) -> bool
-    requires { (4 * room ≤ length rows.now) × (room ≤ length order.now) × (keys_ruled kind room rows.now order.now n ≡ true) }
-    ensures { result ≡ entries_fit directory kind (lists_of rows.now order.now [] n) }
+// Whether the keys of a kind do.
+#[tactic(auto, using(crate::proofs::Fitting::row_there))]
+pub(crate) fn all_fit(directory: Directory, kind: TableKind, keys: Keys) -> bool
+    requires { every (row_ruled kind keys.rows.now) keys.order.now ≡ true }
+    ensures { result ≡ every (entry_fits directory kind (lists_of keys.entry.rows.now [] [] 0)) keys.entry.order.now }
 {
     let mut last: u16 = 0;
     let mut found = directory.find(kind, last);
-    for place in &order[..n] {
+    for place in keys.order {
         let p = *place as usize;
-        let table = rows[4 * p] as u16;
+        let table = keys.rows[4 * p] as u16;
         found = table_after(directory, kind, last, found, table);
         last = table;
-        if !key_fits(kind, found, rows[4 * p + 1], rows[4 * p + 3]) {
+        if !key_fits(kind, found, keys.rows[4 * p + 1], keys.rows[4 * p + 3]) {
             return false;
         }
     }
     true
-}
-
-// Whether the keys of a kind fit: its part of the words.
-pub(crate) fn entries_fit(
-    directory: Directory,
-    kind: TableKind,
-    room: usize,
-    words: &[u64],
-    n: usize,
-) -> bool
-    requires { (length words.now ≡ 5 * room) × (keys_ruled kind room (rows_of room words.now) (order_of room words.now) n ≡ true) }
-    ensures { result ≡ entries_fit directory kind (overlay_of room words.now [] n) }
-{
-    let cut = 4 * room;
-    all_fit(directory, kind, room, &words[..cut], &words[cut..], n)
 }

@@ -28,11 +28,10 @@ impl LogChange {
         requires { change_kept directory (change_of self words.now bytes.now) ≡ true }
         ensures { result ≡ plan_in kind (of_kind kind (change_of self words.now bytes.now).parts) (find_table directory kind number) number index sub «data».now }
     {
-        let s = memory::span_of(Holder::List, kind);
         plan_for(
             kind,
-            s.room,
-            &words[s.words_at..s.words_end],
+            Holder::List.room(kind),
+            Holder::List.words(kind, words),
             self.counts.of(kind),
             directory.find(kind, number),
             number,

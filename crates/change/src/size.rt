@@ -1,14 +1,15 @@
 // The length of a list's record, before a byte of it is written.
-ghost use Rattle.std.specs.Prelude.{◌≡◌, true, [], ◌*◌, ◌≤◌, length};
-ghost use Rattle.overlay.specs.Rules.{keys_ruled, mark_ruled, rows_of, order_of, overlay_of, lists_of};
+ghost use Rattle.std.specs.Prelude.{◌≡◌, true, ◌≤◌, length};
+ghost use Rattle.keys.specs.Keys.{every};
+ghost use Rattle.overlay.specs.Rules.{mark_ruled, row_ruled};
 ghost use Rattle.memory.specs.Parts.{of_kind};
 ghost use Rattle.change.specs.Change.{change_of, change_ruled};
-ghost use Rattle.change.specs.Size.{entry_size, entries_size, record_size, sized};
+ghost use Rattle.change.specs.Size.{entry_size, places_size, entries_size, record_size, sized};
 
 use super::change::LogChange;
 use answer::Answer;
 use directory::{Directory, TableKind};
-use memory::Holder;
+use keys::Keys;
 
 // The bounds here say that no sum wraps.
 fn entry_size(kind: TableKind, mark: u64) -> usize
@@ -22,31 +23,19 @@ fn entry_size(kind: TableKind, mark: u64) -> usize
     }
 }
 
-fn places_size<'a>(
-    kind: TableKind,
-    room: usize,
-    rows: &'a [u64],
-    order: &'a [u64],
-    n: usize,
-) -> usize
-    requires { (room ≤ 256) × (4 * room ≤ length rows.now) × (room ≤ length order.now) × (keys_ruled kind room rows.now order.now n ≡ true) }
-    ensures { (result ≡ entries_size kind (lists_of rows.now order.now [] n)) × (result ≤ 1043 * n) }
+// The entries of a kind.
+#[tactic(auto, using(crate::proofs::Fitting::row_there))]
+fn places_size(kind: TableKind, keys: Keys) -> usize
+    requires each { every (row_ruled kind keys.rows.now) keys.order.now ≡ true }
+    requires few { length keys.order.now ≤ 32 }
+    ensures { (result ≡ places_size kind keys.entry.rows.now keys.entry.order.now) × (result ≤ 33376) }
 {
     let mut t: usize = 0;
-    for place in &order[..n] {
+    for place in keys.order {
         let p = *place as usize;
-        t += entry_size(kind, rows[4 * p + 3]);
+        t += entry_size(kind, keys.rows[4 * p + 3]);
     }
     t
-}
-
-// The entries of a kind: its part of the words.
-fn entries_size(kind: TableKind, room: usize, words: &[u64], n: usize) -> usize
-    requires { (room ≤ 256) × (length words.now ≡ 5 * room) × (keys_ruled kind room (rows_of room words.now) (order_of room words.now) n ≡ true) }
-    ensures { (result ≡ entries_size kind (overlay_of room words.now [] n)) × (result ≤ 1043 * n) }
-{
-    let cut = 4 * room;
-    places_size(kind, room, &words[..cut], &words[cut..], n)
 }
 
 impl LogChange {
@@ -54,13 +43,7 @@ impl LogChange {
         requires { change_ruled (change_of self words.now bytes.now) ≡ true }
         ensures { (result ≡ entries_size kind (of_kind kind (change_of self words.now bytes.now).parts)) × (result ≤ 33376) }
     {
-        let s = memory::span_of(Holder::List, kind);
-        entries_size(
-            kind,
-            s.room,
-            &words[s.words_at..s.words_end],
-            self.counts.of(kind),
-        )
+        places_size(kind, self.keys(kind, words, bytes))
     }
 
     // That of a list that keeps the rules that need no directory.
