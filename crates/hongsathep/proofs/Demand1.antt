@@ -7,16 +7,17 @@ use mathlib.Core.List.{List, [], ◌∷◌, map}
 use mathlib.Core.Option.{Option}
 use Prim.Native.Nat.{ℕ, ◌+◌, ◌<◌}
 use native.Mathlib.Omega.{arith}
-use lib.Dec.{eqb, ltb, leb}
+use lib.Dec.{eqb, ltb}
 use lib.ListN.{length}
 use lib.Seq.{paste-zero}
 use borrow.Author.Tests.{ne_eqb}
 use Rattle.std.specs.Prelude.{if◌then◌else◌}
-use Rattle.answer.specs.Answer.{number_of, last_record_id}
+use Rattle.std.specs.Prelude.{Some, Result, Ok, Err, IfOk, IfErr}
+use Rattle.answer.specs.Answer.{number_of, answer_in, last_record_id}
 use Rattle.answer.specs.declared.answer.Answer.{Answer}
-use Rattle.answer.specs.declared.answer.Answer.TheVariants.{Done, NoTable, NoRoom, UsedUp, BadState, ShortOutput, EndOfLog}
+use Rattle.answer.specs.declared.answer.Answer.TheVariants.{Done, NoRoom, UsedUp, BadState, ShortOutput, EndOfLog}
 use Rattle.answer.specs.declared.answer.Refusal.{Refusal}
-use Rattle.directory.specs.Directory.{tables_of, find_table, stands}
+use Rattle.directory.specs.Directory.{find_table}
 use Rattle.directory.specs.declared.table.TableKind.{TableKind}
 use Rattle.directory.specs.declared.table.TableKind.TheVariants.{Index, Value, RefCount}
 use Rattle.directory.specs.declared.directory.Directory.{Directory}
@@ -28,17 +29,16 @@ use Rattle.memory.specs.Overlays.{Overlays, overlays_of}
 use Rattle.memory.specs.declared.overlays.LogOverlays.{LogOverlays}
 use Rattle.record.specs.Next.{reader_at, opening_of}
 use Rattle.record.specs.declared.reader.LogReader.{LogReader}
-use Rattle.record.specs.declared.reader.Step.{Step}
-use Rattle.record.specs.declared.reader.Step.TheVariants.{Took, Refused}
+use Rattle.record.specs.declared.reader.Stepped.{Stepped}
 use Rattle.replay.specs.Replay.{Walked, fault, walked}
-use Rattle.change.specs.Change.{Change, new_list, with_drops, with_count_drops, drop_room, change_kept, change_ruled}
+use Rattle.change.specs.Change.{Change, new_list, with_drops, with_count_drops, change_kept, change_ruled}
 use Rattle.change.specs.Insert.{Made, not_made, made_by, plan_in, inserted_kept, inserted}
-use Rattle.change.specs.Drop.{dropped_in, drops_with, table_dropped_kept, table_dropped, count_table_dropped_kept, count_table_dropped}
-use Rattle.change.specs.declared.plans.Plan.{Plan}
-use Rattle.change.specs.declared.plans.Plan.TheVariants.{Refuse, Go}
+use Rattle.change.specs.Drop.{dropped_in, drop_made, table_dropped_kept, table_dropped, count_table_dropped_kept, count_table_dropped}
 use Rattle.change.specs.declared.drops.Drops.{Drops}
-use Rattle.change.specs.declared.drops.Dropped.{Dropped}
-use Rattle.change.specs.Size.{record_size, sized_kept}
+use Rattle.change.specs.Size.{record_size, sized}
+use Rattle.change.specs.Values.{values_of_kept, values_of}
+use Rattle.output.specs.Put.{put}
+use Rattle.writer.specs.Bytes.{record_of}
 use Rattle.writer.specs.Flush.{FlushedLog, unwritten, flushed_of, flush_to_file_kept, flush_to_file}
 use Rattle.clearing.specs.EndRead.{Again, to_clear, end_read_by, end_read_of}
 use Rattle.ending.specs.EndRecord.{Handed, EndState, is_done, end_answer, not_ended, ended, end_record}
@@ -51,17 +51,19 @@ use Rattle.files.specs.declared.cleaning.Cleaned.{Cleaned}
 use Rattle.files.specs.declared.cleaning.Killed.{Killed}
 use Rattle.files.specs.declared.read.ReadNext.{ReadNext}
 use Rattle.files.specs.Queues.{appending_size, queues_kept}
-use Rattle.files.specs.Calls.{flushes, not_flushed, flush_one_kept, flush_one, no_replay, replay_next_kept, replay_next, clear_replay_logs_kept, clear_replay_logs, not_cleaned, clean_logs_kept, clean_logs, kill_logs_kept, kill_logs, file_set_full, files_used_up, taken_by, not_taken, take_file_kept, take_file}
+use Rattle.files.specs.Calls.{flushes, not_flushed, flush_one_kept, flush_one, no_replay, replay_next_kept, replay_next, clear_replay_logs_kept, clear_replay_logs, not_cleaned, clean_logs_kept, clean_logs, kill_logs_kept, kill_logs, file_set_full, files_used_up, taken_by, take_file_kept, take_file}
 use Rattle.files.specs.Moves.{appending_queued, reading_cleaned, front_replayed}
 use Rattle.numbers.specs.Numbers.{has, over}
 use Rattle.numbers.specs.Queue.{front_of_of, no_numbers}
 use Rattle.files.specs.Read.{now_reading, not_read, read_by, read_next_kept, read_next}
-use Rattle.files.specs.Open.{open_logs}
+use Rattle.files.specs.Open.{opened_by, open_logs, remove_count_of}
 use Rattle.found.specs.Names.{said_by}
-use Rattle.found.specs.Logs.{LogFile, removed, in_order_of, found_kept, file_number, answered, to_replay, log_files}
+use Rattle.found.specs.Logs.{removed, in_order_of, found_kept, file_number, files_told, to_replay, log_files}
+use Rattle.found.specs.Logs as logs
+use Rattle.found.specs.declared.sorted.LogFile.{LogFile}
 use Rattle.found.specs.declared.logs.LogFiles.{LogFiles}
 use Rattle.query.specs.Query.{looked_if, shared_look, listed_look, bytes_of, copied_over}
-use Rattle.log_calls.specs.Begin.{not_begun, begin_record}
+use Rattle.log_calls.specs.Begin.{begin_record}
 use Rattle.log_calls.specs.declared.begin.Begun.{Begun}
 use Rattle.log_calls.specs.ClearReplay.{logs_cleared_kept, logs_cleared}
 use Rattle.log_calls.specs.declared.clear_replay.LogsCleared.{LogsCleared}
@@ -81,9 +83,9 @@ abbrev Same : Change → Made → Type 0
 Same l m = m.change ≡ l
 
 module _ (d : Directory) (l : Change) where
-  by-plan : (kind : TableKind) (number index sub : ℕ) (bytes : List ℕ) (p : Plan) → 0 < number_of (made_by p kind l number index sub bytes).answer → Same l (made_by p kind l number index sub bytes)
-  by-plan kind number index sub bytes (Refuse a) h = refl
-  by-plan kind number index sub bytes (Go old) h = never h
+  by-plan : (kind : TableKind) (number index sub : ℕ) (bytes : List ℕ) (p : Result ℕ Answer) → 0 < number_of (made_by p kind l number index sub bytes).answer → Same l (made_by p kind l number index sub bytes)
+  by-plan kind number index sub bytes (Err a) h = refl
+  by-plan kind number index sub bytes (Ok old) h = never h
 
   pub insert-refused : (kind : TableKind) (number index sub : ℕ) (bytes : List ℕ) → 0 < number_of (inserted kind d l number index sub bytes).answer → (inserted kind d l number index sub bytes).change ≡ l
   unfolding inserted inserted_kept
@@ -91,38 +93,32 @@ module _ (d : Directory) (l : Change) where
       behind-13 (λ (m : Made). m.answer) (Same l) (change_kept d l) (inserted_kept kind d l number index sub bytes) (not_made BadState l) refl
       (by-plan kind number index sub bytes (plan_in kind (of_kind kind l.parts) (find_table d kind number) number index sub bytes))
 
-  by-room : (s : Drops) (number : ℕ) (b c : Bool) → (let x : Dropped = if b then if c then record { answer = NoRoom; drops = s } else record { answer = Done; drops = drops_with s number } else record { answer = NoTable; drops = s } in
-      0 < number_of x.answer → x.drops ≡ s)
-  by-room s number true true h = refl
-  by-room s number true false h = never h
-  by-room s number false c h = refl
-
-  dropped-refused : (kind : TableKind) (s : Drops) (number : ℕ) → 0 < number_of (dropped_in d kind s number).answer → (dropped_in d kind s number).drops ≡ s
-  unfolding dropped_in
-  dropped-refused kind s number = by-room s number (stands (tables_of d) kind number) (leb drop_room s.count)
+  by-drop : (after : Drops → Change) (r : Result Drops Answer) → 0 < number_of (drop_made l after r).answer → Same l (drop_made l after r)
+  by-drop after (Ok s) h = never h
+  by-drop after (Err a) h = refl
 
   pub drop_refused : (number : ℕ) → 0 < number_of (table_dropped d l number).answer → (table_dropped d l number).change ≡ l
   unfolding table_dropped table_dropped_kept
   drop_refused number =
       behind-13 (λ (m : Made). m.answer) (Same l) (change_kept d l) (table_dropped_kept d l number) (not_made BadState l) refl
-      (λ h. rw (dropped-refused Index l.drops number h))
+      (by-drop (with_drops l) (dropped_in d Index l.drops number))
 
   pub count_drop_refused : (number : ℕ) → 0 < number_of (count_table_dropped d l number).answer → (count_table_dropped d l number).change ≡ l
   unfolding count_table_dropped count_table_dropped_kept
   count_drop_refused number =
       behind-13 (λ (m : Made). m.answer) (Same l) (change_kept d l) (count_table_dropped_kept d l number) (not_made BadState l) refl
-      (λ h. rw (dropped-refused RefCount l.count_drops number h))
+      (by-drop (with_count_drops l) (dropped_in d RefCount l.count_drops number))
 
   -- ---- the output: `flush_to_file`
-  by_length : (b : Bool) (out : List ℕ) (x : FlushedLog) → 0 < number_of (if b then unwritten ShortOutput out else x).sized.answer → (0 < number_of x.sized.answer → x.output ≡ out)
+  by_length : (b : Bool) (out : List ℕ) (x : FlushedLog) → 0 < number_of (answer_in (if b then unwritten ShortOutput out else x).sized) → (0 < number_of (answer_in x.sized) → x.output ≡ out)
       → (if b then unwritten ShortOutput out else x).output ≡ out
   by_length true out x h f = refl
   by_length false out x h f = f h
 
-  pub flush_refused : (out : List ℕ) → 0 < number_of (flush_to_file d l out).sized.answer → (flush_to_file d l out).output ≡ out
+  pub flush_refused : (out : List ℕ) → 0 < number_of (answer_in (flush_to_file d l out).sized) → (flush_to_file d l out).output ≡ out
   unfolding flush_to_file flush_to_file_kept
   flush_refused out =
-      behind-13 (λ (x : FlushedLog). x.sized.answer) (λ (x : FlushedLog). x.output ≡ out) (change_kept d l) (flush_to_file_kept l out) (unwritten BadState out) refl
+      behind-13 (λ (x : FlushedLog). answer_in x.sized) (λ (x : FlushedLog). x.output ≡ out) (change_kept d l) (flush_to_file_kept l out) (unwritten BadState out) refl
       (λ h. by_length (ltb (length out) (record_size l)) out _ h never)
 
 -- ---- a value's destination: `value`, with a list and without
@@ -141,13 +137,13 @@ value-listed-refused l o key =
     by-rules (change_ruled l && overlay_kept Value 256 o) (or_else (find_entry key (entries_of Value (of_kind Value l.parts))) (find_entry key (entries_of Value o)))
 
 -- ---- `begin_record`: the next id
-by-id : (next : ℕ) (b c : Bool) → (let x : Begun = if b then not_begun BadState next else if c then not_begun UsedUp next else record { answer = Done; next_record_id = next + 1; list = new_list next } in
-    0 < number_of x.answer → x.next_record_id ≡ next)
-by-id next true c h = refl
-by-id next false true h = refl
+by-id : (next : ℕ) (b c : Bool) → (let x : Result Begun Answer = if b then Err BadState else if c then Err UsedUp else Ok (record { next_record_id = next + 1; list = new_list next }) in
+    0 < number_of (answer_in x) → IfOk x (λ (r : Begun). r.next_record_id ≡ next))
+by-id next true c h = tt
+by-id next false true h = tt
 by-id next false false h = never h
 
-pub begin-refused : (next : ℕ) → 0 < number_of (begin_record next).answer → (begin_record next).next_record_id ≡ next
+pub begin-refused : (next : ℕ) → 0 < number_of (answer_in (begin_record next)) → IfOk (begin_record next) (λ (r : Begun). r.next_record_id ≡ next)
 unfolding begin_record
 begin-refused next = by-id next (eqb next 0) (eqb next last_record_id)
 
@@ -161,7 +157,7 @@ module _ (d : Directory) (h : Handed) where
   pub end_refused : 0 < number_of (end_record d h).answer
       → ((end_record d h).overlays ≡ h.overlays) × ((end_record d h).queues ≡ h.queues) × ((end_record d h).output ≡ h.output)
   unfolding end_record
-  end_refused = by-done (end_answer d h) (take_file_kept h.queues (record_size h.list)) (is_done (end_answer d h)) refl
+  end_refused = by-done (end_answer d h) (taken_by h.queues (appending_size h.queues + record_size h.list)) (is_done (end_answer d h)) refl
 
 -- ---- `end_read`: overlays and the next id
 module _ (d : Directory) (log : List ℕ) (at : ℕ) (s : Overlays) (next : ℕ) where
@@ -173,38 +169,44 @@ module _ (d : Directory) (log : List ℕ) (at : ℕ) (s : Overlays) (next : ℕ)
   clear-refused = by-walk (to_clear d log at s next)
 
 -- ---- `clear_replay_logs`: overlays and queues
-pub clear-replay-refused : (o : LogOverlays) (words bytes : List ℕ) (q : Queues) → 0 < number_of (logs_cleared o words bytes q).answer
-    → ((logs_cleared o words bytes q).overlays ≡ o) × ((logs_cleared o words bytes q).queues ≡ q)
+pub clear-replay-refused : (o : LogOverlays) (words bytes : List ℕ) (q : Queues) → 0 < number_of (answer_in (logs_cleared o words bytes q))
+    → IfOk (logs_cleared o words bytes q) (λ (x : LogsCleared). (x.overlays ≡ o) × (x.queues ≡ q))
 unfolding logs_cleared
 clear-replay-refused o words bytes q =
-    let bad : LogsCleared = record { answer = BadState; overlays = o; queues = q } in
-    behind-13 (λ (x : LogsCleared). x.answer) (λ (x : LogsCleared). (x.overlays ≡ o) × (x.queues ≡ q))
-    (parts_kept holder.Shared (overlays_of o words bytes).parts && queues_kept q) (logs_cleared_kept q) bad (refl, refl) never
+    behind-13 answer_in (λ (r : Result LogsCleared Answer). IfOk r (λ (x : LogsCleared). (x.overlays ≡ o) × (x.queues ≡ q)))
+    (parts_kept holder.Shared (overlays_of o words bytes).parts && queues_kept q) (Ok (logs_cleared_kept q)) (Err BadState) tt never
 
 -- ---- `open`: the list for the removals, of which a refusal writes none
 module _ (names nameLengths lengths heads remove : List ℕ) where
-  abbrev Untold : LogFiles → Type 0
-  Untold f = over remove (removed (said_by names nameLengths) lengths) f.remove_count ≡ remove
+  abbrev Untold : Result LogFiles Answer → Type 0
+  Untold f = over remove (removed (said_by names nameLengths) lengths) (logs.remove_count_of f) ≡ remove
 
   none_told : over remove (removed (said_by names nameLengths) lengths) 0 ≡ remove
   none_told = sym (paste-zero remove 0 (removed (said_by names nameLengths) lengths))
 
   by-found : (b c e : Bool) (n : ℕ) (files : List LogFile)
-      → (let f : LogFiles = if b then answered NoRoom 0 [] else if c then answered UsedUp 0 [] else if e then answered ShortOutput 0 [] else answered Done n files in
-      0 < number_of f.answer → Untold f)
+      → (let f : Result LogFiles Answer = if b then Err NoRoom else if c then Err UsedUp else if e then Err ShortOutput else Ok (files_told n files) in
+      0 < number_of (answer_in f) → Untold f)
   by-found true c e n files h = none_told
   by-found false true e n files h = none_told
   by-found false false true n files h = none_told
   by-found false false false n files h = never h
 
-  pub open_refused : 0 < number_of (open_logs names nameLengths lengths heads (length remove)).answer
-      → over remove (removed (said_by names nameLengths) lengths) (open_logs names nameLengths lengths heads (length remove)).remove_count ≡ remove
+  -- what `open` answers and tells is what the files found do
+  as-found : (f : Result LogFiles Answer) → (0 < number_of (answer_in f) → Untold f) → 0 < number_of (answer_in (opened_by f))
+      → over remove (removed (said_by names nameLengths) lengths) (remove_count_of (opened_by f)) ≡ remove
+  as-found (Ok f) g h = never h
+  as-found (Err a) g h = none_told
+
+  pub open_refused : 0 < number_of (answer_in (open_logs names nameLengths lengths heads (length remove)))
+      → over remove (removed (said_by names nameLengths) lengths) (remove_count_of (open_logs names nameLengths lengths heads (length remove))) ≡ remove
   unfolding open_logs log_files to_replay
   open_refused =
       let files : List LogFile = in_order_of (said_by names nameLengths) lengths heads in
       let n : ℕ = length (removed (said_by names nameLengths) lengths) in
-      behind-13 (λ (f : LogFiles). f.answer) Untold (found_kept names nameLengths lengths heads) (to_replay (length remove) n files) (answered BadState 0 []) none_told
-      (by-found (ltb 64 (length files)) (has 4294967295 (map file_number files)) (ltb (length remove) n) n files)
+      as-found (log_files names nameLengths lengths heads (length remove))
+      (behind-13 answer_in Untold (found_kept names nameLengths lengths heads) (to_replay (length remove) n files) (Err BadState) none_told
+      (by-found (ltb 64 (length files)) (has 4294967295 (map file_number files)) (ltb (length remove) n) n files))
 
 -- ---- the queues' calls: but for `take_file` and `read_next` only 13 refuses, and it changes nothing
 module _ (q : Queues) where
@@ -215,7 +217,7 @@ module _ (q : Queues) where
   pub flush_one-refused : (min : ℕ) → 0 < number_of (flush_one q min).answer → (flush_one q min).queues ≡ q
   unfolding flush_one flush_one_kept
   flush_one-refused min = behind-13 (λ (x : Flushed). x.answer) (λ (x : Flushed). x.queues ≡ q) (queues_kept q) (flush_one_kept q min) (not_flushed BadState q) refl
-      (let moved : Flushed = record { answer = Done; moved = true; number = q.appending.id; queues = appending_queued q } in by_size (flushes q min) moved refl)
+      (let moved : Flushed = record { answer = Done; moved = Some q.appending.id; queues = appending_queued q } in by_size (flushes q min) moved refl)
 
   by_front : (b : Bool) (x y : ReplayNext) → x.answer ≡ Done → y.answer ≡ Done → 0 < number_of (if b then x else y).answer → (if b then x else y).queues ≡ q
   by_front true x y e f h = never (rw e at h)
@@ -225,7 +227,7 @@ module _ (q : Queues) where
   unfolding replay_next replay_next_kept
   replay-next-refused =
       behind-13 (λ (x : ReplayNext). x.answer) (λ (x : ReplayNext). x.queues ≡ q) (queues_kept q) (replay_next_kept q) (no_replay BadState q) refl
-      (let front : ReplayNext = record { answer = Done; found = true; number = front_of_of q.replay_queue; queues = front_replayed (reading_cleaned q) } in
+      (let front : ReplayNext = record { answer = Done; number = Some (front_of_of q.replay_queue); queues = front_replayed (reading_cleaned q) } in
       by_front (eqb q.replay_queue.count 0) (no_replay Done (reading_cleaned q)) front refl refl)
 
   pub clear_logs_refused : 0 < number_of (clear_replay_logs q).answer → (clear_replay_logs q).queues ≡ q
@@ -245,34 +247,26 @@ module _ (q : Queues) where
       behind-13 (λ (x : Killed). x.answer) (λ (x : Killed). x.queues ≡ q) (queues_kept q) (kill_logs_kept q) bad refl never
 
   -- ---- `take_file`
-  by-source : (b c : Bool) (x y z : Taken) → x.answer ≡ Done → y.answer ≡ Done → z.answer ≡ Done → (if b then x else if c then y else z).answer ≡ Done
-  by-source true c x y z e f g = e
-  by-source false true x y z e f g = f
-  by-source false false x y z e f g = g
+  by-set : (b c : Bool) (t : Taken) → (let all : Result Taken Answer = if b then Err NoRoom else if c then Err UsedUp else Ok t in
+      0 < number_of (answer_in all) → IfOk all (λ (x : Taken). x.queues ≡ q))
+  by-set true c t h = tt
+  by-set false true t h = tt
+  by-set false false t h = never h
 
-  taken-done : (size : ℕ) → (taken_by q size).answer ≡ Done
-  unfolding taken_by
-  taken-done size = by-source q.appending.some (eqb q.log_pool.count 0) _ _ _ refl refl refl
-
-  by-set : (b c : Bool) (x : Taken) → x.answer ≡ Done → (let all : Taken = if b then not_taken NoRoom q else if c then not_taken UsedUp q else x in
-      0 < number_of all.answer → all.queues ≡ q)
-  by-set true c x e h = refl
-  by-set false true x e h = refl
-  by-set false false x e h = never (rw e at h)
-
-  pub take_refused : (more : ℕ) → 0 < number_of (take_file q more).answer → (take_file q more).queues ≡ q
+  pub take_refused : (more : ℕ) → 0 < number_of (answer_in (take_file q more)) → IfOk (take_file q more) (λ (x : Taken). x.queues ≡ q)
   unfolding take_file take_file_kept
-  take_refused more = behind-13 (λ (x : Taken). x.answer) (λ (x : Taken). x.queues ≡ q) (queues_kept q) (take_file_kept q more) (not_taken BadState q) refl
-      (by-set (file_set_full q) (files_used_up q more) (taken_by q (appending_size q + more)) (taken-done (appending_size q + more)))
+  take_refused more =
+      behind-13 answer_in (λ (r : Result Taken Answer). IfOk r (λ (x : Taken). x.queues ≡ q)) (queues_kept q) (take_file_kept q more) (Err BadState) tt
+      (by-set (file_set_full q) (files_used_up q more) (taken_by q (appending_size q + more)))
 
   -- ---- `read_next`: "1 sends the file to cleanup, other answers move nothing"
   by_number : (n : ℕ) (x : Queues) → (n ≡ 1 → ⊥) → (if eqb n 1 then x else q) ≡ q
   by_number n x h = rw (ne_eqb n 1 h)
 
-  by-opening : (r : LogReader) (s : Step) → 0 < number_of (read_by q r s).answer → (number_of (read_by q r s).answer ≡ 1 → ⊥) → (read_by q r s).queues ≡ q
+  by-opening : (r : LogReader) (s : Result Stepped Refusal) → 0 < number_of (read_by q r s).answer → (number_of (read_by q r s).answer ≡ 1 → ⊥) → (read_by q r s).queues ≡ q
   unfolding read_by
-  by-opening r (Took s) h n = never h
-  by-opening r (Refused x) h n = by_number (number_of x.answer) _ n
+  by-opening r (Ok s) h n = never h
+  by-opening r (Err x) h n = by_number (number_of x.answer) _ n
 
   abbrev Moves : ReadNext → Type 0
   Moves x = (number_of x.answer ≡ 1 → ⊥) → x.queues ≡ q
@@ -288,8 +282,8 @@ module _ (q : Queues) where
   unfolding read_next read_next_kept
   read-next-refused log position validate =
       let here : LogReader = reader_at position validate in
-      let own : Step = opening_of log here in
-      let front : Step = opening_of log (reader_at 0 validate) in
+      let own : Result Stepped Refusal = opening_of log here in
+      let front : Result Stepped Refusal = opening_of log (reader_at 0 validate) in
       behind-13 (λ (x : ReadNext). x.answer) Moves (queues_kept q) (read_next_kept q log position validate) (not_read BadState here q) (λ n. refl)
       (by-file Moves q.reading.some (eqb q.read_queue.count 0) (read_by q here own) (not_read EndOfLog here q) (read_by q here front) (by-opening here own) (λ n. refl) (by-opening here front))
 
@@ -297,18 +291,74 @@ module _ (q : Queues) where
   abbrev Ends : ReadNext → Type 0
   Ends x = number_of x.answer ≡ 1 → (moved : Bool) × (x.queues ≡ (if moved then reading_cleaned (now_reading q) else q))
 
-  by_end : (r : LogReader) (s : Step) → 0 < number_of (read_by q r s).answer → Ends (read_by q r s)
+  by_end : (r : LogReader) (s : Result Stepped Refusal) → 0 < number_of (read_by q r s).answer → Ends (read_by q r s)
   unfolding read_by
-  by_end r (Took s) h = never h
-  by_end r (Refused x) h = λ e. (eqb (number_of x.answer) 1, refl)
+  by_end r (Ok s) h = never h
+  by_end r (Err x) h = λ e. (eqb (number_of x.answer) 1, refl)
 
   pub read-next-ends : (log : List ℕ) (position : ℕ) (validate : Bool) → number_of (read_next q log position validate).answer ≡ 1
       → (moved : Bool) × ((read_next q log position validate).queues ≡ (if moved then reading_cleaned (now_reading q) else q))
   unfolding read_next read_next_kept
   read-next-ends log position validate e =
       let here : LogReader = reader_at position validate in
-      let own : Step = opening_of log here in
-      let front : Step = opening_of log (reader_at 0 validate) in
+      let own : Result Stepped Refusal = opening_of log here in
+      let front : Result Stepped Refusal = opening_of log (reader_at 0 validate) in
       behind-13 (λ (x : ReadNext). x.answer) Ends (queues_kept q) (read_next_kept q log position validate) (not_read BadState here q) (λ n. (false, refl))
       (by-file Ends q.reading.some (eqb q.read_queue.count 0) (read_by q here own) (not_read EndOfLog here q) (read_by q here front) (by_end here own) (λ n. (false, refl)) (by_end here front))
       (omega (arith, e)) e
+
+-- ---- a refusal's number is never 0: of each call that hands out nothing where it refuses
+abbrev Numbered : {A : Type 0} → Result A Answer → Type 0
+Numbered r = IfErr r (λ a. 0 < number_of a)
+
+one_test : {A : Type 0} (b : Bool) (r : Result A Answer) (a : Answer) → 0 < number_of a → Numbered r → Numbered (if b then r else Err a)
+one_test true r a h n = n
+one_test false r a h n = h
+
+other_test : {A : Type 0} (b : Bool) (r : Result A Answer) (a : Answer) → 0 < number_of a → Numbered r → Numbered (if b then Err a else r)
+other_test true r a h n = h
+other_test false r a h n = n
+
+pub begin_numbered : (next : ℕ) → IfErr (begin_record next) (λ a. 0 < number_of a)
+unfolding begin_record
+begin_numbered next = other_test (eqb next 0) _ BadState (omega arith) (other_test (eqb next last_record_id) (Ok (record { next_record_id = next + 1; list = new_list next })) UsedUp (omega arith) tt)
+
+pub clear-replay-numbered : (o : LogOverlays) (words bytes : List ℕ) (q : Queues) → IfErr (logs_cleared o words bytes q) (λ a. 0 < number_of a)
+unfolding logs_cleared
+clear-replay-numbered o words bytes q = one_test (parts_kept holder.Shared (overlays_of o words bytes).parts && queues_kept q) (Ok (logs_cleared_kept q)) BadState (omega arith) tt
+
+pub take_numbered : (q : Queues) (more : ℕ) → IfErr (take_file q more) (λ a. 0 < number_of a)
+unfolding take_file take_file_kept
+take_numbered q more =
+    one_test (queues_kept q) (take_file_kept q more) BadState (omega arith)
+    (other_test (file_set_full q) _ NoRoom (omega arith) (other_test (files_used_up q more) (Ok (taken_by q (appending_size q + more))) UsedUp (omega arith) tt))
+
+pub sized_numbered : (d : Directory) (l : Change) → IfErr (sized d l) (λ a. 0 < number_of a)
+unfolding sized
+sized_numbered d l = one_test (change_kept d l) (Ok (record_size l)) BadState (omega arith) tt
+
+pub values_numbered : (l : Change) (number : ℕ) → IfErr (values_of l number) (λ a. 0 < number_of a)
+unfolding values_of
+values_numbered l number = one_test (change_ruled l) (Ok (values_of_kept l number)) BadState (omega arith) tt
+
+pub flush_numbered : (d : Directory) (l : Change) (out : List ℕ) → IfErr (flush_to_file d l out).sized (λ a. 0 < number_of a)
+unfolding flush_to_file flush_to_file_kept
+flush_numbered d l out = by_rules (change_kept d l) (ltb (length out) (record_size l)) (flushed_of (Ok (record_size l)) (put out 0 (record_of l))) tt
+  where
+    by_rules : (b c : Bool) (x : FlushedLog) → Numbered x.sized → Numbered (if b then if c then unwritten ShortOutput out else x else unwritten BadState out).sized
+    by_rules true true x n = (let h : 0 < number_of ShortOutput = omega arith in h)
+    by_rules true false x n = n
+    by_rules false c x n = (let h : 0 < number_of BadState = omega arith in h)
+
+pub open_numbered : (names nameLengths lengths heads : List ℕ) (room : ℕ) → IfErr (open_logs names nameLengths lengths heads room) (λ a. 0 < number_of a)
+unfolding open_logs log_files to_replay
+open_numbered names nameLengths lengths heads room =
+    let files : List LogFile = in_order_of (said_by names nameLengths) lengths heads in
+    let n : ℕ = length (removed (said_by names nameLengths) lengths) in
+    opened (log_files names nameLengths lengths heads room)
+    (one_test (found_kept names nameLengths lengths heads) (to_replay room n files) BadState (omega arith)
+    (other_test (ltb 64 (length files)) _ NoRoom (omega arith) (other_test (has 4294967295 (map file_number files)) _ UsedUp (omega arith) (other_test (ltb room n) (Ok (files_told n files)) ShortOutput (omega arith) tt))))
+  where
+    opened : (f : Result LogFiles Answer) → Numbered f → Numbered (opened_by f)
+    opened (Ok f) h = tt
+    opened (Err a) h = h
