@@ -1,6 +1,5 @@
 -- What cases (a) to (e) and (j) are about (document 01, "Cases"): a directory, a new list, an output, and each record byte for byte.
-use Rattle.std.specs.Prelude.{List, [], ◌∷◌, ◌++◌, ℕ, zero, suc, ◌-◌, replicate, length}
-use Rattle.answer.specs.declared.answer.Answer.TheVariants.{Done}
+use Rattle.std.specs.Prelude.{List, [], ◌∷◌, ◌++◌, ℕ, zero, suc, ◌-◌, replicate, length, Ok}
 use Rattle.directory.specs.Table.{description}
 use Rattle.directory.specs.declared.table.TableKind.TheVariants.{Index, Value, RefCount}
 use Rattle.directory.specs.declared.directory.Directory.{Directory}
@@ -62,7 +61,7 @@ one_count = begin_one ++ 6 ∷ 3 ∷ 0 ∷ in_eight 5 ++ in_eight 2 ++ counting 
 
 -- what flushing a list comes to where its record is these bytes: done, their number, and they stand at the output's front
 abbrev pub wrote : List ℕ → FlushedLog
-wrote bytes = flushed_of (record { answer = Done; length = length bytes }) (bytes ++ replicate (60 - length bytes) 255)
+wrote bytes = flushed_of (Ok (length bytes)) (bytes ++ replicate (60 - length bytes) 255)
 
 -- a slot of index 3 put in
 abbrev pub slot_put : Change → ℕ → Made
