@@ -26,7 +26,8 @@ fn put_places<'a>(
 {
     let mut o = at;
     for i in 0..n {
-        o = put_key(out, o, kind, rows, order[i] as usize, bytes);
+        let p = order[i] as usize;
+        o = put_key(out, o, kind, rows, p, bytes);
     }
     o
 }
