@@ -50,7 +50,7 @@ impl Tables {
         queues: Queues,
         next: u64,
         out: &mut [u8],
-    ) -> Ended {
+    ) -> Result<Ended, Answer> {
         if self.lent {
             lent::end_record(
                 self.shown(),

@@ -2,6 +2,7 @@
 ghost use Rattle.std.specs.Prelude.{◌≤◌, length};
 
 use super::life::Life;
+use answer::Answer;
 use compare_lent::Tables;
 use compare_lines::{Buffer, Fault, Fields, Line};
 use ending::Ended;
@@ -16,14 +17,18 @@ fn source_of(source: FileSource) -> u64 {
 }
 
 // Of an output the w bytes that were written, and the checksum of all.
-fn put_ended(line: &mut Line, done: Ended, out: &[u8])
+fn put_ended(line: &mut Line, done: Result<Ended, Answer>, out: &[u8])
     requires { length out.now ≤ 60000 }
 {
-    let w = out.len().min(done.length);
-    line.begin(done.answer);
+    let (length, source, number) = match done {
+        Ok(ended) => (ended.length, source_of(ended.source), ended.number),
+        Err(_) => (0, 0, 0),
+    };
+    let w = out.len().min(length);
+    line.begin_with(done);
     line.put(w as u64, 4);
-    line.put(source_of(done.source), 1);
-    line.put(done.number, 4);
+    line.put(source, 1);
+    line.put(number, 4);
     line.put(w as u64, 4);
     line.put_bytes(&out[..w]);
     line.put(u64::from(checksum::checksum(out)), 4);
@@ -53,8 +58,10 @@ pub fn end(
         life.next_record_id,
         room.bytes_mut(),
     );
-    life.overlays.overlays = done.overlays;
-    life.queues = done.queues;
+    if let Ok(ended) = done {
+        life.overlays.overlays = ended.overlays;
+        life.queues = ended.queues;
+    }
     put_ended(line, done, room.bytes());
     Ok(())
 }

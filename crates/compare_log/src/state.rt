@@ -21,9 +21,11 @@ pub fn clear_replay(life: &mut Life, fields: Fields, line: &mut Line) -> Result<
         &life.overlays.bytes,
         life.queues,
     );
-    life.overlays.overlays = done.overlays;
-    life.queues = done.queues;
-    line.begin(done.answer);
+    if let Ok(cleared) = done {
+        life.overlays.overlays = cleared.overlays;
+        life.queues = cleared.queues;
+    }
+    line.begin_with(done);
     Ok(())
 }
 
