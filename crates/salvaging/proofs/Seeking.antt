@@ -4,6 +4,7 @@ use mathlib.Core.Bool.{Bool, true, false}
 use mathlib.Core.List.{List, [], ◌∷◌}
 use mathlib.Core.Option.{Option, none, some}
 use Prim.Native.Nat.{ℕ, zero, suc, ◌+◌, ◌-◌, ◌≤◌, ◌<◌}
+use native.Mathlib.Nat.{add-zero}
 use native.Mathlib.Omega.{arith}
 use lib.Dec.{eqb, ltb}
 use lib.ListN.{length, get_or, get_or-eq_default}
@@ -16,7 +17,7 @@ use Rattle.record.specs.Next.{reader_at, step_of}
 use Rattle.replay.specs.Replay.{rest_in, whole_of}
 use Rattle.replay.specs.declared.whole.WholeRecord.{WholeRecord}
 use Rattle.salvaging.specs.Salvage.{found_by, found_at, by_found, found_from, found_on}
-use Rattle.salvaging.specs.Inner.{undecided, seen, search_from, search_in, first_found_of, Inside}
+use Rattle.salvaging.specs.Inner.{Begins, undecided, seen, search_from, search_in, first_found_of, Inside}
 use Rattle.salvaging.specs.declared.search.Found.{Found}
 use Rattle.salvaging.specs.declared.search.Search.{Search}
 use Rattle.salvaging.specs.declared.search.Search.TheVariants.{Record, Open, Nothing}
@@ -68,9 +69,18 @@ module _ (more : Bool) (d : Directory) (log : List ℕ) where
           let l : length log ≤ at + 1 = omega (arith, ltb-false at (length log) h) in
           seek_past (length log) (at + 1) l ∙ sym (seek_past (suc (length log)) (at + 1) l)
 
-  -- a position without a begin tag's byte is passed
-  seek_past_one : (at : ℕ) → (get_or log at 0 ≡ 1 → ⊥) → search_in more d log at ≡ search_in more d log (at + 1)
-  seek_past_one at h = untagged at h (length log) ∙ seek_next at
+  -- positions without a begin tag's byte are passed
+  seek_run : (k at : ℕ) → ((j : ℕ) → at ≤ j → j < at + k → get_or log j 0 ≡ 1 → ⊥) → search_in more d log at ≡ search_in more d log (at + k)
+  seek_run zero at h = ap (search_in more d log) (sym (add-zero at))
+  seek_run (suc k) at h =
+      let e : at + 1 + k ≡ at + suc k = omega arith in
+      untagged at (h at (omega arith) (omega arith)) (length log) ∙ seek_next at
+      ∙ seek_run k (at + 1) (λ j a b. h j (omega arith) (omega arith)) ∙ ap (search_in more d log) e
+
+  seek_to : (at r : ℕ) → at ≤ r → ((k : ℕ) → at ≤ k → k < r → get_or log k 0 ≡ 1 → ⊥) → search_in more d log at ≡ search_in more d log r
+  seek_to at r l h =
+      let e : at + (r - at) ≡ r = omega arith in
+      seek_run (r - at) at (λ j a b. h j a (omega arith)) ∙ ap (search_in more d log) e
 
   seek_nothing : (at : ℕ) → length log ≤ at → Nothing ≡ search_in more d log at
   seek_nothing at l = sym (seek_past (suc (length log)) at l)
@@ -119,25 +129,33 @@ module _ (more : Bool) (d : Directory) (log : List ℕ) (from : ℕ) where
   Answers r = (r ≡ search_in more d log from) × Inside r from (length log)
 
   -- what is seen from a place on is what is seen from the first on
-  module _ (at : ℕ) (s : search_in more d log from ≡ search_in more d log at) where
-    pub seeks_nothing : length log ≤ at → Answers Nothing
-    seeks_nothing l = (seek_nothing more d log at l ∙ sym s, tt)
+  module _ (rest : ℕ) (b : from ≤ rest) (s : search_in more d log from ≡ search_in more d log rest) where
+    -- no begin tag is left
+    pub seeks_nothing : ((k : ℕ) → rest ≤ k → k < length log → get_or log k 0 ≡ 1 → ⊥) → Answers Nothing
+    seeks_nothing h = by (ltb rest (length log)) refl
+      where
+        by : (t : Bool) → ltb rest (length log) ≡ t → Answers Nothing
+        by true q =
+            let l : rest < length log = ltb-true rest (length log) q in
+            (seek_nothing more d log (length log) (omega arith) ∙ sym (s ∙ seek_to more d log rest (length log) (omega arith) h), tt)
+        by false q = (seek_nothing more d log rest (ltb-false rest (length log) q) ∙ sym s, tt)
 
-    pub seeks_past : (get_or log at 0 ≡ 1 → ⊥) → search_in more d log from ≡ search_in more d log (at + 1)
-    seeks_past h = s ∙ seek_past_one more d log at h
+    -- or the next stands at a place
+    module _ (at : ℕ) (n : Begins log rest at) where
+      here_too : search_in more d log from ≡ search_in more d log at
+      here_too = s ∙ seek_to more d log rest at n.behind n.none
 
-    module _ (b : from ≤ at) (l : at < length log) (t : get_or log at 0 ≡ 1) where
       pub seeks_record : (w : WholeRecord) → Ok w ≡ here d log at → Answers (Record (record { position = at; id = w.opened.record_id; end = w.end }))
       seeks_record w e =
           let i = whole-inside d log at w e in
-          (seek_record more d log at t w e ∙ sym s, (b, i.0, i.1))
+          (seek_record more d log at n.tag w e ∙ sym here_too, (omega (arith, n.behind), i.0, i.1))
 
       module _ (x : Refusal) (e : Err x ≡ here d log at) where
         pub seeks_open : undecided more x ≡ true → Answers (Open at)
-        seeks_open u = (seek_open more d log at t x e u ∙ sym s, (b, l))
+        seeks_open u = (seek_open more d log at n.tag x e u ∙ sym here_too, (omega (arith, n.behind), n.there))
 
         pub seeks_on : undecided more x ≡ false → search_in more d log from ≡ search_in more d log (at + 1)
-        seeks_on u = s ∙ seek_on more d log at t x e u
+        seeks_on u = here_too ∙ seek_on more d log at n.tag x e u
 
 -- ---- the first of the records
 

@@ -1,5 +1,5 @@
 -- What the inner functions answer. Nothing here has to be believed: `Salvage` says what the public calls answer.
-use Rattle.std.specs.Prelude.{◌≡◌, Bool, true, ◌&&◌, List, [], ◌∷◌, ℕ, zero, suc, ◌+◌, ◌-◌, ◌≤◌, ◌<◌, eqb, ltb, leb, length, take, replicate, get_or, Result, Ok, Err}
+use Rattle.std.specs.Prelude.{◌≡◌, Bool, true, ◌&&◌, List, [], ◌∷◌, ℕ, zero, suc, ◌+◌, ◌-◌, ◌≤◌, ◌<◌, eqb, ltb, leb, length, take, replicate, get_or, Option, Some, None, Result, Ok, Err}
 use Rattle.std.proofs.Math.ListN.{set}
 use Rattle.std.specs.Prelude.{if◌then◌else◌}
 use Rattle.answer.specs.Answer.{number_of}
@@ -17,6 +17,18 @@ use Rattle.salvaging.specs.declared.search.Search.TheVariants.{Record, Open, Not
 use Rattle.replay.specs.declared.whole.WholeRecord.{WholeRecord}
 
 -- ---- the search
+
+-- the next place from a position on where a begin tag's byte stands
+pub record Begins (log : List ℕ) (from at : ℕ) : Type 0 where
+  pub behind : from ≤ at
+  pub there : at < length log
+  pub tag : get_or log at 0 ≡ 1
+  pub none : (k : ℕ) → from ≤ k → k < at → get_or log k 0 ≡ 1 → ⊥
+
+-- or there is none
+abbrev pub NextBegin : List ℕ → ℕ → Option ℕ → Type 0
+NextBegin log from (Some at) = Begins log from at
+NextBegin log from None = (k : ℕ) → from ≤ k → k < length log → get_or log k 0 ≡ 1 → ⊥
 
 -- a refusal that more bytes could lift: 1 and 2
 abbrev pub undecided : Bool → Refusal → Bool
@@ -63,6 +75,11 @@ place_of (Lost p n) = p
 -- with one line more; or where that line begins, if there is no room for it
 abbrev pub with_line : Lines → Line → Result Lines ℕ
 with_line l x = if leb 64 l.count then Err (place_of x) else Ok (record { lines = set l.lines l.count x; count = l.count + 1; end = l.end; bytes = l.bytes })
+
+-- the same from what a call in place answers and leaves
+abbrev pub pushed : Result (Unit {0}) ℕ → Lines → Result Lines ℕ
+pushed (Ok u) l = Ok l
+pushed (Err place) l = Err place
 
 -- a stretch left out up to a position, if it isn't empty
 abbrev pub up_to : Lines → ℕ → Result Lines ℕ

@@ -1,6 +1,6 @@
 // The lines of a list by value.
-ghost use Rattle.std.specs.Prelude.{◌≡◌, ◌≤◌, take, IfOk};
-ghost use Rattle.salvaging.specs.Inner.{no_lines, with_line, up_to, with_record, place_of, Ruled};
+ghost use Rattle.std.specs.Prelude.{◌≡◌, ◌≤◌, take, IfOk, OnOk};
+ghost use Rattle.salvaging.specs.Inner.{no_lines, with_line, pushed, up_to, with_record, place_of, Ruled};
 ghost use Rattle.salvaging.specs.Salvage.{words_of};
 
 // A record that is kept, or a stretch that is left out.
@@ -66,39 +66,35 @@ impl Lines {
         &self.lines[..self.count]
     }
 
-    // A line that finds no room is told by its position. So below.
-    fn with(self, line: Line) -> Result<Lines, u64>
-        ensures { result ≡ with_line self line }
+    // A line that finds no room is told by its position, and changes nothing. So below.
+    fn push(&mut self, line: Line) -> Result<(), u64>
+        ensures { pushed result self.new ≡ with_line self.old line }
     {
         if 64 <= self.count {
             return Err(line.position());
         }
-        let mut after = self;
-        after.lines[self.count] = line;
-        after.count += 1;
-        Ok(after)
+        self.lines[self.count] = line;
+        self.count += 1;
+        Ok(())
     }
 
-    // What lies before a position and wasn't kept is lost.
-    pub fn up_to(self, position: u64) -> Result<Lines, u64>
-        ensures is { result ≡ up_to self position }
-        ensures rest { IfOk result (λ l. (l.end ≡ self.end) × (l.bytes ≡ self.bytes) × (self.count ≤ 64 → l.count ≤ 64)) }
+    fn leave_out(&mut self, to: u64) -> Result<(), u64>
+        ensures { pushed result self.new ≡ up_to self.old to }
     {
-        if self.end < position {
-            self.with(Line::Lost {
-                position: self.end,
-                length: position - self.end,
-            })
-        } else {
-            Ok(self)
+        if to <= self.end {
+            return Ok(());
         }
+        self.push(Line::Lost {
+            position: self.end,
+            length: to - self.end,
+        })
     }
 
-    // A record is kept.
-    pub fn with_record(self, position: u64, end: u64, id: u64) -> Result<Lines, u64>
-        requires { (Ruled self) × (self.end ≤ position) × (position ≤ end) }
-        ensures is { result ≡ with_record self position end id }
-        ensures rest { IfOk result (λ l. (l.end ≡ end) × (l.count ≤ 64) × Ruled l) }
+    // A record is kept, and what lies before it lost.
+    pub fn keep(&mut self, position: u64, end: u64, id: u64) -> Result<(), u64>
+        requires { (Ruled self.old) × (self.old.end ≤ position) × (position ≤ end) }
+        ensures is { pushed result self.new ≡ with_record self.old position end id }
+        ensures rest { OnOk result ((self.new.end ≡ end) × (self.new.count ≤ 64) × Ruled self.new) }
     {
         let length = end - position;
         let kept = Line::Kept {
@@ -106,9 +102,31 @@ impl Lines {
             length,
             id,
         };
-        let mut after = self.up_to(position)?.with(kept)?;
-        after.end = end;
-        after.bytes += length;
+        self.leave_out(position)?;
+        self.push(kept)?;
+        self.end = end;
+        self.bytes += length;
+        Ok(())
+    }
+
+    // What lies before a position and wasn't kept is lost.
+    pub fn up_to(self, position: u64) -> Result<Lines, u64>
+        ensures is { result ≡ up_to self position }
+        ensures rest { IfOk result (λ l. (l.end ≡ self.end) × (l.bytes ≡ self.bytes) × (self.count ≤ 64 → l.count ≤ 64)) }
+    {
+        let mut after = self;
+        after.leave_out(position)?;
+        Ok(after)
+    }
+
+    // The same by value.
+    pub fn with_record(self, position: u64, end: u64, id: u64) -> Result<Lines, u64>
+        requires { (Ruled self) × (self.end ≤ position) × (position ≤ end) }
+        ensures is { result ≡ with_record self position end id }
+        ensures rest { IfOk result (λ l. (l.end ≡ end) × (l.count ≤ 64) × Ruled l) }
+    {
+        let mut after = self;
+        after.keep(position, end, id)?;
         Ok(after)
     }
 }

@@ -15,7 +15,7 @@ pub fn lines_of(t: &[u64; 81], log: &[u8]) -> Result<Lines, u64>
     let mut lines = Lines::new();
     let mut at = 0;
     while let Search::Record(f) = search_in(t, log, at, false) {
-        lines = lines.with_record(f.position as u64, f.end as u64, f.id)?;
+        lines.keep(f.position as u64, f.end as u64, f.id)?;
         at = f.end;
     }
     lines.up_to(log.len() as u64)
