@@ -11,6 +11,7 @@ use super::plans::plan_for;
 use answer::Answer;
 use directory::{Directory, TableKind};
 use memory::Holder;
+use overlay::NewEntry;
 
 impl LogChange {
     // The mark that an insert adds to, or why it is refused.
@@ -66,11 +67,13 @@ impl LogChange {
                     self.counts,
                     words,
                     bytes,
-                    number,
-                    index,
-                    self.record_id,
-                    mark(kind, old, sub, data),
-                    data,
+                    NewEntry {
+                        table: number,
+                        index,
+                        id: self.record_id,
+                        mark: mark(kind, old, sub, data),
+                        bytes: data,
+                    },
                 );
                 Changed {
                     answer: Answer::Done,

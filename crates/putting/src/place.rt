@@ -6,6 +6,7 @@ ghost use Rattle.putting.specs.Inner.{parts_at, row_at, place_put, list_put, Row
 
 use directory::TableKind;
 use memory::{Counts, Holder};
+use overlay::NewEntry;
 
 // What the list says of a place.
 #[derive(Clone, Copy)]
@@ -50,11 +51,13 @@ fn put_place(
         counts,
         words,
         bytes,
-        row.table,
-        row.index,
-        id,
-        row.mark,
-        &stored[from..to],
+        NewEntry {
+            table: row.table,
+            index: row.index,
+            id,
+            mark: row.mark,
+            bytes: &stored[from..to],
+        },
     )
 }
 

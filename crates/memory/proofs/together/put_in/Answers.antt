@@ -23,12 +23,12 @@ put-n-requires c =
     let a = c.args in (
       lent-kept a.holder a.kind a.counts a.words.now a.bytes.now c.requires.0 c.span_of-s.result c.span_of-s.ensures c.of.result c.of.ensures,
       c.requires.1,
-      lent-takes a.holder a.kind a.counts a.words.now a.bytes.now c.requires.0 c.span_of-s.result c.span_of-s.ensures c.of.result c.of.ensures (rank a.table a.index) c.requires.2,
+      lent-takes a.holder a.kind a.counts a.words.now a.bytes.now c.requires.0 c.span_of-s.result c.span_of-s.ensures c.of.result c.of.ensures (rank a.e.table a.e.index) c.requires.2,
     )
 
 pub returns : goal.returns
 unfolding put_into
 returns c =
     let a = c.args in
-    comes_back a.holder a.kind a.counts a.words.now a.bytes.now c.requires.0 (λ (o : Overlay). put_over a.kind o a.table a.index a.id a.mark a.src.now) c.span_of-s.result c.span_of-s.ensures c.of.result c.of.ensures c.put-n.result c.with.result c.with.ensures
+    comes_back a.holder a.kind a.counts a.words.now a.bytes.now c.requires.0 (λ (o : Overlay). put_over a.kind o a.e.table a.e.index a.e.id a.e.mark a.e.bytes.now) c.span_of-s.result c.span_of-s.ensures c.of.result c.of.ensures c.put-n.result c.with.result c.with.ensures
     c.put-n.new.words c.put-n.new.bytes c.words-1.given.0 c.bytes-1.given.0 c.put-n.ensures

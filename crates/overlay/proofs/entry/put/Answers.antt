@@ -24,7 +24,7 @@ row_put-requires c =
     let over : Overlay = overlay_of c.args.room c.args.words.now c.args.bytes.now c.args.n in
     let known : Kept c.args.kind c.args.room over = shows c.args.kind c.args.room over c.requires.0 in
     let long : length c.args.words.now ≡ 5 * c.args.room = words_long c.args.room c.args.words.now known.rows_long known.order-long in
-    let key : ℕ = rank c.args.table c.args.index in
+    let key : ℕ = rank c.args.e.table c.args.e.index in
     let seat-is : seat_in (overlay_of c.args.room c.args.words.now [] c.args.n) key ≡ seat_in over key = seat_keys (rows_of c.args.room c.args.words.now) (order_of c.args.room c.args.words.now) c.args.bytes.now c.args.n key in
     let there : Seated c.args.kind c.args.room over c.requires.0 key c.in-Over.p = seated c.args.kind c.args.room over c.requires.0 key c.in-Over.p (sym (c.seat_of.ensures ∙ seat-is) ∙ c.in-Over.is) in
     (long, there.low)
@@ -32,7 +32,7 @@ row_put-requires c =
 pub overflow_mul-s : goal.overflow_mul-s
 overflow_mul-s c =
     let over : Overlay = overlay_of c.args.room c.args.words.now c.args.bytes.now c.args.n in
-    let key : ℕ = rank c.args.table c.args.index in
+    let key : ℕ = rank c.args.e.table c.args.e.index in
     let seat-is : seat_in (overlay_of c.args.room c.args.words.now [] c.args.n) key ≡ seat_in over key = seat_keys (rows_of c.args.room c.args.words.now) (order_of c.args.room c.args.words.now) c.args.bytes.now c.args.n key in
     let there : Seated c.args.kind c.args.room over c.requires.0 key c.in-Over.p = seated c.args.kind c.args.room over c.requires.0 key c.in-Over.p (sym (c.seat_of.ensures ∙ seat-is) ∙ c.in-Over.is) in
     rw c.slot_size-s.ensures.0 (omega (arith, there.slot))
@@ -40,7 +40,7 @@ overflow_mul-s c =
 pub copy_in-requires : goal.copy_in-requires
 copy_in-requires c =
     let over : Overlay = overlay_of c.args.room c.args.words.now c.args.bytes.now c.args.n in
-    let key : ℕ = rank c.args.table c.args.index in
+    let key : ℕ = rank c.args.e.table c.args.e.index in
     let seat-is : seat_in (overlay_of c.args.room c.args.words.now [] c.args.n) key ≡ seat_in over key = seat_keys (rows_of c.args.room c.args.words.now) (order_of c.args.room c.args.words.now) c.args.bytes.now c.args.n key in
     let there : Seated c.args.kind c.args.room over c.requires.0 key c.in-Over.p = seated c.args.kind c.args.room over c.requires.0 key c.in-Over.p (sym (c.seat_of.ensures ∙ seat-is) ∙ c.in-Over.is) in
     rw c.slot_size-s.ensures.0 (omega (arith, there.slot, c.requires.1))
@@ -50,7 +50,7 @@ order_put-requires c =
     let over : Overlay = overlay_of c.args.room c.args.words.now c.args.bytes.now c.args.n in
     let known : Kept c.args.kind c.args.room over = shows c.args.kind c.args.room over c.requires.0 in
     let long : length c.args.words.now ≡ 5 * c.args.room = words_long c.args.room c.args.words.now known.rows_long known.order-long in
-    let key : ℕ = rank c.args.table c.args.index in
+    let key : ℕ = rank c.args.e.table c.args.e.index in
     let seat-is : seat_in (overlay_of c.args.room c.args.words.now [] c.args.n) key ≡ seat_in over key = seat_keys (rows_of c.args.room c.args.words.now) (order_of c.args.room c.args.words.now) c.args.bytes.now c.args.n key in
     let missing : Unseated c.args.kind c.args.room over c.requires.0 key c.in-Next.j = unseated c.args.kind c.args.room over c.requires.0 key c.in-Next.j (sym (c.seat_of.ensures ∙ seat-is) ∙ c.in-Next.is) in
     let free : c.args.n < c.args.room = c.requires.2 missing.lacks in
@@ -61,7 +61,7 @@ row_put-requires-in-Next c =
     let over : Overlay = overlay_of c.args.room c.args.words.now c.args.bytes.now c.args.n in
     let known : Kept c.args.kind c.args.room over = shows c.args.kind c.args.room over c.requires.0 in
     let long : length c.args.words.now ≡ 5 * c.args.room = words_long c.args.room c.args.words.now known.rows_long known.order-long in
-    let key : ℕ = rank c.args.table c.args.index in
+    let key : ℕ = rank c.args.e.table c.args.e.index in
     let seat-is : seat_in (overlay_of c.args.room c.args.words.now [] c.args.n) key ≡ seat_in over key = seat_keys (rows_of c.args.room c.args.words.now) (order_of c.args.room c.args.words.now) c.args.bytes.now c.args.n key in
     let missing : Unseated c.args.kind c.args.room over c.requires.0 key c.in-Next.j = unseated c.args.kind c.args.room over c.requires.0 key c.in-Next.j (sym (c.seat_of.ensures ∙ seat-is) ∙ c.in-Next.is) in
     let free : c.args.n < c.args.room = c.requires.2 missing.lacks in
@@ -70,7 +70,7 @@ row_put-requires-in-Next c =
 pub overflow_mul-s-in-Next : goal.overflow_mul-s-in-Next
 overflow_mul-s-in-Next c =
     let over : Overlay = overlay_of c.args.room c.args.words.now c.args.bytes.now c.args.n in
-    let key : ℕ = rank c.args.table c.args.index in
+    let key : ℕ = rank c.args.e.table c.args.e.index in
     let seat-is : seat_in (overlay_of c.args.room c.args.words.now [] c.args.n) key ≡ seat_in over key = seat_keys (rows_of c.args.room c.args.words.now) (order_of c.args.room c.args.words.now) c.args.bytes.now c.args.n key in
     let missing : Unseated c.args.kind c.args.room over c.requires.0 key c.in-Next.j = unseated c.args.kind c.args.room over c.requires.0 key c.in-Next.j (sym (c.seat_of.ensures ∙ seat-is) ∙ c.in-Next.is) in
     let free : c.args.n < c.args.room = c.requires.2 missing.lacks in
@@ -80,7 +80,7 @@ overflow_mul-s-in-Next c =
 pub copy_in-requires-in-Next : goal.copy_in-requires-in-Next
 copy_in-requires-in-Next c =
     let over : Overlay = overlay_of c.args.room c.args.words.now c.args.bytes.now c.args.n in
-    let key : ℕ = rank c.args.table c.args.index in
+    let key : ℕ = rank c.args.e.table c.args.e.index in
     let seat-is : seat_in (overlay_of c.args.room c.args.words.now [] c.args.n) key ≡ seat_in over key = seat_keys (rows_of c.args.room c.args.words.now) (order_of c.args.room c.args.words.now) c.args.bytes.now c.args.n key in
     let missing : Unseated c.args.kind c.args.room over c.requires.0 key c.in-Next.j = unseated c.args.kind c.args.room over c.requires.0 key c.in-Next.j (sym (c.seat_of.ensures ∙ seat-is) ∙ c.in-Next.is) in
     let free : c.args.n < c.args.room = c.requires.2 missing.lacks in
@@ -92,7 +92,7 @@ overflow_add-result c =
     let over : Overlay = overlay_of c.args.room c.args.words.now c.args.bytes.now c.args.n in
     let known : Kept c.args.kind c.args.room over = shows c.args.kind c.args.room over c.requires.0 in
     let long : length c.args.words.now ≡ 5 * c.args.room = words_long c.args.room c.args.words.now known.rows_long known.order-long in
-    let key : ℕ = rank c.args.table c.args.index in
+    let key : ℕ = rank c.args.e.table c.args.e.index in
     let seat-is : seat_in (overlay_of c.args.room c.args.words.now [] c.args.n) key ≡ seat_in over key = seat_keys (rows_of c.args.room c.args.words.now) (order_of c.args.room c.args.words.now) c.args.bytes.now c.args.n key in
     let missing : Unseated c.args.kind c.args.room over c.requires.0 key c.in-Next.j = unseated c.args.kind c.args.room over c.requires.0 key c.in-Next.j (sym (c.seat_of.ensures ∙ seat-is) ∙ c.in-Next.is) in
     let free : c.args.n < c.args.room = c.requires.2 missing.lacks in
@@ -101,19 +101,19 @@ overflow_add-result c =
 pub returns-in-Over : goal.returns-in-Over
 returns-in-Over c =
     let over : Overlay = overlay_of c.args.room c.args.words.now c.args.bytes.now c.args.n in
-    let key : ℕ = rank c.args.table c.args.index in
+    let key : ℕ = rank c.args.e.table c.args.e.index in
     let seat-is : seat_in (overlay_of c.args.room c.args.words.now [] c.args.n) key ≡ seat_in over key = seat_keys (rows_of c.args.room c.args.words.now) (order_of c.args.room c.args.words.now) c.args.bytes.now c.args.n key in
     let there : Seated c.args.kind c.args.room over c.requires.0 key c.in-Over.p = seated c.args.kind c.args.room over c.requires.0 key c.in-Over.p (sym (c.seat_of.ensures ∙ seat-is) ∙ c.in-Over.is) in
     let a = c.args in
-    over-put a.kind over a.table a.index a.id a.mark a.src.now _ _ _ c.slot_size-s.result c.slot_size-s.ensures.0 c.in-Over.p
+    over-put a.kind over a.e.table a.e.index a.e.id a.e.mark a.e.bytes.now _ _ _ c.slot_size-s.result c.slot_size-s.ensures.0 c.in-Over.p
     there.there there.place c.row_put.ensures.0 c.row_put.ensures.1 c.copy_in.ensures
 
 pub returns-in-Next : goal.returns-in-Next
 returns-in-Next c =
     let over : Overlay = overlay_of c.args.room c.args.words.now c.args.bytes.now c.args.n in
-    let key : ℕ = rank c.args.table c.args.index in
+    let key : ℕ = rank c.args.e.table c.args.e.index in
     let seat-is : seat_in (overlay_of c.args.room c.args.words.now [] c.args.n) key ≡ seat_in over key = seat_keys (rows_of c.args.room c.args.words.now) (order_of c.args.room c.args.words.now) c.args.bytes.now c.args.n key in
     let missing : Unseated c.args.kind c.args.room over c.requires.0 key c.in-Next.j = unseated c.args.kind c.args.room over c.requires.0 key c.in-Next.j (sym (c.seat_of.ensures ∙ seat-is) ∙ c.in-Next.is) in
     let a = c.args in
-    next-put a.kind over a.table a.index a.id a.mark a.src.now _ _ _ c.slot_size-s.result c.slot_size-s.ensures.0 c.in-Next.j
-    missing.lacks missing.spot_is (c.row_put-in-Next.ensures.0 ∙ ap (λ (r : List ℕ). row_put_of r a.n a.table a.index a.id a.mark) c.order_put.ensures.0) (c.row_put-in-Next.ensures.1 ∙ c.order_put.ensures.1) c.copy_in-in-Next.ensures
+    next-put a.kind over a.e.table a.e.index a.e.id a.e.mark a.e.bytes.now _ _ _ c.slot_size-s.result c.slot_size-s.ensures.0 c.in-Next.j
+    missing.lacks missing.spot_is (c.row_put-in-Next.ensures.0 ∙ ap (λ (r : List ℕ). row_put_of r a.n a.e.table a.e.index a.e.id a.e.mark) c.order_put.ensures.0) (c.row_put-in-Next.ensures.1 ∙ c.order_put.ensures.1) c.copy_in-in-Next.ensures
