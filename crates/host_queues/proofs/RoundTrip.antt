@@ -1,12 +1,12 @@
 -- Queues that were stored load as what was stored: `load (store v) ≡ v`. What their types say of them (lengths of arrays, a range) is asked.
 -- Assumes nothing.
-use mathlib.Core.Path.{◌≡◌, refl, sym, ap, ap₂, ◌∙◌}
-use mathlib.Core.Bool.{Bool, true, false}
+use mathlib.Core.Path.{◌≡◌, refl, sym, ap, ◌∙◌}
+use mathlib.Core.Bool.{true, false}
 use mathlib.Core.List.{List, [], ◌∷◌, ◌++◌, append_assoc}
 use Prim.Native.Nat.{ℕ, ◌+◌, ◌<◌}
 use native.Mathlib.Omega.{arith}
 use borrow.Author.Tests.{lt-ltb, eq-eqb}
-use lib.Dec.{ltb, eqb}
+use lib.Dec.{ltb}
 use lib.ListN.{length, take, drop, get_or, length-append}
 use lib.Seq.{take_at, get_or-drop, drop-drop}
 use Rattle.words.proofs.Choices.{if_true}
@@ -15,8 +15,8 @@ use Rattle.numbers.specs.declared.queue.NumberQueue.{NumberQueue}
 use Rattle.numbers.proofs.Laws.{both}
 use Rattle.files.specs.Queues.{room_kept, queues_kept}
 use Rattle.files.specs.declared.queues.Queues.{Queues}
-use Rattle.host_words.proofs.RoundTrip.{flag_round, flag_low, past, past-at}
-use Rattle.host_queues.specs.Queues.{queues_formed, broken_queues, numbers_from, queue_from, queues_in, queues_from, queue_words, behind_words, queues_words}
+use Rattle.host_words.proofs.RoundTrip.{flag_round, flag_low, past}
+use Rattle.host_queues.specs.Queues.{queues_formed, broken_queues, queue_from, queues_from, queue_words, behind_words, queues_words}
 
 -- what the types say
 pub record Typed (q : Queues) : Type 0 where

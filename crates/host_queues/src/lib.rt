@@ -1,142 +1,117 @@
 // The file queues from words and back: any words load, those that are no queues as queues that break a rule.
 #![tactic(auto)]
 
-ghost use Rattle.std.specs.Prelude.{◌≡◌, true, ◌+◌, ◌≤◌, length};
-ghost use Rattle.output.specs.Put.{Wrote};
-ghost use Rattle.host_words.specs.Head.{HeadLeft};
-ghost use Rattle.host_queues.specs.Queues.{queues_size, queues_formed, queue_from, broken_queues, queues_in, queues_from, queue_words, front_words, behind_words, queues_words};
+ghost use Rattle.std.specs.Prelude.{◌≡◌, length};
+ghost use Rattle.host_queues.specs.Queues.{queue_from, broken_queues, queues_from, queue_words, front_words, behind_words, queues_words};
+ghost use Rattle.host_queues.specs.Inner.{queues_read};
 
-use answer::Answer;
 use files::{Appending, NumberQueue, Queues, Reading};
-use host_words::{flag, number, put_word, put_words, stored};
 
-fn formed(words: &[u64]) -> bool
-    ensures { result ≡ queues_formed words.now }
+// How many numbers stand in a queue, and 64 numbers.
+fn queue_of(words: &[u64]) -> NumberQueue
+    requires { length words.now ≡ 65 }
+    ensures { result ≡ queue_from words.now 0 }
 {
-    if words.len() != 331 {
-        return false;
-    }
-    if 2 <= words[0] {
-        return false;
-    }
-    if 2 <= words[68] {
-        return false;
-    }
-    if 4294967296 <= words[329] {
-        return false;
-    }
-    words[330] < 2
-}
-
-fn queue_at(words: &[u64], at: usize) -> NumberQueue
-    requires { at + 65 ≤ length words.now }
-    ensures { result ≡ queue_from words.now at }
-{
-    let mut numbers = [0u64; 64];
-    numbers::copy(&mut numbers, 0, words, at + 1, 64);
+    let mut numbers = [0; 64];
+    numbers.copy_from_slice(&words[1..]);
     NumberQueue {
-        count: words[at] as usize,
-        numbers: numbers,
+        count: words[0] as usize,
+        numbers,
     }
 }
 
-fn loaded(words: &[u64]) -> Queues
-    requires { queues_formed words.now ≡ true }
-    ensures { result ≡ queues_in words.now }
+// The queues that words are, where there are 331 and each is within its field's range.
+#[tactic(auto, unfolding(crate::specs::Queues::queues_formed))]
+fn loaded(words: &[u64]) -> Option<Queues>
+    ensures { result ≡ queues_read words.now }
 {
-    let mut ids = [0u64; 64];
-    numbers::copy(&mut ids, 0, words, 265, 64);
-    Queues {
+    if words.len() != 331 || words[0] > 1 || words[68] > 1 || words[330] > 1 {
+        return None;
+    }
+    let next_log_id = u32::try_from(words[329]).ok()?;
+    let mut replay_ids = [0; 64];
+    replay_ids.copy_from_slice(&words[265..329]);
+    Some(Queues {
         appending: Appending {
             some: words[0] == 1,
             id: words[1],
             size: words[2],
         },
-        read_queue: queue_at(words, 3),
+        read_queue: queue_of(&words[3..68]),
         reading: Reading {
             some: words[68] == 1,
             id: words[69],
         },
-        cleanup_queue: queue_at(words, 70),
-        log_pool: queue_at(words, 135),
-        replay_queue: queue_at(words, 200),
-        replay_ids: ids,
-        next_log_id: words[329] as u32,
+        cleanup_queue: queue_of(&words[70..135]),
+        log_pool: queue_of(&words[135..200]),
+        replay_queue: queue_of(&words[200..265]),
+        replay_ids,
+        next_log_id,
         dirty: words[330] == 1,
-    }
+    })
 }
 
 fn broken() -> Queues
     ensures { result ≡ broken_queues }
 {
-    let mut read = NumberQueue::new();
-    read.count = 65;
     let mut q = Queues::new();
-    q.read_queue = read;
+    q.read_queue.count = 65;
     q
 }
 
+#[tactic(auto, unfolding(crate::specs::Queues::queues_from))]
 pub fn queues_of(words: &[u64]) -> Queues
     ensures { result ≡ queues_from words.now }
 {
-    if formed(words) {
-        return loaded(words);
-    }
-    broken()
+    loaded(words).unwrap_or_else(broken)
 }
 
-fn put_queue(words: &mut [u64], at: usize, q: NumberQueue) -> usize
-    requires { at + 65 ≤ length words.old }
-    ensures { (Wrote words.old at (queue_words q) words.new result) × (result ≡ at + 65) }
+fn put_queue(words: &mut [u64], q: NumberQueue)
+    requires { length words.old ≡ 65 }
+    ensures { words.new ≡ queue_words q }
 {
-    let numbers = q.numbers;
-    let a = put_word(words, at, q.count as u64);
-    put_words(words, a, &numbers)
+    words[0] = q.count as u64;
+    words[1..].copy_from_slice(&q.numbers);
 }
 
 // The appending file, the read queue and the file being read.
-fn put_front(words: &mut [u64], q: Queues) -> usize
-    requires { 70 ≤ length words.old }
-    ensures { (Wrote words.old 0 (front_words q) words.new result) × (result ≡ 70) }
+fn put_front(words: &mut [u64], q: Queues)
+    requires { length words.old ≡ 70 }
+    ensures { words.new ≡ front_words q }
 {
-    let a = put_word(words, 0, flag(q.appending.some));
-    let b = put_word(words, a, q.appending.id);
-    let c = put_word(words, b, q.appending.size);
-    let d = put_queue(words, c, q.read_queue);
-    let e = put_word(words, d, flag(q.reading.some));
-    put_word(words, e, q.reading.id)
+    words[..3].copy_from_slice(&[
+        u64::from(q.appending.some),
+        q.appending.id,
+        q.appending.size,
+    ]);
+    put_queue(&mut words[3..68], q.read_queue);
+    words[68..].copy_from_slice(&[u64::from(q.reading.some), q.reading.id]);
 }
 
 // Cleanup, pool and replay queue.
-fn put_behind(words: &mut [u64], at: usize, q: Queues) -> usize
-    requires { at + 195 ≤ length words.old }
-    ensures { (Wrote words.old at (behind_words q) words.new result) × (result ≡ at + 195) }
+fn put_behind(words: &mut [u64], q: Queues)
+    requires { length words.old ≡ 195 }
+    ensures { words.new ≡ behind_words q }
 {
-    let a = put_queue(words, at, q.cleanup_queue);
-    let b = put_queue(words, a, q.log_pool);
-    put_queue(words, b, q.replay_queue)
+    put_queue(&mut words[..65], q.cleanup_queue);
+    put_queue(&mut words[65..130], q.log_pool);
+    put_queue(&mut words[130..], q.replay_queue);
 }
 
-fn store(words: &mut [u64], q: Queues)
-    requires { length words.old ≡ queues_size }
+fn put_queues(words: &mut [u64], q: Queues)
+    requires { length words.old ≡ 331 }
     ensures { words.new ≡ queues_words q }
 {
-    let ids = q.replay_ids;
-    let a = put_front(words, q);
-    let b = put_behind(words, a, q);
-    let c = put_words(words, b, &ids);
-    let d = put_word(words, c, q.next_log_id as u64);
-    put_word(words, d, flag(q.dirty));
+    put_front(&mut words[..70], q);
+    put_behind(&mut words[70..265], q);
+    words[265..329].copy_from_slice(&q.replay_ids);
+    words[329..].copy_from_slice(&[u64::from(q.next_log_id), u64::from(q.dirty)]);
 }
 
-// What a call answered, as a number; the words are then the queues that it left, where it answered 0 or 1.
-pub fn keep_queues(words: &mut [u64], answer: Answer, q: Queues) -> u64
-    ensures { HeadLeft queues_size answer (queues_words q) words.old result words.new }
+pub fn queues_words(q: Queues) -> [u64; 331]
+    ensures { result ≡ queues_words q }
 {
-    let n = number(answer);
-    if stored(331, n, words) {
-        store(words, q);
-        return n;
-    }
-    n
+    let mut words = [0; 331];
+    put_queues(&mut words, q);
+    words
 }

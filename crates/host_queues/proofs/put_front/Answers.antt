@@ -1,10 +1,14 @@
--- `put_front` meets its contract. Assumes nothing.
-use native.Mathlib.Omega.{arith}
-use Rattle.output.proofs.Laws.{◌⨾◌}
+-- `put_front` meets its contract: three words, a queue, two words. Assumes nothing.
+use Rattle.std.proofs.Common.{rules, [], ◌∷◌, ◌≡◌, length, refl, arith}
+use Rattle.numbers.proofs.Methods.{one-from}
+use Rattle.numbers.specs.Numbers.{one_if}
+use Rattle.host_queues.specs.Queues.{queue_words}
+use Rattle.host_queues.proofs.Laid.{three}
 use Rattle.host_queues.proofs.put_front.Goals as goal
 
--- src/lib.rt:106:1
 pub returns : goal.returns
 returns c =
-    let w = c.put_word-a.ensures ⨾ (c.put_word-b.ensures ⨾ (c.put_word-c.ensures ⨾ (c.put_queue-d.ensures.0 ⨾ (c.put_word-e.ensures ⨾ c.put_word.ensures)))) in
-    (rw (c.flag.ensures, c.flag-2.ensures) at w, omega (arith, c.put_word-a.ensures.next, c.put_word-b.ensures.next, c.put_word-c.ensures.next, c.put_queue-d.ensures.1, c.put_word-e.ensures.next, c.put_word.ensures.next))
+    let q = c.args.q in
+    let a : length q.read_queue.numbers ≡ 64 = search rules in
+    rw (c.copy_from_slice.ensures.after, c.put_queue.ensures, c.copy_from_slice-2.ensures.after, c.from.ensures, c.from-2.ensures, one-from q.appending.some, one-from q.reading.some)
+    (three c.args.words.now (one_if q.appending.some ∷ q.appending.id ∷ q.appending.size ∷ []) (queue_words q.read_queue) 3 65 refl (omega arith) (one_if q.reading.some ∷ q.reading.id ∷ []))
