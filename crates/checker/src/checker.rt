@@ -3,11 +3,11 @@ ghost use Rattle.std.specs.Prelude.{◌≡◌, true, ◌++◌, ◌+◌, ◌≤�
 ghost use Rattle.directory.specs.Directory.{directory_kept};
 ghost use Rattle.record.specs.Next.{step_of};
 ghost use Rattle.checker.specs.Check.{check_in};
-ghost use Rattle.checker.specs.Checker.{unread, padded, checker_start, waits, open_kept_of, stage_kept, checker_kept, answered, counted, keeping, settled, piece_by, piece_taken, piece_kept, piece_of, report_now, unclosed, closing, close_kept, close_of};
+ghost use Rattle.checker.specs.Checker.{unread, padded, checker_start, waits, open_kept_of, checker_kept, answered, counted, keeping, settled, piece_by, piece_taken, piece_kept, piece_of, report_now, unclosed, closing, close_kept, close_of};
 ghost use Rattle.checker.specs.Inner.{Stands, Takes, Front};
 
 use super::standing::Standing;
-use super::walk::{check_all, one_step};
+use super::walk::{check_all, decides, may_change, one_step};
 use answer::Answer;
 use directory::Directory;
 use record::LogReader;
@@ -78,7 +78,7 @@ fn waits(d: Directory, bytes: &[u8], reader: LogReader) -> bool
     ensures { result ≡ waits (step_of d bytes.now reader) }
 {
     match reader.next_kept(d, bytes) {
-        Err(x) => x.answer.number() < 3,
+        Err(x) => may_change(x.answer),
         Ok(_) => false,
     }
 }
@@ -171,27 +171,18 @@ impl LogChecker {
             && waits(self.directory, self.unread(), self.standing.reader)
     }
 
-    // Settled is only what stops a run.
-    fn stage_kept(self) -> bool
-        requires { directory_kept self.directory ≡ true }
-        ensures { result ≡ stage_kept self self.stage }
-    {
-        match self.stage {
-            Stage::Open => self.open_kept(),
-            Stage::Settled(ran) => {
-                let n = ran.answer.number();
-                3 <= n && n <= 12
-            }
-            Stage::Closed => true,
-        }
-    }
-
     // Whether it keeps its rules.
     #[tactic(auto, unfolding(crate::specs::Checker::checker_kept))]
     pub fn kept(self) -> bool
         ensures { result ≡ checker_kept self }
     {
-        self.directory.kept() && self.total < LIMIT && self.stage_kept()
+        self.directory.kept()
+            && self.total < LIMIT
+            && match self.stage {
+                Stage::Open => self.open_kept(),
+                Stage::Settled(ran) => decides(ran.answer),
+                Stage::Closed => true,
+            }
     }
 
     // Bytes of which the first is byte `base` of all, from where the check stands in them.

@@ -2,7 +2,7 @@
 ghost use Rattle.std.specs.Prelude.{◌≡◌, true, ◌+◌, ◌<◌};
 ghost use Rattle.directory.specs.Directory.{directory_kept};
 ghost use Rattle.record.specs.Next.{step_of};
-ghost use Rattle.checker.specs.Check.{after_record, after_opening, after_action, went_by, check_in};
+ghost use Rattle.checker.specs.Check.{may_change, decides, after_record, after_opening, after_action, went_by, check_in};
 ghost use Rattle.checker.specs.Inner.{Stands};
 
 use super::standing::Standing;
@@ -10,6 +10,20 @@ use answer::Answer;
 use directory::Directory;
 use record::{LogReader, Stepped};
 use replay::Ran;
+
+// 1 and 2, which bytes to come may change (no step is refused with 0).
+pub fn may_change(answer: Answer) -> bool
+    ensures { result ≡ may_change answer }
+{
+    answer.number() < 3
+}
+
+// 3 to 12: among these are all others that stop a run.
+pub fn decides(answer: Answer) -> bool
+    ensures { result ≡ decides answer }
+{
+    (3..=12).contains(&answer.number())
+}
 
 // Behind a begin tag.
 fn opened(s: Standing, r: LogReader) -> Result<Option<Standing>, Ran>
@@ -67,7 +81,7 @@ pub fn one_step(d: Directory, log: &[u8], base: usize, s: Standing) -> Result<Op
     match s.reader.next_kept(d, log) {
         Ok(t) => took(base, s, t),
         Err(x) => {
-            if x.answer.number() < 3 {
+            if may_change(x.answer) {
                 Ok(None)
             } else {
                 Err(s.report(x.answer, base + x.position))
