@@ -1,7 +1,6 @@
 -- What a lookup finds and answers (document 01: "Lookup goes to the local list first, then the shared overlays."). log.rs: `LogQuery`, lines 70
 -- to 90, for the overlays lines 159 to 202, for the writer's list lines 545 to 611.
 use Rattle.std.specs.Prelude.{Bool, true, false, ◌&&◌, List, [], ◌++◌, ℕ, eqb, take, drop, length, if◌then◌else◌, Result, Ok, Err}
-use Rattle.std.specs.Borrow.{Bor}
 use Rattle.std.proofs.Math.Option.{Option, none, some}
 use Rattle.directory.specs.declared.table.TableKind.{TableKind}
 use Rattle.answer.specs.Answer.{number_of}
@@ -53,10 +52,10 @@ told_by answer x = if eqb (number_of answer) 0 then Ok x else Err answer
 abbrev pub handed : Looked → Result (List ℕ) Answer
 handed l = told_by l.answer (bytes_of l.entry)
 
--- the same as the code has them: a part of a lent memory
-abbrev pub handed_out : Result (Bor (List ℕ)) Answer → Result (List ℕ) Answer
-handed_out (Ok part) = Ok part.now
-handed_out (Err answer) = Err answer
+-- the same as the code has them: a part of a lent memory, which holds those bytes
+abbrev pub handed_out : {A : Type 0} → (A → List ℕ) → Result A Answer → Result (List ℕ) Answer
+handed_out items (Ok part) = Ok (items part)
+handed_out items (Err answer) = Err answer
 
 -- whether there is one
 abbrev pub is_there : Option Entry → Bool

@@ -49,6 +49,8 @@ fn find_listed<'a>(
 }
 
 impl<'a> Lookup for Listed<'a> {
+    type Part = &'a [u8];
+
     ghost looked = { λ s kind key. listed_look kind (change_of s.list s.words.now s.bytes.now) (shared_part kind s.shared.overlays s.shared.words.now s.shared.bytes.now) key };
 
     ghost ruled = { λ s kind. (change_ruled (change_of s.list s.words.now s.bytes.now) ≡ true) × (overlay_kept kind 256 (shared_part kind s.shared.overlays s.shared.words.now s.shared.bytes.now) ≡ true) };
@@ -58,7 +60,7 @@ impl<'a> Lookup for Listed<'a> {
     }
 
     // The list's entry if there is one, else the shared one. No entry has no bytes.
-    fn find(&self, kind: TableKind, table: u16, index: u64) -> &[u8] {
+    fn find(&self, kind: TableKind, table: u16, index: u64) -> &'a [u8] {
         let mine = find_listed(kind, self.list.counts, self.words, self.bytes, table, index);
         if !mine.is_empty() {
             return mine;

@@ -10,8 +10,12 @@ ghost use Rattle.query.specs.Inner.{FoundFor};
 use super::copy::copy_over;
 use answer::Answer;
 use directory::{IndexTableId, RefCountTableId, TableKind, ValueTableId};
+use std::convert::AsSlice;
 
 pub trait Lookup {
+    // A part of a lent memory.
+    type Part: AsSlice<u8> + Drop;
+
     // What a lookup comes to.
     ghost looked: { Self → TableKind → ℕ → Looked };
 
@@ -25,12 +29,12 @@ pub trait Lookup {
         ensures fails { (key : ℕ) → result ≡ false → looked self.now kind key ≡ no_look };
 
     // The stored bytes themselves, none where nothing is found.
-    fn find(&self, kind: TableKind, table: u16, index: u64) -> &[u8]
+    fn find(&self, kind: TableKind, table: u16, index: u64) -> Self::Part
         requires { ruled self.now kind }
-        ensures { FoundFor (looked self.now kind (rank table index)) result.now };
+        ensures { FoundFor (looked self.now kind (rank table index)) (Self.Part.items result) };
 
-    fn look(&self, kind: TableKind, table: u16, index: u64) -> Result<&[u8], Answer>
-        ensures { handed_out result ≡ handed (looked self.now kind (rank table index)) }
+    fn look(&self, kind: TableKind, table: u16, index: u64) -> Result<Self::Part, Answer>
+        ensures { handed_out Self.Part.items result ≡ handed (looked self.now kind (rank table index)) }
     {
         if !self.kept(kind) {
             return Err(Answer::BadState);
@@ -38,41 +42,41 @@ pub trait Lookup {
         Ok(self.find(kind, table, index))
     }
 
-    fn with_index(&self, table: IndexTableId, index: u64) -> Result<&[u8], Answer>
-        ensures { handed_out result ≡ handed (looked self.now Index (rank table.0 index)) }
+    fn with_index(&self, table: IndexTableId, index: u64) -> Result<Self::Part, Answer>
+        ensures { handed_out Self.Part.items result ≡ handed (looked self.now Index (rank table.0 index)) }
     {
         self.look(TableKind::Index, table.0, index)
     }
 
-    fn with_index_kept(&self, table: IndexTableId, index: u64) -> &[u8]
+    fn with_index_kept(&self, table: IndexTableId, index: u64) -> Self::Part
         requires { ruled self.now Index }
-        ensures { result.now ≡ bytes_of (looked self.now Index (rank table.0 index)).entry }
+        ensures { Self.Part.items result ≡ bytes_of (looked self.now Index (rank table.0 index)).entry }
     {
         self.find(TableKind::Index, table.0, index)
     }
 
-    fn value_ref(&self, table: ValueTableId, index: u64) -> Result<&[u8], Answer>
-        ensures { handed_out result ≡ handed (looked self.now Value (rank table.0 index)) }
+    fn value_ref(&self, table: ValueTableId, index: u64) -> Result<Self::Part, Answer>
+        ensures { handed_out Self.Part.items result ≡ handed (looked self.now Value (rank table.0 index)) }
     {
         self.look(TableKind::Value, table.0, index)
     }
 
-    fn value_ref_kept(&self, table: ValueTableId, index: u64) -> &[u8]
+    fn value_ref_kept(&self, table: ValueTableId, index: u64) -> Self::Part
         requires { ruled self.now Value }
-        ensures { result.now ≡ bytes_of (looked self.now Value (rank table.0 index)).entry }
+        ensures { Self.Part.items result ≡ bytes_of (looked self.now Value (rank table.0 index)).entry }
     {
         self.find(TableKind::Value, table.0, index)
     }
 
-    fn ref_count(&self, table: RefCountTableId, index: u64) -> Result<&[u8], Answer>
-        ensures { handed_out result ≡ handed (looked self.now RefCount (rank table.0 index)) }
+    fn ref_count(&self, table: RefCountTableId, index: u64) -> Result<Self::Part, Answer>
+        ensures { handed_out Self.Part.items result ≡ handed (looked self.now RefCount (rank table.0 index)) }
     {
         self.look(TableKind::RefCount, table.0, index)
     }
 
-    fn ref_count_kept(&self, table: RefCountTableId, index: u64) -> &[u8]
+    fn ref_count_kept(&self, table: RefCountTableId, index: u64) -> Self::Part
         requires { ruled self.now RefCount }
-        ensures { result.now ≡ bytes_of (looked self.now RefCount (rank table.0 index)).entry }
+        ensures { Self.Part.items result ≡ bytes_of (looked self.now RefCount (rank table.0 index)).entry }
     {
         self.find(TableKind::RefCount, table.0, index)
     }
@@ -94,7 +98,7 @@ pub trait Lookup {
         ensures copied { dest.new ≡ copied_over (bytes_of (looked self.now Value (rank table.0 index)).entry) dest.old }
     {
         let stored = self.find(TableKind::Value, table.0, index);
-        copy_over(dest, stored);
-        !stored.is_empty()
+        copy_over(dest, stored.as_slice());
+        !stored.as_slice().is_empty()
     }
 }

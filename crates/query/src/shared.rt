@@ -20,6 +20,8 @@ pub struct Shared<'a> {
 }
 
 impl<'a> Lookup for Shared<'a> {
+    type Part = &'a [u8];
+
     ghost looked = { λ s kind key. shared_look kind (shared_part kind s.overlays s.words.now s.bytes.now) key };
 
     ghost ruled = { λ s kind. overlay_kept kind 256 (shared_part kind s.overlays s.words.now s.bytes.now) ≡ true };
@@ -29,7 +31,7 @@ impl<'a> Lookup for Shared<'a> {
         overlay::kept(kind, 256, self.words, self.bytes, n)
     }
 
-    fn find(&self, kind: TableKind, table: u16, index: u64) -> &[u8] {
+    fn find(&self, kind: TableKind, table: u16, index: u64) -> &'a [u8] {
         let n = self.overlays.counts.of(kind);
         find_in(kind, 256, self.words, self.bytes, n, table, index)
     }
