@@ -1,20 +1,22 @@
 // The file queues' calls.
 ghost use Rattle.std.specs.Prelude.{◌≡◌, true, ltb, length};
-ghost use Rattle.answer.specs.Answer.{number_of};
+ghost use Rattle.std.specs.Option.{is_some, unwrap_or};
+ghost use Rattle.answer.specs.Answer.{number_of, answer_in};
 ghost use Rattle.numbers.specs.Numbers.{over};
 ghost use Rattle.found.specs.Names.{said_by};
 ghost use Rattle.found.specs.Logs.{removed};
 ghost use Rattle.files.specs.Queues.{queues_kept};
 ghost use Rattle.files.specs.Moves.{no_files};
+ghost use Rattle.files.specs.Open.{remove_count_of};
 ghost use Rattle.files.specs.Calls.{flush_one_kept, flush_one, replay_record_id, replay_next_kept, replay_next, clean_logs_kept, clean_logs, kill_logs_kept, kill_logs};
 ghost use Rattle.host_words.specs.Head.{head_room, head_after};
 ghost use Rattle.host_queues.specs.Queues.{queues_size, queues_from, queues_words};
-ghost use Rattle.edge_queues.specs.Queueing.{open_in, read_next_in, read_next_kept_in, FlushLeft, ReplayLeft, KillLeft, CleanLeft, ReadLeft};
+ghost use Rattle.edge_queues.specs.Queueing.{open_in, opened_words, no_reader, read_next_in, read_next_kept_in, FlushLeft, ReplayLeft, KillLeft, CleanLeft, ReadLeft};
 
 use answer::Answer;
 use files::{Cleaned, Flushed, Killed, Opened, Queues, ReadNext, ReplayNext};
-use host_queues::{keep_queues, queues_of};
-use host_words::{flag, head_room, keep_reader};
+use host_queues::{queues_of, queues_words};
+use host_words::{keep, make, reader_words};
 use record::LogReader;
 
 #[unsafe(no_mangle)]
@@ -22,10 +24,10 @@ pub extern "C" fn hongsathep_queues_new(queues: &mut [u64]) -> u64
     ensures answer { result ≡ number_of (head_room queues_size queues.old) }
     ensures queues { queues.new ≡ head_after queues_size (number_of (head_room queues_size queues.old)) queues.old (queues_words no_files) }
 {
-    let answer = head_room(queues, 331);
-    keep_queues(queues, answer, Queues::new())
+    make(queues, &queues_words(Queues::new()))
 }
 
+#[tactic(auto, unfolding(crate::specs::Queueing::open_in))]
 fn opened<'a>(
     names: &'a [u8],
     name_lengths: &'a [usize],
@@ -33,15 +35,12 @@ fn opened<'a>(
     heads: &'a [u8],
     remove: &mut [u64],
     words: usize,
-) -> Opened
-    ensures { (result ≡ open_in names.now name_lengths.now lengths.now heads.now (length remove.old) words) × (remove.new ≡ over remove.old (removed (said_by names.now name_lengths.now) lengths.now) result.remove_count) }
+) -> Result<Opened, Answer>
+    ensures opened { result ≡ open_in names.now name_lengths.now lengths.now heads.now (length remove.old) words }
+    ensures removed { remove.new ≡ over remove.old (Rattle.found.specs.Logs.removed (said_by names.now name_lengths.now) lengths.now) (remove_count_of result) }
 {
     if words != 331 {
-        return Opened {
-            answer: Answer::BadState,
-            remove_count: 0,
-            queues: Queues::new(),
-        };
+        return Err(Answer::BadState);
     }
     Queues::open(names, name_lengths, lengths, heads, remove)
 }
@@ -56,49 +55,46 @@ pub extern "C" fn hongsathep_open<'a>(
     removed: &mut u64,
     queues: &mut [u64],
 ) -> u64
-    ensures answer { result ≡ number_of (open_in names.now name_lengths.now lengths.now heads.now (length remove.old) (length queues.old)).answer }
-    ensures remove { remove.new ≡ over remove.old (Rattle.found.specs.Logs.removed (said_by names.now name_lengths.now) lengths.now) (open_in names.now name_lengths.now lengths.now heads.now (length remove.old) (length queues.old)).remove_count }
-    ensures removed { removed.new ≡ (open_in names.now name_lengths.now lengths.now heads.now (length remove.old) (length queues.old)).remove_count }
-    ensures queues { queues.new ≡ head_after queues_size (number_of (open_in names.now name_lengths.now lengths.now heads.now (length remove.old) (length queues.old)).answer) queues.old (queues_words (open_in names.now name_lengths.now lengths.now heads.now (length remove.old) (length queues.old)).queues) }
+    ensures answer { result ≡ number_of (answer_in (open_in names.now name_lengths.now lengths.now heads.now (length remove.old) (length queues.old))) }
+    ensures remove { remove.new ≡ over remove.old (Rattle.found.specs.Logs.removed (said_by names.now name_lengths.now) lengths.now) (remove_count_of (open_in names.now name_lengths.now lengths.now heads.now (length remove.old) (length queues.old))) }
+    ensures removed { removed.new ≡ remove_count_of (open_in names.now name_lengths.now lengths.now heads.now (length remove.old) (length queues.old)) }
+    ensures queues { queues.new ≡ opened_words (open_in names.now name_lengths.now lengths.now heads.now (length remove.old) (length queues.old)) queues.old }
 {
-    let n = queues.len();
-    let o = opened(names, name_lengths, lengths, heads, remove, n);
-    *removed = o.remove_count as u64;
-    let answer = o.answer;
-    let q = o.queues;
-    keep_queues(queues, answer, q)
+    match opened(names, name_lengths, lengths, heads, remove, queues.len()) {
+        Ok(o) => {
+            *removed = o.remove_count as u64;
+            keep(queues, Answer::Done, &queues_words(o.queues))
+        }
+        Err(answer) => {
+            *removed = 0;
+            u64::from(answer.number())
+        }
+    }
 }
 
 // What a call hands back, stored where the host lent room for it. One for both doors.
 fn keep_flush(queues: &mut [u64], done: Flushed, moved: &mut u64, number: &mut u64) -> u64
     ensures { FlushLeft done queues.old result queues.new moved.new number.new }
 {
-    *moved = flag(done.moved);
-    *number = done.number;
-    let answer = done.answer;
-    let left = done.queues;
-    keep_queues(queues, answer, left)
+    *moved = u64::from(done.moved.is_some());
+    *number = done.moved.unwrap_or(0);
+    keep(queues, done.answer, &queues_words(done.queues))
 }
 
 fn keep_replay(queues: &mut [u64], done: ReplayNext, found: &mut u64, number: &mut u64) -> u64
     ensures { ReplayLeft done queues.old result queues.new found.new number.new }
 {
-    *found = flag(done.found);
-    *number = done.number;
-    let answer = done.answer;
-    let left = done.queues;
-    keep_queues(queues, answer, left)
+    *found = u64::from(done.number.is_some());
+    *number = done.number.unwrap_or(0);
+    keep(queues, done.answer, &queues_words(done.queues))
 }
 
 fn keep_killed(queues: &mut [u64], done: Killed, remove: &mut [u64; 64], removed: &mut u64) -> u64
     ensures { KillLeft done queues.old result queues.new remove.new removed.new }
 {
-    let remove_numbers = done.remove.numbers;
-    *remove = remove_numbers;
+    remove.copy_from_slice(&done.remove.numbers);
     *removed = done.remove.count as u64;
-    let answer = done.answer;
-    let left = done.queues;
-    keep_queues(queues, answer, left)
+    keep(queues, done.answer, &queues_words(done.queues))
 }
 
 fn keep_cleaned(
@@ -112,33 +108,38 @@ fn keep_cleaned(
 ) -> u64
     ensures { CleanLeft done queues.old result queues.new more.new empty.new emptied.new remove.new removed.new }
 {
-    *more = flag(done.more);
-    let empty_numbers = done.empty.numbers;
-    *empty = empty_numbers;
+    *more = u64::from(done.more);
+    empty.copy_from_slice(&done.empty.numbers);
     *emptied = done.empty.count as u64;
-    let remove_numbers = done.remove.numbers;
-    *remove = remove_numbers;
+    remove.copy_from_slice(&done.remove.numbers);
     *removed = done.remove.count as u64;
-    let answer = done.answer;
-    let left = done.queues;
-    keep_queues(queues, answer, left)
+    keep(queues, done.answer, &queues_words(done.queues))
 }
 
+// A refusal for the words lent for the reader, too many or too few.
+fn no_reader(queues: Queues, position: usize, validate: bool) -> ReadNext
+    ensures { result ≡ no_reader queues position validate }
+{
+    ReadNext {
+        answer: Answer::BadState,
+        number: 0,
+        reader: LogReader::new(position, validate),
+        queues,
+    }
+}
+
+#[tactic(auto, unfolding(crate::specs::Queueing::read_next_in))]
 fn read_next(queues: &[u64], log: &[u8], position: usize, validate: bool, words: usize) -> ReadNext
     ensures { result ≡ read_next_in queues.now log.now position validate words }
 {
     let q = queues_of(queues);
     if words != 5 {
-        return ReadNext {
-            answer: Answer::BadState,
-            number: 0,
-            reader: LogReader::new(position, validate),
-            queues: q,
-        };
+        return no_reader(q, position, validate);
     }
     q.read_next(log, position, validate)
 }
 
+#[tactic(auto, unfolding(crate::specs::Queueing::read_next_kept_in))]
 fn read_next_kept(
     queues: &[u64],
     log: &[u8],
@@ -151,12 +152,7 @@ fn read_next_kept(
 {
     let q = queues_of(queues);
     if words != 5 {
-        return ReadNext {
-            answer: Answer::BadState,
-            number: 0,
-            reader: LogReader::new(position, validate),
-            queues: q,
-        };
+        return no_reader(q, position, validate);
     }
     q.read_next_kept(log, position, validate)
 }
@@ -165,11 +161,8 @@ fn keep_read(queues: &mut [u64], done: ReadNext, number: &mut u64, reader: &mut 
     ensures { ReadLeft done queues.old result queues.new number.new reader.old reader.new }
 {
     *number = done.number;
-    let answer = done.answer;
-    let begun = done.reader;
-    let left = done.queues;
-    keep_reader(reader, answer, begun);
-    keep_queues(queues, answer, left)
+    keep(reader, done.answer, &reader_words(done.reader));
+    keep(queues, done.answer, &queues_words(done.queues))
 }
 
 #[unsafe(no_mangle)]
@@ -293,8 +286,7 @@ pub extern "C" fn hongsathep_read_next(
 ) -> u64
     ensures { ReadLeft (read_next_in queues.old log.now position validate (length reader.old)) queues.old result queues.new number.new reader.old reader.new }
 {
-    let n = reader.len();
-    let done = read_next(queues, log, position, validate, n);
+    let done = read_next(queues, log, position, validate, reader.len());
     keep_read(queues, done, number, reader)
 }
 
@@ -310,20 +302,19 @@ pub extern "C" fn hongsathep_read_next_kept(
     requires { queues_kept (queues_from queues.old) ≡ true }
     ensures { ReadLeft (read_next_kept_in queues.old log.now position validate (length reader.old)) queues.old result queues.new number.new reader.old reader.new }
 {
-    let n = reader.len();
-    let done = read_next_kept(queues, log, position, validate, n);
+    let done = read_next_kept(queues, log, position, validate, reader.len());
     keep_read(queues, done, number, reader)
 }
 
 // Whether there is a file to replay; its first id.
 #[unsafe(no_mangle)]
 pub extern "C" fn hongsathep_replay_record_id(queues: &[u64], id: &mut u64) -> bool
-    ensures found { result ≡ (replay_record_id (queues_from queues.now)).found }
-    ensures id { id.new ≡ (replay_record_id (queues_from queues.now)).id }
+    ensures found { result ≡ is_some (replay_record_id (queues_from queues.now)) }
+    ensures id { id.new ≡ unwrap_or (replay_record_id (queues_from queues.now)) 0 }
 {
     let first = queues_of(queues).replay_record_id();
-    *id = first.id;
-    first.found
+    *id = first.unwrap_or(0);
+    first.is_some()
 }
 
 #[unsafe(no_mangle)]

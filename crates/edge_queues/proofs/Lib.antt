@@ -1,2 +1,0 @@
--- The laws, for other crates to cite.
-pub mod Left
