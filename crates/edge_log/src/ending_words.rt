@@ -1,6 +1,6 @@
 // The calls that touch several states: the beginning and the end of a record, clearing.
-ghost use Rattle.std.specs.Prelude.{◌≡◌, true, length};
-ghost use Rattle.answer.specs.Answer.{number_of};
+ghost use Rattle.std.specs.Prelude.{◌≡◌, true, length, Ok};
+ghost use Rattle.answer.specs.Answer.{number_of, answer_in};
 ghost use Rattle.directory.specs.Directory.{directory_kept};
 ghost use Rattle.memory.specs.Parts.{parts_of, parts_kept};
 ghost use Rattle.memory.specs.Overlays.{overlays_of, no_overlays, last_id_of};
@@ -11,17 +11,17 @@ ghost use Rattle.ending.specs.EndRecord.{handed_of, handed_kept, end_record};
 ghost use Rattle.log_calls.specs.ClearReplay.{logs_cleared_kept, logs_cleared};
 ghost use Rattle.host_words.specs.Tables.{directory_from};
 ghost use Rattle.host_words.specs.Head.{head_room, head_after};
-ghost use Rattle.host_words.specs.Change.{list_size, list_from, list_words_of, counts_in};
+ghost use Rattle.host_words.specs.Change.{list_from, counts_in};
 ghost use Rattle.host_words.specs.Overlays.{overlays_size, overlays_from, overlays_words, overlays_left};
 ghost use Rattle.host_queues.specs.Queues.{queues_from};
-ghost use Rattle.edge_log.specs.Ending.{source_number, begin_in, heads_of, ClearLeft, EndedLeft, EndLeft};
+ghost use Rattle.edge_log.specs.Ending.{source_number, begin_in, begun_next, begun_list, heads_of, ClearLeft, EndedLeft, ReadLeft, EndLeft};
 
-use answer::Answer;
-use change::LogChange;
+use answer::{Answer, Refusal};
+use clearing::EndRead;
 use ending::Ended;
-use files::FileSource;
-use host_queues::{keep_queues, queues_of};
-use host_words::{directory_of, head_room, keep_list, keep_overlays, list_of, overlays_of};
+use files::{FileSource, Queues};
+use host_queues::{queues_of, queues_words};
+use host_words::{directory_of, keep, list_of, list_words, make, overlays_of, overlays_words};
 use log_calls::{Begun, LogsCleared};
 use memory::LogOverlays;
 
@@ -30,8 +30,7 @@ pub extern "C" fn hongsathep_overlays_new(overlays: &mut [u64]) -> u64
     ensures answer { result ≡ number_of (head_room overlays_size overlays.old) }
     ensures overlays { overlays.new ≡ head_after overlays_size (number_of (head_room overlays_size overlays.old)) overlays.old (overlays_words no_overlays) }
 {
-    let answer = head_room(overlays, 11);
-    keep_overlays(overlays, answer, LogOverlays::new())
+    make(overlays, &overlays_words(LogOverlays::new()))
 }
 
 #[unsafe(no_mangle)]
@@ -52,63 +51,103 @@ fn source_number(source: FileSource) -> u64
     }
 }
 
-fn begin(next: u64, words: usize) -> Begun
+#[tactic(auto, unfolding(crate::specs::Ending::begin_in))]
+fn begin(next: u64, words: usize) -> Result<Begun, Answer>
     ensures { result ≡ begin_in next words }
 {
     if words != 38 {
-        return Begun {
-            answer: Answer::BadState,
-            next_record_id: next,
-            list: LogChange::new(answer::LAST_RECORD_ID),
-        };
+        return Err(Answer::BadState);
     }
     log_calls::begin_record(next)
 }
 
-// What a call hands back, stored where the host lent room for it: one for both doors.
+// What `end_record` hands back, stored where the host lent room for it; a refusal leaves the states that it was handed.
 fn keep_ended(
     overlays: &mut [u64],
     queues: &mut [u64],
-    done: Ended,
+    done: Result<Ended, Answer>,
+    o: LogOverlays,
+    q: Queues,
     size: &mut u64,
     source: &mut u64,
     file: &mut u64,
 ) -> u64
-    ensures { EndedLeft done (heads_of overlays.old queues.old) result (heads_of overlays.new queues.new) size.new source.new file.new }
+    ensures { EndedLeft o q done (heads_of overlays.old queues.old) result (heads_of overlays.new queues.new) size.new source.new file.new }
 {
-    *size = done.length as u64;
-    let from = done.source;
-    *source = source_number(from);
-    *file = done.number;
-    let answer = done.answer;
-    let o = done.overlays;
-    let q = done.queues;
-    keep_overlays(overlays, answer, o);
-    keep_queues(queues, answer, q)
+    match done {
+        Ok(ended) => {
+            *size = ended.length as u64;
+            *source = source_number(ended.source);
+            *file = ended.number;
+            keep(overlays, Answer::Done, &overlays_words(ended.overlays));
+            keep(queues, Answer::Done, &queues_words(ended.queues))
+        }
+        Err(answer) => {
+            *size = 0;
+            *source = 0;
+            *file = 0;
+            keep(overlays, answer, &overlays_words(o));
+            keep(queues, answer, &queues_words(q))
+        }
+    }
 }
 
-fn keep_cleared(overlays: &mut [u64], queues: &mut [u64], done: LogsCleared) -> u64
+// What `end_read` hands back by value, likewise.
+fn keep_read(
+    overlays: &mut [u64],
+    done: Result<EndRead, Refusal>,
+    position: usize,
+    o: LogOverlays,
+    next: &mut u64,
+    end: &mut u64,
+    id: &mut u64,
+    fault: &mut u64,
+) -> u64
+    ensures { ReadLeft position o next.old done overlays.old result overlays.new next.new end.new id.new fault.new }
+{
+    match done {
+        Ok(read) => {
+            *next = read.next_record_id;
+            *end = read.position as u64;
+            *id = read.record_id;
+            *fault = read.position as u64;
+            keep(overlays, Answer::Done, &overlays_words(read.overlays))
+        }
+        Err(x) => {
+            *end = position as u64;
+            *id = 0;
+            *fault = x.position as u64;
+            keep(overlays, x.answer, &overlays_words(o))
+        }
+    }
+}
+
+// The cleared states; a refusal leaves the words as they were.
+fn keep_cleared(overlays: &mut [u64], queues: &mut [u64], done: Result<LogsCleared, Answer>) -> u64
     ensures { ClearLeft done (heads_of overlays.old queues.old) result (heads_of overlays.new queues.new) }
 {
-    let answer = done.answer;
-    let o = done.overlays;
-    let q = done.queues;
-    keep_overlays(overlays, answer, o);
-    keep_queues(queues, answer, q)
+    match done {
+        Ok(cleared) => {
+            keep(overlays, Answer::Done, &overlays_words(cleared.overlays));
+            keep(queues, Answer::Done, &queues_words(cleared.queues))
+        }
+        Err(answer) => u64::from(answer.number()),
+    }
 }
 
 #[unsafe(no_mangle)]
 pub extern "C" fn hongsathep_begin_record(next: &mut u64, list: &mut [u64]) -> u64
-    ensures answer { result ≡ number_of (begin_in next.old (length list.old)).answer }
-    ensures next { next.new ≡ (begin_in next.old (length list.old)).next_record_id }
-    ensures list { list.new ≡ head_after list_size (number_of (begin_in next.old (length list.old)).answer) list.old (list_words_of (begin_in next.old (length list.old)).list) }
+    ensures answer { result ≡ number_of (answer_in (begin_in next.old (length list.old))) }
+    ensures next { next.new ≡ begun_next next.old (begin_in next.old (length list.old)) }
+    ensures list { list.new ≡ begun_list list.old (begin_in next.old (length list.old)) }
 {
-    let n = list.len();
-    let begun = begin(*next, n);
-    *next = begun.next_record_id;
-    let answer = begun.answer;
-    let left = begun.list;
-    keep_list(list, answer, left)
+    match begin(*next, list.len()) {
+        Ok(begun) => {
+            *next = begun.next_record_id;
+            keep(list, Answer::Done, &list_words(begun.list))
+        }
+        Err(answer) => u64::from(answer.number()),
+    }
 }
 
 #[unsafe(no_mangle)]
@@ -134,7 +173,7 @@ pub extern "C" fn hongsathep_end_record<'a>(
     let o = overlays_of(overlays);
     let q = queues_of(queues);
     let done = ending::end_record(d, l, items, chunks, o, words, bytes, q, next, out);
-    keep_ended(overlays, queues, done, size, source, file)
+    keep_ended(overlays, queues, done, o, q, size, source, file)
 }
 
 #[unsafe(no_mangle)]
@@ -161,7 +200,7 @@ pub extern "C" fn hongsathep_end_record_kept<'a>(
     let o = overlays_of(overlays);
     let q = queues_of(queues);
     let done = ending::end_record_kept(d, l, items, chunks, o, words, bytes, q, next, out);
-    keep_ended(overlays, queues, done, size, source, file)
+    keep_ended(overlays, queues, done, o, q, size, source, file)
 }
 
 #[unsafe(no_mangle)]
@@ -185,22 +224,10 @@ pub extern "C" fn hongsathep_end_read(
     ensures id { id.new ≡ (end_read_of (directory_from tables.now) log.now position (overlays_of (overlays_from overlays.old) words.old bytes.old) next.old).record_id }
     ensures fault { fault.new ≡ (end_read_of (directory_from tables.now) log.now position (overlays_of (overlays_from overlays.old) words.old bytes.old) next.old).fault_at }
 {
-    let done = clearing::end_read(
-        directory_of(tables),
-        log,
-        position,
-        overlays_of(overlays),
-        words,
-        bytes,
-        *next,
-    );
-    *next = done.next_record_id;
-    *end = done.position as u64;
-    *id = done.record_id;
-    *fault = done.fault_at as u64;
-    let answer = done.answer;
-    let o = done.overlays;
-    keep_overlays(overlays, answer, o)
+    let d = directory_of(tables);
+    let o = overlays_of(overlays);
+    let done = clearing::end_read(d, log, position, o, words, bytes, *next);
+    keep_read(overlays, done, position, o, next, end, id, fault)
 }
 
 #[unsafe(no_mangle)]
@@ -225,22 +252,10 @@ pub extern "C" fn hongsathep_end_read_kept(
     ensures id { id.new ≡ (end_read_by position (overlays_of (overlays_from overlays.old) words.old bytes.old) next.old (clearable (record_again (directory_from tables.now) log.now position))).record_id }
     ensures fault { fault.new ≡ (end_read_by position (overlays_of (overlays_from overlays.old) words.old bytes.old) next.old (clearable (record_again (directory_from tables.now) log.now position))).fault_at }
 {
-    let done = clearing::end_read_kept(
-        directory_of(tables),
-        log,
-        position,
-        overlays_of(overlays),
-        words,
-        bytes,
-        *next,
-    );
-    *next = done.next_record_id;
-    *end = done.position as u64;
-    *id = done.record_id;
-    *fault = done.fault_at as u64;
-    let answer = done.answer;
-    let o = done.overlays;
-    keep_overlays(overlays, answer, o)
+    let d = directory_of(tables);
+    let o = overlays_of(overlays);
+    let done = clearing::end_read_kept(d, log, position, o, words, bytes, *next);
+    keep_read(overlays, done, position, o, next, end, id, fault)
 }
 
 #[unsafe(no_mangle)]
@@ -259,8 +274,8 @@ pub extern "C" fn hongsathep_clear_replay_logs(
 #[unsafe(no_mangle)]
 pub extern "C" fn hongsathep_clear_replay_logs_kept(overlays: &mut [u64], queues: &mut [u64]) -> u64
     requires { queues_kept (queues_from queues.old) ≡ true }
-    ensures { ClearLeft (logs_cleared_kept (queues_from queues.old)) (heads_of overlays.old queues.old) result (heads_of overlays.new queues.new) }
+    ensures { ClearLeft (Ok (logs_cleared_kept (queues_from queues.old))) (heads_of overlays.old queues.old) result (heads_of overlays.new queues.new) }
 {
-    let done = log_calls::clear_replay_logs_kept(queues_of(queues));
-    keep_cleared(overlays, queues, done)
+    let cleared = log_calls::clear_replay_logs_kept(queues_of(queues));
+    keep_cleared(overlays, queues, Ok(cleared))
 }

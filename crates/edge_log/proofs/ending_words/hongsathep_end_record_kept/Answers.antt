@@ -9,23 +9,8 @@ end_record_kept-done-requires c =
     let a = c.args in
     handed handed_kept a.items.now a.chunks.now a.words.now a.bytes.now a.next a.out.now c.directory_of-d.ensures c.list_of-l.ensures c.overlays_of-o.ensures c.queues_of-q.ensures ∙ c.requires
 
-pub shape_of-overlays : goal.shape_of-overlays
-shape_of-overlays c = c.overlays-1.given
-
-pub shape_of-words : goal.shape_of-words
-shape_of-words c = c.words-1.given
-
-pub shape_of-bytes : goal.shape_of-bytes
-shape_of-bytes c = c.bytes-1.given
-
-pub shape_of-queues : goal.shape_of-queues
-shape_of-queues c = c.queues-1.given
-
-pub shape_of-out : goal.shape_of-out
-shape_of-out c = c.out-1.given
-
 pub returns : goal.returns
 returns c =
     let a = c.args in
-    end-left c.end_record_kept-done.result c.end_record_kept-done.new.words c.end_record_kept-done.new.bytes c.end_record_kept-done.new.out
+    end-left c.overlays_of-o.result c.queues_of-q.result c.end_record_kept-done.result c.end_record_kept-done.new.words c.end_record_kept-done.new.bytes c.end_record_kept-done.new.out _ _ _ _ _ _ _
     (c.end_record_kept-done.ensures ∙ handed end_record a.items.now a.chunks.now a.words.now a.bytes.now a.next a.out.now c.directory_of-d.ensures c.list_of-l.ensures c.overlays_of-o.ensures c.queues_of-q.ensures) c.keep_ended.ensures
