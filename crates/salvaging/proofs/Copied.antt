@@ -12,7 +12,7 @@ use Rattle.output.specs.Put.{put, Wrote}
 use Rattle.output.proofs.Laws.{rest, room, none_left}
 use Rattle.salvaging.specs.declared.lines.Line.{Line}
 use Rattle.salvaging.specs.declared.lines.Line.TheVariants.{Kept, Lost}
-use Rattle.salvaging.specs.Salvage.{words_of, words_of_lines, kept_bytes}
+use Rattle.salvaging.specs.Salvage.{words_of, words_of_lines, line_bytes, kept_bytes}
 use Rattle.salvaging.specs.Inner.{AllWithin}
 
 module _ (ls : List Line) (i : ℕ) (h : i < length ls) where
@@ -21,33 +21,27 @@ module _ (ls : List Line) (i : ℕ) (h : i < length ls) where
 
   -- ---- the bytes of the records kept
 
-  module _ (log : List ℕ) (p n id : ℕ) (q : get_or ls i (Kept 0 0 0) ≡ Kept p n id) where
-    pub within-behind : AllWithin (length log) (drop i ls) → AllWithin (length log) (drop (i + 1) ls)
-    within-behind w = (rw (turn (Kept p n id) q) at w).1
+  module _ (log : List ℕ) where
+    abbrev x : Line
+    x = get_or ls i (Kept 0 0 0)
 
-    bytes-behind : kept_bytes log (drop i ls) ≡ take (p + n - p) (drop p log) ++ kept_bytes log (drop (i + 1) ls)
+    bytes-behind : kept_bytes log (drop i ls) ≡ line_bytes log x ++ kept_bytes log (drop (i + 1) ls)
     unfolding kept_bytes
-    bytes-behind =
-        let e : n ≡ p + n - p = omega arith in
-        ap (kept_bytes log) (turn (Kept p n id) q) ∙ ap (λ (k : ℕ). take k (drop p log) ++ kept_bytes log (drop (i + 1) ls)) e
+    bytes-behind = ap (kept_bytes log) (turn x refl)
+
+    split : (y : Line) (ys : List Line) → AllWithin (length log) (y ∷ ys) → AllWithin (length log) (y ∷ []) × AllWithin (length log) ys
+    split (Kept p n id) ys w = ((w.0, tt), w.1)
+    split (Lost p n) ys w = (tt, w)
+
+    pub line-within : AllWithin (length log) (drop i ls) → AllWithin (length log) (x ∷ []) × AllWithin (length log) (drop (i + 1) ls)
+    line-within w = split x (drop (i + 1) ls) (rw (turn x refl) at w)
 
     module _ {o : List ℕ} {at : ℕ} {z : List ℕ} {e : ℕ} (w : Wrote o at (kept_bytes log (drop i ls)) z e) where
-      pub record-room : at + length (take (p + n - p) (drop p log)) ≤ e
-      record-room = room (take (p + n - p) (drop p log)) (kept_bytes log (drop (i + 1) ls)) (rw bytes-behind at w)
+      pub record-room : at + length (line_bytes log x) ≤ e
+      record-room = room (line_bytes log x) (kept_bytes log (drop (i + 1) ls)) (rw bytes-behind at w)
 
-      pub record-rest : {m : List ℕ} {r : ℕ} → Wrote o at (take (p + n - p) (drop p log)) m r → Wrote m r (kept_bytes log (drop (i + 1) ls)) z e
-      record-rest x = rest (rw bytes-behind at w) x
-
-  -- what is left out has none
-  module _ (log : List ℕ) (q : (p n id : ℕ) → get_or ls i (Kept 0 0 0) ≡ Kept p n id → ⊥) where
-    pub lost-passed : (AllWithin (length log) (drop i ls) → AllWithin (length log) (drop (i + 1) ls)) × (kept_bytes log (drop i ls) ≡ kept_bytes log (drop (i + 1) ls))
-    unfolding kept_bytes
-    lost-passed = by (get_or ls i (Kept 0 0 0)) refl
-      where
-        by : (x : Line) → get_or ls i (Kept 0 0 0) ≡ x
-            → (AllWithin (length log) (drop i ls) → AllWithin (length log) (drop (i + 1) ls)) × (kept_bytes log (drop i ls) ≡ kept_bytes log (drop (i + 1) ls))
-        by (Kept p n id) e = absurd (q p n id e)
-        by (Lost p n) e = (λ w. rw (turn (Lost p n) e) at w, ap (kept_bytes log) (turn (Lost p n) e))
+      pub record-rest : {m : List ℕ} {r : ℕ} → Wrote o at (line_bytes log x) m r → Wrote m r (kept_bytes log (drop (i + 1) ls)) z e
+      record-rest k = rest (rw bytes-behind at w) k
 
   -- ---- the lines in words
 

@@ -1,10 +1,29 @@
 // The records of a list, copied one behind the other, and its lines in words.
-ghost use Rattle.std.specs.Prelude.{◌≡◌, ◌*◌, ◌≤◌, length};
+ghost use Rattle.std.specs.Prelude.{◌≡◌, [], ◌∷◌, ◌*◌, ◌≤◌, length};
 ghost use Rattle.output.specs.Put.{put};
 ghost use Rattle.salvaging.specs.Inner.{AllWithin};
-ghost use Rattle.salvaging.specs.Salvage.{kept_bytes, words_of_lines};
+ghost use Rattle.salvaging.specs.Salvage.{line_bytes, kept_bytes, words_of_lines};
 
 use super::lines::Line;
+
+// The bytes of the record, if it is one.
+fn bytes_of(line: Line, log: &[u8]) -> &[u8]
+    requires { AllWithin (length log.now) (line ∷ []) }
+    ensures { result.now ≡ line_bytes log.now line }
+{
+    match line {
+        Line::Kept {
+            position,
+            length,
+            ..
+        } => {
+            let from = position as usize;
+            let to = from + length as usize;
+            &log[from..to]
+        }
+        Line::Lost { .. } => &[],
+    }
+}
 
 pub fn put_records(lines: &[Line], log: &[u8], out: &mut [u8])
     requires within { AllWithin (length log.now) lines.now }
@@ -13,16 +32,7 @@ pub fn put_records(lines: &[Line], log: &[u8], out: &mut [u8])
 {
     let mut at = 0;
     for line in lines {
-        if let Line::Kept {
-            position,
-            length,
-            ..
-        } = *line
-        {
-            let from = position as usize;
-            let to = from + length as usize;
-            at = output::copy_into(out, at, &log[from..to]);
-        }
+        at = output::copy_into(out, at, bytes_of(*line, log));
     }
 }
 
