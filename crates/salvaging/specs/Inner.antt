@@ -81,6 +81,11 @@ abbrev pub pushed : Result (Unit {0}) ℕ → Lines → Result Lines ℕ
 pushed (Ok u) l = Ok l
 pushed (Err place) l = Err place
 
+-- the lines that found room, or those that there were
+abbrev pub with_room : Lines → Result Lines ℕ → Lines
+with_room l (Ok m) = m
+with_room l (Err place) = l
+
 -- a stretch left out up to a position, if it isn't empty
 abbrev pub up_to : Lines → ℕ → Result Lines ℕ
 up_to l to = if ltb l.end to then with_line l (Lost l.end (to - l.end)) else Ok l

@@ -1,6 +1,6 @@
 // The lines of a list by value.
-ghost use Rattle.std.specs.Prelude.{◌≡◌, ◌≤◌, take, IfOk, OnOk};
-ghost use Rattle.salvaging.specs.Inner.{no_lines, with_line, pushed, up_to, with_record, place_of, Ruled};
+ghost use Rattle.std.specs.Prelude.{◌≡◌, ◌≤◌, take, IfOk, OnOk, OnErr};
+ghost use Rattle.salvaging.specs.Inner.{no_lines, with_line, pushed, with_room, up_to, with_record, place_of, Ruled};
 ghost use Rattle.salvaging.specs.Salvage.{words_of};
 
 // A record that is kept, or a stretch that is left out.
@@ -68,7 +68,8 @@ impl Lines {
 
     // A line that finds no room is told by its position, and changes nothing. So below.
     fn push(&mut self, line: Line) -> Result<(), u64>
-        ensures { pushed result self.new ≡ with_line self.old line }
+        ensures is { pushed result self.new ≡ with_line self.old line }
+        ensures full { OnErr result (self.new ≡ self.old) }
     {
         if 64 <= self.count {
             return Err(line.position());
@@ -79,7 +80,8 @@ impl Lines {
     }
 
     fn leave_out(&mut self, to: u64) -> Result<(), u64>
-        ensures { pushed result self.new ≡ up_to self.old to }
+        ensures is { pushed result self.new ≡ up_to self.old to }
+        ensures full { OnErr result (self.new ≡ self.old) }
     {
         if to <= self.end {
             return Ok(());
@@ -94,6 +96,7 @@ impl Lines {
     pub fn keep(&mut self, position: u64, end: u64, id: u64) -> Result<(), u64>
         requires { (Ruled self.old) × (self.old.end ≤ position) × (position ≤ end) }
         ensures is { pushed result self.new ≡ with_record self.old position end id }
+        ensures full { OnErr result (self.new ≡ with_room self.old (up_to self.old position)) }
         ensures rest { OnOk result ((self.new.end ≡ end) × (self.new.count ≤ 64) × Ruled self.new) }
     {
         let length = end - position;
