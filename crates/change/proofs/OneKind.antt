@@ -18,8 +18,10 @@ use Rattle.memory.specs.Parts.{span_of, words_all, count_of, words_in, bytes_in,
 use Rattle.memory.proofs.OneKind.{kind-kept}
 use Rattle.memory.proofs.Spans.{of_parts, words-all}
 use Rattle.change.specs.declared.change.LogChange.{LogChange}
+use Rattle.change.specs.declared.ruled.Ruled.{Ruled}
+use Rattle.change.specs.Ruled.{list_of}
 use Rattle.change.specs.Change.{change_of, change_ruled, places_of}
-use Rattle.change.proofs.Rules.{ruled-parts}
+use Rattle.change.proofs.Rules.{ruled-parts, ruled-shows}
 
 rooms : (kind : TableKind) → (span_of holder.List kind).room ≤ 32
 rooms Index = omega arith
@@ -66,3 +68,12 @@ module _ (kind : TableKind) (l : LogChange) (words bytes : List ℕ) where
           let low : n ≤ room = rw (r, d) kept.fits in
           let long : length (order_of room part) ≡ room = rw (r, p) kept.order-long in
           omega (arith, ap length f, length-take-le n (order_of room part) (omega arith), r)
+
+-- what a list that goes by value with its memories is known to keep
+pub list-ruled : (r : Ruled) → change_ruled (list_of r) ≡ true
+unfolding list_of
+list-ruled r = r.ruled
+
+pub few-drops : (r : Ruled) → (r.list.dropped_tables.count ≤ 16) × (r.list.dropped_ref_count_tables.count ≤ 16)
+unfolding list_of
+few-drops r = let k = ruled-shows (change_of r.list r.words.now r.bytes.now) r.ruled in (k.drops, k.count-drops)

@@ -9,10 +9,12 @@ mod inserts;
 mod marks;
 mod plans;
 mod ref_count_tables;
+mod ruled;
 mod size;
 mod value_tables;
 mod values;
 
 pub use change::{Changed, LogChange};
 pub use drops::Drops;
+pub use ruled::Ruled;
 pub use values::LocalValues;

@@ -2,11 +2,11 @@
 ghost use Rattle.std.specs.Prelude.{◌≡◌, true, ◌≤◌, length};
 ghost use Rattle.keys.specs.Keys.{every};
 ghost use Rattle.overlay.specs.Rules.{mark_ruled, row_ruled};
-ghost use Rattle.memory.specs.Parts.{of_kind};
 ghost use Rattle.change.specs.Change.{change_of, change_ruled};
-ghost use Rattle.change.specs.Size.{entry_size, places_size, entries_size, record_size, sized};
+ghost use Rattle.change.specs.Size.{entry_size, places_size, record_size, sized};
 
 use super::change::LogChange;
+use super::ruled::Ruled;
 use answer::Answer;
 use directory::{Directory, TableKind};
 use keys::Keys;
@@ -25,7 +25,7 @@ fn entry_size(kind: TableKind, mark: u64) -> usize
 
 // The entries of a kind.
 #[tactic(auto, using(crate::proofs::Fitting::row_there))]
-fn places_size(kind: TableKind, keys: Keys) -> usize
+pub(crate) fn places_size(kind: TableKind, keys: Keys) -> usize
     requires each { every (row_ruled kind keys.rows.now) keys.order.now ≡ true }
     requires few { length keys.order.now ≤ 32 }
     ensures { (result ≡ places_size kind keys.entry.rows.now keys.entry.order.now) × (result ≤ 33376) }
@@ -39,22 +39,17 @@ fn places_size(kind: TableKind, keys: Keys) -> usize
 }
 
 impl LogChange {
-    fn kind_size(self, kind: TableKind, words: &[u64], bytes: &[u8]) -> usize
-        requires { change_ruled (change_of self words.now bytes.now) ≡ true }
-        ensures { (result ≡ entries_size kind (of_kind kind (change_of self words.now bytes.now).parts)) × (result ≤ 33376) }
-    {
-        places_size(kind, self.keys(kind, words, bytes))
-    }
-
     // That of a list that keeps the rules that need no directory.
     pub fn record_size_kept(self, words: &[u64], bytes: &[u8]) -> usize
         requires { change_ruled (change_of self words.now bytes.now) ≡ true }
         ensures { result ≡ record_size (change_of self words.now bytes.now) }
     {
-        let a = self.kind_size(TableKind::Index, words, bytes);
-        let b = self.kind_size(TableKind::Value, words, bytes);
-        let c = self.kind_size(TableKind::RefCount, words, bytes);
-        14 + a + b + c + 3 * self.dropped_tables.count + 3 * self.dropped_ref_count_tables.count
+        Ruled {
+            list: self,
+            words,
+            bytes,
+        }
+        .record_size()
     }
 
     // The length of the record that `flush_to_file` would write.

@@ -4,6 +4,7 @@ ghost use Rattle.change.specs.Change.{change_of, change_ruled};
 ghost use Rattle.change.specs.Values.{values_of_kept, values_of};
 
 use super::change::LogChange;
+use super::ruled::Ruled;
 use answer::Answer;
 use directory::{TableKind, ValueTableId};
 use keys::Key;
@@ -26,7 +27,12 @@ impl LogChange {
         requires { change_ruled (change_of self words.now bytes.now) ≡ true }
         ensures { result ≡ values_of_kept (change_of self words.now bytes.now) id.0 }
     {
-        let keys = self.keys(TableKind::Value, words, bytes);
+        let list = Ruled {
+            list: self,
+            words,
+            bytes,
+        };
+        let keys = list.keys(TableKind::Value);
         let table = u64::from(id.0);
         LocalValues {
             from: keys.place(Key { table, index: 0 }),

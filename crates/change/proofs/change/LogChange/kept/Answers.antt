@@ -2,14 +2,16 @@
 use mathlib.Core.Path.{sym, ◌∙◌}
 use Rattle.std.proofs.lemmas.Bool.{false≢true}
 use Rattle.change.specs.Change.{change_of}
+use Rattle.change.specs.Ruled.{list_of}
 use Rattle.change.proofs.Rules.{kept-stops, kept-stops-ruled, kept-goes-on}
 use Rattle.change.proofs.change.LogChange.kept.Goals as goal
 use Rattle.change.proofs.change.LogChange.kept.Goals.{then-kept, else-kept}
 
-pub fits-requires : goal.fits-requires
-fits-requires c = elim c.if-kept.branch [ then-kept w ↦ sym w.ruled.ensures ∙ sym w.value-is ∙ c.if-ruled.true | else-kept w ↦ absurd (false≢true (sym w.if-kept.false ∙ sym w.value-is ∙ c.if-ruled.true)) ]
+pub invariant_of-fits : goal.invariant_of-fits
+invariant_of-fits c = elim c.if-kept.branch [ then-kept w ↦ record { ruled = sym w.ruled.ensures ∙ sym w.value-is ∙ c.if-ruled.true } | else-kept w ↦ absurd (false≢true (sym w.if-kept.false ∙ sym w.value-is ∙ c.if-ruled.true)) ]
 
 pub returns-then-ruled : goal.returns-then-ruled
+unfolding list_of
 returns-then-ruled c =
     let l = change_of c.args.self c.args.words.now c.args.bytes.now in
     elim c.if-kept.branch [

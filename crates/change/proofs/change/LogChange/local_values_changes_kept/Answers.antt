@@ -10,6 +10,7 @@ use Rattle.overlay.specs.Overlay.{spot_in_of}
 use Rattle.change.specs.declared.values.LocalValues.{LocalValues}
 use Rattle.change.specs.Change.{Change, change_of}
 use Rattle.change.specs.Values.{values_of_kept}
+use Rattle.change.specs.Ruled.{list_of}
 use Rattle.change.proofs.change.LogChange.local_values_changes_kept.Goals as goal
 
 ends : (l : Change) (number t : ℕ) → t ≡ number → (ks : List ℕ) → ks ≡ keys_of l.parts.value.rows l.parts.value.order l.parts.value.count → (a b : ℕ) → a ≡ spot (rank t 0) ks → b ≡ spot (rank (t + 1) 0) ks
@@ -17,7 +18,11 @@ ends : (l : Change) (number t : ℕ) → t ≡ number → (ks : List ℕ) → ks
 unfolding spot_in_of
 ends l number t e ks f a b p q = rw (p, q, e, f)
 
+pub invariant_of-list : goal.invariant_of-list
+invariant_of-list c = record { ruled = c.requires }
+
 pub returns : goal.returns
+unfolding list_of
 returns c =
     let a = c.args in
     let l = change_of a.self a.words.now a.bytes.now in

@@ -1,6 +1,6 @@
--- `LogChange::kind_size` meets its contract. Assumes nothing.
+-- `Ruled::kind_size` meets its contract. Assumes nothing.
 use Rattle.change.specs.Size.{entries_size}
-use Rattle.change.proofs.change.LogChange.kind_size.Goals as goal
+use Rattle.change.proofs.ruled.Ruled.kind_size.Goals as goal
 
 pub returns : goal.returns
 unfolding entries_size

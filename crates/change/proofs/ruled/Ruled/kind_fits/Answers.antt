@@ -1,6 +1,6 @@
--- `LogChange::kind_fits` meets its contract. Assumes nothing.
+-- `Ruled::kind_fits` meets its contract. Assumes nothing.
 use Rattle.change.specs.Change.{entry_fits, entries_fit}
-use Rattle.change.proofs.change.LogChange.kind_fits.Goals as goal
+use Rattle.change.proofs.ruled.Ruled.kind_fits.Goals as goal
 
 pub returns : goal.returns
 unfolding entries_fit entry_fits

@@ -1,9 +1,9 @@
--- `LogChange::keys_fit` meets its contract: the three kinds. Assumes nothing.
+-- `Ruled::keys_fit` meets its contract: the three kinds. Assumes nothing.
 use mathlib.Core.Path.{sym, ◌∙◌}
 use Rattle.std.proofs.lemmas.Bool.{false≢true}
 use Rattle.change.proofs.Rules.{stops, goes_on}
-use Rattle.change.proofs.change.LogChange.keys_fit.Goals as goal
-use Rattle.change.proofs.change.LogChange.keys_fit.Goals.{then-kind_fits, else-kind_fits}
+use Rattle.change.proofs.ruled.Ruled.keys_fit.Goals as goal
+use Rattle.change.proofs.ruled.Ruled.keys_fit.Goals.{then-kind_fits, else-kind_fits}
 
 pub returns-then-kind_fits-2 : goal.returns-then-kind_fits-2
 returns-then-kind_fits-2 c =
