@@ -1,26 +1,22 @@
 -- What leaves, and a removal by that. Assumes nothing.
 use mathlib.Core.Path.{◌≡◌, refl, sym, ap, ◌∙◌, subst}
 use mathlib.Core.Bool.{Bool, true, false}
-use mathlib.Core.List.{List, []}
+use mathlib.Core.List.{List}
 use Prim.Native.Nat.{ℕ, ◌+◌, ◌-◌, ◌*◌, ◌<◌, ◌≤◌}
 use native.Mathlib.Omega.{arith}
-use lib.ListN.{length}
+use lib.ListN.{take, length}
 use Rattle.std.specs.Prelude.{if◌then◌else◌}
 use Rattle.directory.specs.declared.table.TableKind.{TableKind}
 use Rattle.numbers.proofs.Laws.{left-of}
-use Rattle.keys.specs.Keys.{cut_out, rename_all}
-use Rattle.overlay.specs.Rules.{Overlay, slot_size, overlay_kept, lists_of}
+use Rattle.keys.specs.Keys.{rank, cut_out, rename_all}
+use Rattle.keys.specs.declared.ordered.Keys.{Keys}
+use Rattle.overlay.specs.Rules.{Overlay, slot_size, overlay_kept, lists_of, rows_of, order_of, overlay_of}
 use Rattle.std.specs.Prelude.{Option, Some, None}
 use Rattle.overlay.specs.Overlay.{spot_in_of, stands_in, place_in, goes_from, row_moved, slot_moved, freed, removed_from}
 use Rattle.overlay.specs.Inner.{leaving_in}
 use Rattle.overlay.proofs.Ruled.{Kept, shows}
 use Rattle.overlay.proofs.Slots.{slot_in_lem}
-use Rattle.overlay.proofs.Plan.{stands_in_lem, place_in_lem, place-there}
-
--- the bytes are not asked
-pub leaving_keys : (rows order bytes : List ℕ) (n k id : ℕ) → leaving_in (lists_of rows order [] n) k id ≡ leaving_in (lists_of rows order bytes n) k id
-unfolding leaving_in goes_from place_in stands_in spot_in_of
-leaving_keys rows order bytes n k id = refl
+use Rattle.overlay.proofs.Plan.{stands_in_lem, place_in_lem, place-there, lent, leaving-lent}
 
 abbrev free_by : TableKind → Overlay → Option (ℕ × ℕ) → Overlay
 free_by kind o (Some (j, p)) = freed kind o j p
@@ -98,3 +94,15 @@ module _ (kind : TableKind) (room : ℕ) (o : Overlay) (ok : overlay_kept kind r
           let z : true ≡ false = ap is_at (sym e ∙ ap plan h) in
           let y : ◌≡◌ {A = ℕ} 0 1 = cc in
           absurd (omega arith)
+
+-- what the search over the keys that are lent says of the whole
+pub leaving_says : (kind : TableKind) (room : ℕ) (words bytes : List ℕ) (n : ℕ) → overlay_kept kind room (overlay_of room words bytes n) ≡ true
+    → (k : Keys) → k.rows.now ≡ rows_of room words → k.order.now ≡ take n (order_of room words)
+    → (t table index id : ℕ) (r : Option (ℕ × ℕ)) → r ≡ leaving_in (lent k) (rank t index) id → t ≡ table
+    → leaving_in (overlay_of room words bytes n) (rank table index) id ≡ r
+leaving_says kind room words bytes n ok k e f t table index id r g h =
+    let s = shows kind room (overlay_of room words bytes n) ok in
+    sym
+    (g
+    ∙ ap (λ (x : ℕ). leaving_in (lent k) (rank x index) id) h
+    ∙ leaving-lent k (overlay_of room words bytes n) (omega (arith, s.fits, s.order-long)) e f (rank table index) id)

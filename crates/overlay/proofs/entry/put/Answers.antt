@@ -1,119 +1,116 @@
 -- `put` meets its contract: over the place where the key stands, or into the next one. Assumes nothing.
-use mathlib.Core.Path.{◌≡◌, sym, ap, ◌∙◌}
-use mathlib.Core.List.{List, []}
-use Prim.Native.Nat.{ℕ, ◌+◌, ◌*◌, ◌≤◌, ◌<◌}
-use native.Mathlib.Omega.{arith}
-use lib.ListN.{length}
+use Rattle.std.proofs.Common.{arith, ◌≡◌, ◌*◌, ◌∙◌, sym, ap, length, ℕ}
+use lib.Seq.{paste}
+use Rattle.numbers.specs.Numbers.{put_in}
 use Rattle.keys.specs.Keys.{rank, row_put_of}
-use Rattle.overlay.specs.Rules.{Overlay, slot_size, rows_of, order_of, overlay_of}
-use Rattle.overlay.specs.Inner.{seat_in}
-use Rattle.overlay.proofs.Ruled.{Kept, shows}
-use Rattle.overlay.proofs.Parts.{words_long}
-use Rattle.overlay.proofs.Seats.{Seated, Unseated, seat_keys, seated, unseated, next-slot, over-put, next-put}
+use Rattle.overlay.specs.Rules.{Overlay, overlay_of, lists_of}
+use Rattle.overlay.proofs.Ruled.{shows}
+use Rattle.overlay.proofs.Parts.{words_long, joined}
+use Rattle.overlay.proofs.Seats.{seat_says, placed, order_with, goes, spot-low, free_at, put-goes}
 use Rattle.overlay.proofs.entry.put.Goals as goal
+use Rattle.overlay.proofs.entry.put.Goals.{in-Over, in-Next}
 
-pub seat_of-requires : goal.seat_of-requires
-seat_of-requires c =
-    let over : Overlay = overlay_of c.args.room c.args.words.now c.args.bytes.now c.args.n in
-    let known : Kept c.args.kind c.args.room over = shows c.args.kind c.args.room over c.requires.0 in
-    let long : length c.args.words.now ≡ 5 * c.args.room = words_long c.args.room c.args.words.now known.rows_long known.order-long in
-    let k = known in (long, k.fits, k.in_order)
+pub seat_of-seat-requires : goal.seat_of-seat-requires
+seat_of-seat-requires c =
+    let a = c.args in
+    let k = shows a.kind a.room (overlay_of a.room a.words.now a.bytes.now a.n) c.requires.0 in
+    (words_long a.room a.words.now k.rows_long k.order-long, k.fits, k.in_order)
+
+pub overflow_mul-room : goal.overflow_mul-room
+overflow_mul-room c =
+    let a = c.args in
+    let k = shows a.kind a.room (overlay_of a.room a.words.now a.bytes.now a.n) c.requires.0 in
+    omega (arith, words_long a.room a.words.now k.rows_long k.order-long)
+
+pub split_at_mut-rows-requires : goal.split_at_mut-rows-requires
+split_at_mut-rows-requires c =
+    let a = c.args in
+    let k = shows a.kind a.room (overlay_of a.room a.words.now a.bytes.now a.n) c.requires.0 in
+    omega (arith, words_long a.room a.words.now k.rows_long k.order-long)
+
+pub put-requires : goal.put-requires
+put-requires c =
+    let a = c.args in
+    let over : Overlay = overlay_of a.room a.words.now a.bytes.now a.n in
+    let q = c.seat_of-seat.result in
+    let seat = seat_says over.rows over.order over.bytes a.n c.from-t.result a.e.table a.e.index q c.seat_of-seat.ensures c.from-t.ensures in
+    let k = shows a.kind a.room over c.requires.0 in
+    let key = rank a.e.table a.e.index in (
+      spot-low a.kind a.room over c.requires.0 key c.in-Next.j (seat ∙ c.in-Next.is),
+      omega (arith, words_long a.room a.words.now k.rows_long k.order-long, c.split_at_mut-rows.ensures.back_len, free_at a.kind a.room over c.requires.0 key c.in-Next.j c.requires.2 (seat ∙ c.in-Next.is)),
+    )
+
+pub overflow_add-p : goal.overflow_add-p
+overflow_add-p c =
+    let a = c.args in
+    let over : Overlay = overlay_of a.room a.words.now a.bytes.now a.n in
+    let q = c.seat_of-seat.result in
+    let seat = seat_says over.rows over.order over.bytes a.n c.from-t.result a.e.table a.e.index q c.seat_of-seat.ensures c.from-t.ensures in
+    let k = shows a.kind a.room over c.requires.0 in
+    omega (arith, words_long a.room a.words.now k.rows_long k.order-long, free_at a.kind a.room over c.requires.0 (rank a.e.table a.e.index) c.in-Next.j c.requires.2 (seat ∙ c.in-Next.is))
 
 pub row_put-requires : goal.row_put-requires
 row_put-requires c =
-    let over : Overlay = overlay_of c.args.room c.args.words.now c.args.bytes.now c.args.n in
-    let known : Kept c.args.kind c.args.room over = shows c.args.kind c.args.room over c.requires.0 in
-    let long : length c.args.words.now ≡ 5 * c.args.room = words_long c.args.room c.args.words.now known.rows_long known.order-long in
-    let key : ℕ = rank c.args.e.table c.args.e.index in
-    let seat-is : seat_in (overlay_of c.args.room c.args.words.now [] c.args.n) key ≡ seat_in over key = seat_keys (rows_of c.args.room c.args.words.now) (order_of c.args.room c.args.words.now) c.args.bytes.now c.args.n key in
-    let there : Seated c.args.kind c.args.room over c.requires.0 key c.in-Over.p = seated c.args.kind c.args.room over c.requires.0 key c.in-Over.p (sym (c.seat_of.ensures ∙ seat-is) ∙ c.in-Over.is) in
-    (long, there.low)
+    let a = c.args in
+    let over : Overlay = overlay_of a.room a.words.now a.bytes.now a.n in
+    let q = c.seat_of-seat.result in
+    let seat = seat_says over.rows over.order over.bytes a.n c.from-t.result a.e.table a.e.index q c.seat_of-seat.ensures c.from-t.ensures in
+    let at : c.match-seat.p ≡ placed a.n q = elim c.match-seat.branch [
+      | in-Over w ↦ w.p-is ∙ ap (placed a.n) (sym w.in-Over.is)
+      | in-Next w ↦ w.p-is ∙ ap (placed a.n) (sym w.in-Next.is)
+    ] in
+    let g = goes a.kind a.room over c.requires.0 (rank a.e.table a.e.index) c.requires.2 q seat in
+    let p = ap (λ (x : ℕ × ℕ). x.0) at in
+    omega (arith, g.low, p, c.split_at_mut-rows.ensures.front_len)
 
-pub overflow_mul-s : goal.overflow_mul-s
-overflow_mul-s c =
-    let over : Overlay = overlay_of c.args.room c.args.words.now c.args.bytes.now c.args.n in
-    let key : ℕ = rank c.args.e.table c.args.e.index in
-    let seat-is : seat_in (overlay_of c.args.room c.args.words.now [] c.args.n) key ≡ seat_in over key = seat_keys (rows_of c.args.room c.args.words.now) (order_of c.args.room c.args.words.now) c.args.bytes.now c.args.n key in
-    let there : Seated c.args.kind c.args.room over c.requires.0 key c.in-Over.p = seated c.args.kind c.args.room over c.requires.0 key c.in-Over.p (sym (c.seat_of.ensures ∙ seat-is) ∙ c.in-Over.is) in
-    rw c.slot_size-s.ensures.0 (omega (arith, there.slot))
+pub overflow_mul-slot_size : goal.overflow_mul-slot_size
+overflow_mul-slot_size c =
+    let a = c.args in
+    let over : Overlay = overlay_of a.room a.words.now a.bytes.now a.n in
+    let q = c.seat_of-seat.result in
+    let seat = seat_says over.rows over.order over.bytes a.n c.from-t.result a.e.table a.e.index q c.seat_of-seat.ensures c.from-t.ensures in
+    let at : c.match-seat.p ≡ placed a.n q = elim c.match-seat.branch [
+      | in-Over w ↦ w.p-is ∙ ap (placed a.n) (sym w.in-Over.is)
+      | in-Next w ↦ w.p-is ∙ ap (placed a.n) (sym w.in-Next.is)
+    ] in
+    let g = goes a.kind a.room over c.requires.0 (rank a.e.table a.e.index) c.requires.2 q seat in
+    let p = ap (λ (x : ℕ × ℕ). x.0) at in
+    rw (c.slot_size.ensures.0, p) (omega (arith, g.slot))
 
 pub copy_in-requires : goal.copy_in-requires
 copy_in-requires c =
-    let over : Overlay = overlay_of c.args.room c.args.words.now c.args.bytes.now c.args.n in
-    let key : ℕ = rank c.args.e.table c.args.e.index in
-    let seat-is : seat_in (overlay_of c.args.room c.args.words.now [] c.args.n) key ≡ seat_in over key = seat_keys (rows_of c.args.room c.args.words.now) (order_of c.args.room c.args.words.now) c.args.bytes.now c.args.n key in
-    let there : Seated c.args.kind c.args.room over c.requires.0 key c.in-Over.p = seated c.args.kind c.args.room over c.requires.0 key c.in-Over.p (sym (c.seat_of.ensures ∙ seat-is) ∙ c.in-Over.is) in
-    rw c.slot_size-s.ensures.0 (omega (arith, there.slot, c.requires.1))
-
-pub order_put-requires : goal.order_put-requires
-order_put-requires c =
-    let over : Overlay = overlay_of c.args.room c.args.words.now c.args.bytes.now c.args.n in
-    let known : Kept c.args.kind c.args.room over = shows c.args.kind c.args.room over c.requires.0 in
-    let long : length c.args.words.now ≡ 5 * c.args.room = words_long c.args.room c.args.words.now known.rows_long known.order-long in
-    let key : ℕ = rank c.args.e.table c.args.e.index in
-    let seat-is : seat_in (overlay_of c.args.room c.args.words.now [] c.args.n) key ≡ seat_in over key = seat_keys (rows_of c.args.room c.args.words.now) (order_of c.args.room c.args.words.now) c.args.bytes.now c.args.n key in
-    let missing : Unseated c.args.kind c.args.room over c.requires.0 key c.in-Next.j = unseated c.args.kind c.args.room over c.requires.0 key c.in-Next.j (sym (c.seat_of.ensures ∙ seat-is) ∙ c.in-Next.is) in
-    let free : c.args.n < c.args.room = c.requires.2 missing.lacks in
-    (long, free, missing.within)
-
-pub row_put-requires-in-Next : goal.row_put-requires-in-Next
-row_put-requires-in-Next c =
-    let over : Overlay = overlay_of c.args.room c.args.words.now c.args.bytes.now c.args.n in
-    let known : Kept c.args.kind c.args.room over = shows c.args.kind c.args.room over c.requires.0 in
-    let long : length c.args.words.now ≡ 5 * c.args.room = words_long c.args.room c.args.words.now known.rows_long known.order-long in
-    let key : ℕ = rank c.args.e.table c.args.e.index in
-    let seat-is : seat_in (overlay_of c.args.room c.args.words.now [] c.args.n) key ≡ seat_in over key = seat_keys (rows_of c.args.room c.args.words.now) (order_of c.args.room c.args.words.now) c.args.bytes.now c.args.n key in
-    let missing : Unseated c.args.kind c.args.room over c.requires.0 key c.in-Next.j = unseated c.args.kind c.args.room over c.requires.0 key c.in-Next.j (sym (c.seat_of.ensures ∙ seat-is) ∙ c.in-Next.is) in
-    let free : c.args.n < c.args.room = c.requires.2 missing.lacks in
-    (omega (arith, long), free)
-
-pub overflow_mul-s-in-Next : goal.overflow_mul-s-in-Next
-overflow_mul-s-in-Next c =
-    let over : Overlay = overlay_of c.args.room c.args.words.now c.args.bytes.now c.args.n in
-    let key : ℕ = rank c.args.e.table c.args.e.index in
-    let seat-is : seat_in (overlay_of c.args.room c.args.words.now [] c.args.n) key ≡ seat_in over key = seat_keys (rows_of c.args.room c.args.words.now) (order_of c.args.room c.args.words.now) c.args.bytes.now c.args.n key in
-    let missing : Unseated c.args.kind c.args.room over c.requires.0 key c.in-Next.j = unseated c.args.kind c.args.room over c.requires.0 key c.in-Next.j (sym (c.seat_of.ensures ∙ seat-is) ∙ c.in-Next.is) in
-    let free : c.args.n < c.args.room = c.requires.2 missing.lacks in
-    let slot-free : slot_size c.args.kind * c.args.n + slot_size c.args.kind ≤ length c.args.bytes.now = next-slot c.args.kind c.args.room over c.requires.0 key free in
-    rw c.slot_size-s.ensures.0 (omega (arith, slot-free))
-
-pub copy_in-requires-in-Next : goal.copy_in-requires-in-Next
-copy_in-requires-in-Next c =
-    let over : Overlay = overlay_of c.args.room c.args.words.now c.args.bytes.now c.args.n in
-    let key : ℕ = rank c.args.e.table c.args.e.index in
-    let seat-is : seat_in (overlay_of c.args.room c.args.words.now [] c.args.n) key ≡ seat_in over key = seat_keys (rows_of c.args.room c.args.words.now) (order_of c.args.room c.args.words.now) c.args.bytes.now c.args.n key in
-    let missing : Unseated c.args.kind c.args.room over c.requires.0 key c.in-Next.j = unseated c.args.kind c.args.room over c.requires.0 key c.in-Next.j (sym (c.seat_of.ensures ∙ seat-is) ∙ c.in-Next.is) in
-    let free : c.args.n < c.args.room = c.requires.2 missing.lacks in
-    let slot-free : slot_size c.args.kind * c.args.n + slot_size c.args.kind ≤ length c.args.bytes.now = next-slot c.args.kind c.args.room over c.requires.0 key free in
-    rw c.slot_size-s.ensures.0 (omega (arith, slot-free, c.requires.1))
-
-pub overflow_add-result : goal.overflow_add-result
-overflow_add-result c =
-    let over : Overlay = overlay_of c.args.room c.args.words.now c.args.bytes.now c.args.n in
-    let known : Kept c.args.kind c.args.room over = shows c.args.kind c.args.room over c.requires.0 in
-    let long : length c.args.words.now ≡ 5 * c.args.room = words_long c.args.room c.args.words.now known.rows_long known.order-long in
-    let key : ℕ = rank c.args.e.table c.args.e.index in
-    let seat-is : seat_in (overlay_of c.args.room c.args.words.now [] c.args.n) key ≡ seat_in over key = seat_keys (rows_of c.args.room c.args.words.now) (order_of c.args.room c.args.words.now) c.args.bytes.now c.args.n key in
-    let missing : Unseated c.args.kind c.args.room over c.requires.0 key c.in-Next.j = unseated c.args.kind c.args.room over c.requires.0 key c.in-Next.j (sym (c.seat_of.ensures ∙ seat-is) ∙ c.in-Next.is) in
-    let free : c.args.n < c.args.room = c.requires.2 missing.lacks in
-    omega (arith, long, free)
-
-pub returns-in-Over : goal.returns-in-Over
-returns-in-Over c =
-    let over : Overlay = overlay_of c.args.room c.args.words.now c.args.bytes.now c.args.n in
-    let key : ℕ = rank c.args.e.table c.args.e.index in
-    let seat-is : seat_in (overlay_of c.args.room c.args.words.now [] c.args.n) key ≡ seat_in over key = seat_keys (rows_of c.args.room c.args.words.now) (order_of c.args.room c.args.words.now) c.args.bytes.now c.args.n key in
-    let there : Seated c.args.kind c.args.room over c.requires.0 key c.in-Over.p = seated c.args.kind c.args.room over c.requires.0 key c.in-Over.p (sym (c.seat_of.ensures ∙ seat-is) ∙ c.in-Over.is) in
     let a = c.args in
-    over-put a.kind over a.e.table a.e.index a.e.id a.e.mark a.e.bytes.now _ _ _ c.slot_size-s.result c.slot_size-s.ensures.0 c.in-Over.p
-    there.there there.place c.row_put.ensures.0 c.row_put.ensures.1 c.copy_in.ensures
+    let over : Overlay = overlay_of a.room a.words.now a.bytes.now a.n in
+    let q = c.seat_of-seat.result in
+    let seat = seat_says over.rows over.order over.bytes a.n c.from-t.result a.e.table a.e.index q c.seat_of-seat.ensures c.from-t.ensures in
+    let at : c.match-seat.p ≡ placed a.n q = elim c.match-seat.branch [
+      | in-Over w ↦ w.p-is ∙ ap (placed a.n) (sym w.in-Over.is)
+      | in-Next w ↦ w.p-is ∙ ap (placed a.n) (sym w.in-Next.is)
+    ] in
+    let g = goes a.kind a.room over c.requires.0 (rank a.e.table a.e.index) c.requires.2 q seat in
+    let p = ap (λ (x : ℕ × ℕ). x.0) at in
+    rw (c.slot_size.ensures.0, p) (omega (arith, g.slot, c.requires.1))
 
-pub returns-in-Next : goal.returns-in-Next
-returns-in-Next c =
-    let over : Overlay = overlay_of c.args.room c.args.words.now c.args.bytes.now c.args.n in
-    let key : ℕ = rank c.args.e.table c.args.e.index in
-    let seat-is : seat_in (overlay_of c.args.room c.args.words.now [] c.args.n) key ≡ seat_in over key = seat_keys (rows_of c.args.room c.args.words.now) (order_of c.args.room c.args.words.now) c.args.bytes.now c.args.n key in
-    let missing : Unseated c.args.kind c.args.room over c.requires.0 key c.in-Next.j = unseated c.args.kind c.args.room over c.requires.0 key c.in-Next.j (sym (c.seat_of.ensures ∙ seat-is) ∙ c.in-Next.is) in
+pub returns : goal.returns
+returns c =
     let a = c.args in
-    next-put a.kind over a.e.table a.e.index a.e.id a.e.mark a.e.bytes.now _ _ _ c.slot_size-s.result c.slot_size-s.ensures.0 c.in-Next.j
-    missing.lacks missing.spot_is (c.row_put-in-Next.ensures.0 ∙ ap (λ (r : List ℕ). row_put_of r a.n a.e.table a.e.index a.e.id a.e.mark) c.order_put.ensures.0) (c.row_put-in-Next.ensures.1 ∙ c.order_put.ensures.1) c.copy_in-in-Next.ensures
+    let over : Overlay = overlay_of a.room a.words.now a.bytes.now a.n in
+    let q = c.seat_of-seat.result in
+    let seat = seat_says over.rows over.order over.bytes a.n c.from-t.result a.e.table a.e.index q c.seat_of-seat.ensures c.from-t.ensures in
+    let at : c.match-seat.p ≡ placed a.n q = elim c.match-seat.branch [
+      | in-Over w ↦ w.p-is ∙ ap (placed a.n) (sym w.in-Over.is)
+      | in-Next w ↦ w.p-is ∙ ap (placed a.n) (sym w.in-Next.is)
+    ] in
+    let g = goes a.kind a.room over c.requires.0 (rank a.e.table a.e.index) c.requires.2 q seat in
+    let p = ap (λ (x : ℕ × ℕ). x.0) at in
+    let k = shows a.kind a.room over c.requires.0 in
+    let order : c.match-seat.order ≡ order_with a.n over.order q = elim c.match-seat.branch [
+      | in-Over w ↦ w.order-is ∙ c.split_at_mut-rows.ensures.back ∙ ap (order_with a.n over.order) (sym w.in-Over.is)
+      | in-Next w ↦ w.order-is ∙ w.put.ensures ∙ ap (put_in w.in-Next.j a.n a.n) c.split_at_mut-rows.ensures.back ∙ ap (order_with a.n over.order) (sym w.in-Next.is)
+    ] in
+    let rows : c.row_put.new.rows ≡ row_put_of over.rows (placed a.n q).0 a.e.table a.e.index a.e.id a.e.mark = c.row_put.ensures ∙ rw (c.split_at_mut-rows.ensures.front, p, c.from-t.ensures) in
+    let bytes : c.copy_in.new.dst ≡ paste over.bytes (c.slot_size.result * (placed a.n q).0) a.e.bytes.now (length a.e.bytes.now) = c.copy_in.ensures ∙ rw p in
+    let count = ap (λ (x : ℕ × ℕ). x.1) at in
+    joined a.room c.row_put.new.rows c.match-seat.order c.copy_in.new.dst c.match-seat.p.1 (omega (arith, c.row_put.auto.rows, c.split_at_mut-rows.ensures.front_len))
+    ∙ ap (lists_of c.row_put.new.rows c.match-seat.order c.copy_in.new.dst) count
+    ∙ put-goes a.kind a.room over c.requires.0 a.e.table a.e.index a.e.id a.e.mark a.e.bytes.now c.row_put.new.rows c.match-seat.order c.copy_in.new.dst c.slot_size.result c.slot_size.ensures.0 q seat rows order bytes
