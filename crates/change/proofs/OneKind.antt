@@ -1,6 +1,6 @@
 -- One kind's part of a list's words, as its holder hands it out: what the rules say of it; and what reads no bytes reads the same from it. Assumes
 -- nothing.
-use mathlib.Core.Path.{◌≡◌, sym, ap, ◌∙◌}
+use mathlib.Core.Path.{◌≡◌, refl, sym, ap, ◌∙◌}
 use mathlib.Core.Bool.{true}
 use mathlib.Core.List.{List, []}
 use Prim.Native.Nat.{ℕ, ◌*◌, ◌≤◌}
@@ -14,9 +14,9 @@ use Rattle.overlay.specs.Rules.{Overlay, row_ruled, rows_of, order_of, lists_of,
 use Rattle.overlay.proofs.Ruled.{Kept, shows}
 use Rattle.overlay.proofs.Parts.{words_long}
 use Rattle.memory.specs.declared.span.Holder.TheVariants as holder
-use Rattle.memory.specs.Parts.{span_of, words_all, count_of, words_in, bytes_in, part_of, of_kind}
+use Rattle.memory.specs.Parts.{span_of, words_all, bytes_all, count_of, words_in, bytes_in, part_of, of_kind}
 use Rattle.memory.proofs.OneKind.{kind-kept}
-use Rattle.memory.proofs.Spans.{of_parts, words-all}
+use Rattle.memory.proofs.Spans.{of_parts, words-all, bytes-all}
 use Rattle.change.specs.declared.change.LogChange.{LogChange}
 use Rattle.change.specs.declared.ruled.Ruled.{Ruled}
 use Rattle.change.specs.Ruled.{list_of}
@@ -35,6 +35,9 @@ module _ (kind : TableKind) (l : LogChange) (words bytes : List ℕ) where
   of_list : of_kind kind (change_of l words bytes).parts ≡ mine
   of_list = of_parts holder.List kind l.counts words bytes
 
+  pub bytes-of_list : bytes_in holder.List kind bytes ≡ (of_kind kind (change_of l words bytes).parts).bytes
+  bytes-of_list = ap (λ (o : Overlay). o.bytes) (sym of_list)
+
   -- what the code hands on, each with its equation
   module _ (room : ℕ) (part : List ℕ) (n : ℕ) (r : room ≡ (span_of holder.List kind).room) (p : part ≡ words_in holder.List kind words) (d : n ≡ count_of kind l.counts) where
     pub rows-of_list : rows_of room part ≡ (of_kind kind (change_of l words bytes).parts).rows
@@ -51,6 +54,9 @@ module _ (kind : TableKind) (l : LogChange) (words bytes : List ℕ) where
   module _ (ok : change_ruled (change_of l words bytes) ≡ true) where
     pub all-words : length words ≡ words_all holder.List
     all-words = words-all holder.List l.counts words bytes (ruled-parts (change_of l words bytes) ok)
+
+    pub all-bytes : length bytes ≡ bytes_all holder.List
+    all-bytes = bytes-all holder.List l.counts words bytes (ruled-parts (change_of l words bytes) ok)
 
     kept : Kept kind (span_of holder.List kind).room mine
     kept = shows kind (span_of holder.List kind).room mine (rw of_list at (kind-kept holder.List kind (change_of l words bytes).parts (ruled-parts (change_of l words bytes) ok)))
@@ -77,3 +83,17 @@ list-ruled r = r.ruled
 pub few-drops : (r : Ruled) → (r.list.dropped_tables.count ≤ 16) × (r.list.dropped_ref_count_tables.count ≤ 16)
 unfolding list_of
 few-drops r = let k = ruled-shows (change_of r.list r.words.now r.bytes.now) r.ruled in (k.drops, k.count-drops)
+
+-- its parts that the code names
+module _ (r : Ruled) where
+  pub id-of_list : (list_of r).id ≡ r.list.record_id
+  unfolding list_of
+  id-of_list = refl
+
+  pub drops-of_list : (list_of r).drops ≡ r.list.dropped_tables
+  unfolding list_of
+  drops-of_list = refl
+
+  pub count_drops-of_list : (list_of r).count_drops ≡ r.list.dropped_ref_count_tables
+  unfolding list_of
+  count_drops-of_list = refl

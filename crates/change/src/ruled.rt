@@ -39,6 +39,13 @@ impl<'a> Ruled<'a> {
         )
     }
 
+    // Their slots of bytes.
+    pub fn slots(self, kind: TableKind) -> &'a [u8]
+        ensures { result.now ≡ (of_kind kind (list_of self.entry).parts).bytes }
+    {
+        Holder::List.bytes(kind, self.bytes)
+    }
+
     fn kind_fits(self, directory: Directory, kind: TableKind) -> bool
         ensures { result ≡ entries_fit directory kind (of_kind kind (list_of self.entry).parts) }
     {

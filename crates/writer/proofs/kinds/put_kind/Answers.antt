@@ -1,59 +1,48 @@
--- `put_kind` meets its contract: the kind's two parts, lent at once. Assumes nothing.
-use mathlib.Core.Path.{◌≡◌}
+-- `put_kind` meets its contract. The invariant: the entries from there on are left to write. Assumes nothing.
+use mathlib.Core.Path.{refl, ◌∙◌}
 use native.Mathlib.Omega.{arith}
-use lib.ListN.{length}
-use Rattle.memory.specs.declared.span.Holder.TheVariants as holder
-use Rattle.memory.proofs.Spans.{words-all, bytes-all}
-use Rattle.memory.proofs.Lent.{Fits, fits, lent_is, lent-kept}
+use Rattle.memory.specs.Parts.{of_kind}
+use Rattle.change.specs.Ruled.{list_of}
+use Rattle.output.proofs.Laws.{all_left, joined-room, joined-rest, joined-done}
+use Rattle.writer.specs.Bytes.{entry_bytes_at, entries}
+use Rattle.writer.proofs.Rules.{few, low, past, lent-writable, lent-bytes}
 use Rattle.writer.proofs.kinds.put_kind.Goals as goal
 
-pub offset_bounds-words-s : goal.offset_bounds-words-s
-offset_bounds-words-s c =
-    let lies : Fits holder.List c.span_of-s.result = fits holder.List c.args.kind c.span_of-s.result c.span_of-s.ensures in
-    let l = lies in omega (arith, l.words-rise, l.words_in, l.words-most)
+pub loop-place-init : goal.loop-place-init
+unfolding entries
+loop-place-init c = record { long = refl; left = all_left _ _ _ }
 
-pub slice_bounds-put_entries-count : goal.slice_bounds-put_entries-count
-slice_bounds-put_entries-count c =
-    let lies : Fits holder.List c.span_of-s.result = fits holder.List c.args.kind c.span_of-s.result c.span_of-s.ensures in
-    lies.words-rise
-
-pub slice_bounds-put_entries-start : goal.slice_bounds-put_entries-start
-slice_bounds-put_entries-start c =
-    let lies : Fits holder.List c.span_of-s.result = fits holder.List c.args.kind c.span_of-s.result c.span_of-s.ensures in
-    lies.words-rise
-
-pub slice_bounds-put_entries-end : goal.slice_bounds-put_entries-end
-slice_bounds-put_entries-end c =
-    let lies : Fits holder.List c.span_of-s.result = fits holder.List c.args.kind c.span_of-s.result c.span_of-s.ensures in
-    let words_long : length c.args.words.now ≡ 400 = words-all holder.List c.args.counts c.args.words.now c.args.bytes.now c.requires.0 in
-    omega (arith, lies.words_in, words_long)
-
-pub slice_bounds-put_entries-count-2 : goal.slice_bounds-put_entries-count-2
-slice_bounds-put_entries-count-2 c =
-    let lies : Fits holder.List c.span_of-s.result = fits holder.List c.args.kind c.span_of-s.result c.span_of-s.ensures in
-    lies.bytes-rise
-
-pub slice_bounds-put_entries-start-2 : goal.slice_bounds-put_entries-start-2
-slice_bounds-put_entries-start-2 c =
-    let lies : Fits holder.List c.span_of-s.result = fits holder.List c.args.kind c.span_of-s.result c.span_of-s.ensures in
-    lies.bytes-rise
-
-pub slice_bounds-put_entries-end-2 : goal.slice_bounds-put_entries-end-2
-slice_bounds-put_entries-end-2 c =
-    let lies : Fits holder.List c.span_of-s.result = fits holder.List c.args.kind c.span_of-s.result c.span_of-s.ensures in
-    let bytes-long : length c.args.bytes.now ≡ 49152 = bytes-all holder.List c.args.counts c.args.words.now c.args.bytes.now c.requires.0 in
-    omega (arith, lies.bytes_in, bytes-long)
-
-pub put_entries-requires : goal.put_entries-requires
-put_entries-requires c =
-    let lies : Fits holder.List c.span_of-s.result = fits holder.List c.args.kind c.span_of-s.result c.span_of-s.ensures in
-    let a = c.args in (
-      lies.room_most,
-      lent-kept holder.List a.kind a.counts a.words.now a.bytes.now c.requires.0 c.span_of-s.result c.span_of-s.ensures c.of.result c.of.ensures,
-      rw (lent_is holder.List a.kind a.counts a.words.now a.bytes.now c.span_of-s.result c.span_of-s.ensures c.of.result c.of.ensures) c.requires.1,
+pub put_key-o-requires : goal.put_key-o-requires
+put_key-o-requires c =
+    let a = c.args in
+    let o = of_kind a.kind (list_of a.lent).parts in
+    let k = c.keys-keys in
+    let l = c.loop-place in
+    let j = l.place-index in
+    let h = c.loop-place-test.true in
+    let room = joined-room (entry_bytes_at a.kind o) o.order o.count (few a.kind a.lent) j l.invariant.left (low a.kind a.lent _ _ _ k.ensures.rows k.ensures.order c.slots-slots.ensures j h) in (
+      lent-writable a.kind a.lent _ _ _ k.ensures.rows k.ensures.order c.slots-slots.ensures j h,
+      rw (lent-bytes a.kind a.lent _ _ _ k.ensures.rows k.ensures.order c.slots-slots.ensures j h) (omega (arith, room, l.invariant.long, c.requires)),
     )
+
+pub loop-place-preserved : goal.loop-place-preserved
+loop-place-preserved c =
+    let a = c.args in
+    let o = of_kind a.kind (list_of a.lent).parts in
+    let k = c.keys-keys in
+    let l = c.loop-place in
+    let j = l.place-index in
+    let h = c.loop-place-test.true in
+    record {
+      long = c.put_key-o.auto.out ∙ l.invariant.long;
+      left = joined-rest (entry_bytes_at a.kind o) o.order o.count (few a.kind a.lent) j l.invariant.left (low a.kind a.lent _ _ _ k.ensures.rows k.ensures.order c.slots-slots.ensures j h)
+          (rw (lent-bytes a.kind a.lent _ _ _ k.ensures.rows k.ensures.order c.slots-slots.ensures j h) at c.put_key-o.ensures);
+    }
 
 pub returns : goal.returns
 returns c =
     let a = c.args in
-    rw (lent_is holder.List a.kind a.counts a.words.now a.bytes.now c.span_of-s.result c.span_of-s.ensures c.of.result c.of.ensures) at c.put_entries.ensures
+    let o = of_kind a.kind (list_of a.lent).parts in
+    let k = c.keys-keys in
+    let j = c.loop-place.place-index in
+    joined-done (entry_bytes_at a.kind o) o.order o.count (few a.kind a.lent) j (past a.kind a.lent _ _ _ k.ensures.rows k.ensures.order c.slots-slots.ensures j c.loop-place-test.false) c.loop-place.invariant.left
