@@ -66,7 +66,7 @@ impl Queues {
         let numbers = self.replay_ids;
         let ids = NumberQueue {
             count: self.replay_queue.count,
-            numbers: numbers,
+            numbers,
         };
         let mut q = self;
         q.replay_queue = self.replay_queue.without_first(1);
