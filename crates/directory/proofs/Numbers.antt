@@ -1,17 +1,16 @@
 -- A directory as numbers, a row at a time. Assumes nothing.
 use mathlib.Core.Path.{◌≡◌, refl, sym, ap, ap₂, ◌∙◌, subst}
 use mathlib.Core.Bool.{true, ◌&&◌, and-eq-true_iff}
-use mathlib.Core.List.{List, [], ◌∷◌, ◌++◌}
+use mathlib.Core.List.{List}
 use mathlib.Core.Logic.{⊎_elim}
 use Prim.Native.Nat.{ℕ, zero, suc, ◌+◌, ◌*◌, ◌≤◌, ◌<◌}
 use native.Mathlib.Nat.{zero-add, add-zero, add-suc, suc-add, le_of_suc-le-suc, eq-or-lt_of_le}
-use native.Mathlib.Numerals.{add-one}
 use native.Mathlib.Omega.{arith}
 use borrow.Author.Tests.{leb-true, eq-eqb, ne_eqb}
 use lib.Dec.{eqb, leb}
 use lib.ListN.{length, take, drop, get_or, set, length-set}
-use lib.Seq.{get_or-set_same, get_or-set_other, length-take-le, take-suc, take-take, ext_get_or}
-use Rattle.directory.specs.Table.{is_table, size_of, description}
+use lib.Seq.{get_or-set_same, get_or-set_other, length-take-le, take-take, ext_get_or}
+use Rattle.directory.specs.Table.{is_table, description}
 use Rattle.directory.specs.Directory.{tables_of, find_from, find_table, each_kept, apart, sizes_of, start_of, directory_kept}
 use Rattle.directory.specs.Inner.{name_of, row_in, rows_in, directory_in, Flat, Row, Rows}
 use Rattle.directory.specs.declared.table.TableKind.{TableKind}
@@ -128,16 +127,6 @@ keeps t u i x start s r = record {
 }
 
 -- ---- row by row
-
-sizes_append : (xs ys : List TableDescription) → sizes_of (xs ++ ys) ≡ sizes_of xs + sizes_of ys
-unfolding sizes_of
-sizes_append [] ys = omega arith
-sizes_append (x ∷ xs) ys = omega (arith, sizes_append xs ys)
-
--- one table more
-pub sizes_more : (ts : List TableDescription) (i : ℕ) → i < length ts → sizes_of (take (i + 1) ts) ≡ sizes_of (take i ts) + size_of (get_or ts i no_table_lem)
-unfolding sizes_of
-sizes_more ts i h = rw (add-one, take-suc ts i no_table_lem) (sizes_append (take i ts) (get_or ts i no_table_lem ∷ []) ∙ omega arith)
 
 pub rows_more : (t u : List ℕ) (ts : List TableDescription) (i start : ℕ) → Rows u ts i → Row t i (get_or ts i no_table_lem) start → start ≡ sizes_of (take i ts)
     → ((k : ℕ) → k < 5 * i → get_or t k 0 ≡ get_or u k 0) → Rows t ts (i + 1)

@@ -1,12 +1,16 @@
 -- Tables and a directory as plain numbers. Nothing here has to be believed: `Table` and `Directory` say what the public calls answer.
-use Rattle.std.specs.Prelude.{◌≡◌, Bool, true, false, ◌&&◌, ◌||◌, not, List, [], ◌∷◌, ℕ, zero, suc, ◌+◌, ◌*◌, ◌%◌, ◌≤◌, ◌<◌, eqb, ltb, get_or, take}
+use Rattle.std.specs.Prelude.{◌≡◌, Bool, true, false, ◌&&◌, ◌||◌, not, List, [], ◌∷◌, ℕ, zero, suc, ◌+◌, ◌*◌, ◌%◌, ◌≤◌, ◌<◌, eqb, ltb, get_or, take, Option, option_map}
 use Rattle.std.specs.Prelude.{if◌then◌else◌}
 use Rattle.directory.specs.Table.{description}
-use Rattle.directory.specs.Directory.{directory_kept, sizes_of, start_of}
+use Rattle.directory.specs.Directory.{find_table, directory_kept, sizes_of, start_of}
 use Rattle.directory.specs.declared.table.TableKind.{TableKind}
 use Rattle.directory.specs.declared.table.TableKind.TheVariants.{Index, Value, RefCount}
 use Rattle.directory.specs.declared.table.TableDescription.{TableDescription}
 use Rattle.directory.specs.declared.directory.Directory.{Directory}
+
+-- where the first table of a kind and a number begins in the image, and its description
+abbrev pub placed_table : Directory → TableKind → ℕ → Option (ℕ × TableDescription)
+placed_table d kind number = option_map (λ found. (start_of d found.0, found.1)) (find_table d kind number)
 
 -- a kind and a number as one number: what two tables are compared by
 abbrev pub name_of : TableKind → ℕ → ℕ

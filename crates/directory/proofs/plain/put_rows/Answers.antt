@@ -3,7 +3,8 @@ use mathlib.Core.Path.{◌≡◌, refl}
 use native.Mathlib.Omega.{arith}
 use lib.ListN.{length}
 use Rattle.directory.specs.Directory.{sizes_of}
-use Rattle.directory.proofs.Numbers.{sizes_more, rows_more}
+use Rattle.directory.proofs.Tables.{sizes_more}
+use Rattle.directory.proofs.Numbers.{rows_more}
 use Rattle.directory.proofs.plain.put_rows.Goals as goal
 
 pub loop-i-init : goal.loop-i-init
