@@ -1,7 +1,7 @@
 // A directory for a walk over many actions: it is lent, and where each table in use begins in the image stands beside it. By value it would be
 // copied at every call, and summed up at every action.
 ghost use Rattle.std.specs.Prelude.{◌≡◌, ℕ, ◌<◌, length, get_or};
-ghost use Rattle.directory.specs.Directory.{tables_of, find_table, start_of};
+ghost use Rattle.directory.specs.Directory.{tables_of, start_of};
 
 use super::directory::Directory;
 use super::slice::found;
@@ -27,14 +27,6 @@ impl Layout {
             at += t.size();
         }
         Layout { directory, starts }
-    }
-
-    // As `Directory::find`.
-    #[tactic(auto, unfolding(crate::specs::Directory::find_table))]
-    pub fn find(&self, kind: TableKind, number: u16) -> Option<(usize, TableDescription)>
-        ensures { result ≡ find_table self.now.directory kind number }
-    {
-        found(self.directory.in_use(), kind, number)
     }
 
     // Where the first table of that kind and number begins in the image, with its description.
