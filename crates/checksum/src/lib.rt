@@ -101,12 +101,14 @@ pub fn update(register: u32, bytes: &[u8]) -> u32
     all_in(&NIBBLES, register, bytes)
 }
 
+#[tactic(auto, unfolding(crate::specs::Checksum::finished))]
 pub fn finish(register: u32) -> u32
     ensures { result ≡ finished register }
 {
-    START - register
+    !register
 }
 
+#[tactic(auto, unfolding(crate::specs::Checksum::checksum_of))]
 pub fn checksum(bytes: &[u8]) -> u32
     ensures { result ≡ checksum_of bytes.now }
 {
