@@ -114,12 +114,11 @@ impl LogReader {
     {
         let read = item_at(tables, log, self.position, self.validate, self.crc32);
         let item = read.map_err(|answer| self.refusal(answer))?;
-        let action = item.action();
         Ok(Stepped {
-            action,
+            action: item.action,
             start: item.start,
             length: item.length,
-            reader: self.after(log, action, item.start + item.length),
+            reader: self.after(log, item.action, item.start + item.length),
         })
     }
 

@@ -13,11 +13,10 @@ pub fn apply_rest(t: &[u64; 81], log: &[u8], r: LogReader, image: &mut [u8])
 {
     let mut at = r.position;
     while let Ok(item) = record::item_at(t, log, at, r.validate, r.crc32) {
-        let action = item.action();
-        if action.is_end() {
+        if item.action.is_end() {
             return;
         }
-        effect::apply_action(t, log, action, item.start, item.length, image);
+        effect::apply_action(t, log, item.action, item.start, item.length, image);
         at = item.start + item.length;
     }
 }

@@ -18,7 +18,7 @@ fn end_of(t: &[u64; 81], log: &[u8], r: LogReader) -> Result<usize, Refusal>
         let read = record::item_at(t, log, at, r.validate, r.crc32);
         let item = read.map_err(|answer| Refusal::new(answer, at))?;
         at = item.start + item.length;
-        if item.action().is_end() {
+        if item.action.is_end() {
             return Ok(at);
         }
     }

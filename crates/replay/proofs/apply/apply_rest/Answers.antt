@@ -24,7 +24,7 @@ returns-then-is_end c =
     let a = c.args in
     let l = c.loop-item in
     let d = directory_in a.t.now in
-    let e = item_taken d a.log.now a.r c.requires.1 l.at l.invariant.in_bounds _ _ c.action-action.ensures c.in-Ok.ensures in
+    let e = item_taken d a.log.now a.r c.requires.1 l.at l.invariant.in_bounds _ c.in-Ok.ensures in
     last_applied d a.log.now (moved_to a.r l.at) _ l.image e (sym c.is_end.ensures ∙ c.if-is_end.true) ∙ l.invariant.same
 
 pub apply_action-requires : goal.apply_action-requires
@@ -32,7 +32,7 @@ apply_action-requires c =
     let a = c.args in
     let l = c.loop-item in
     let d = directory_in a.t.now in
-    let p = payload-sized d a.log.now (moved_to a.r l.at) _ (item_taken d a.log.now a.r c.requires.1 l.at l.invariant.in_bounds _ _ c.action-action.ensures c.in-Ok.ensures) in
+    let p = payload-sized d a.log.now (moved_to a.r l.at) _ (item_taken d a.log.now a.r c.requires.1 l.at l.invariant.in_bounds _ c.in-Ok.ensures) in
     record {
       size_in_bounds = p.within;
       flat = (c.requires.0.flat, l.invariant.long ∙ c.requires.0.long);
@@ -43,13 +43,13 @@ pub overflow_add-at : goal.overflow_add-at
 overflow_add-at c =
     let a = c.args in
     let l = c.loop-item in
-    omega (arith, (item_place (directory_in a.t.now) a.log.now a.r c.requires.1 l.at l.invariant.in_bounds _ _ c.action-action.ensures c.in-Ok.ensures).1)
+    omega (arith, (item_place (directory_in a.t.now) a.log.now a.r c.requires.1 l.at l.invariant.in_bounds _ c.in-Ok.ensures).1)
 
 pub loop-item-smaller : goal.loop-item-smaller
 loop-item-smaller c =
     let a = c.args in
     let l = c.loop-item in
-    let p = item_place (directory_in a.t.now) a.log.now a.r c.requires.1 l.at l.invariant.in_bounds _ _ c.action-action.ensures c.in-Ok.ensures in
+    let p = item_place (directory_in a.t.now) a.log.now a.r c.requires.1 l.at l.invariant.in_bounds _ c.in-Ok.ensures in
     omega (arith, p.0, p.1)
 
 pub loop-item-preserved : goal.loop-item-preserved
@@ -60,10 +60,10 @@ loop-item-preserved c =
     let log = a.log.now in
     let taken = c.in-Ok.ensures in
     let ended = sym c.is_end.ensures ∙ c.if-is_end.false in
-    let m = more_applied d log (moved_to a.r l.at) _ l.image (item_taken d log a.r c.requires.1 l.at l.invariant.in_bounds _ _ c.action-action.ensures taken) ended l.invariant.walks in
-    let next = item_next d log a.r c.requires.1 l.at l.invariant.in_bounds _ _ c.action-action.ensures taken ended in
+    let m = more_applied d log (moved_to a.r l.at) _ l.image (item_taken d log a.r c.requires.1 l.at l.invariant.in_bounds _ taken) ended l.invariant.walks in
+    let next = item_next d log a.r c.requires.1 l.at l.invariant.in_bounds _ taken ended in
     record {
-      in_bounds = (item_place d log a.r c.requires.1 l.at l.invariant.in_bounds _ _ c.action-action.ensures taken).1;
+      in_bounds = (item_place d log a.r c.requires.1 l.at l.invariant.in_bounds _ taken).1;
       long = c.apply_action.auto.image ∙ l.invariant.long;
       walks = ap (λ (x : LogReader). is_walked (rest_in d log x)) (sym next) ∙ m.0;
       same =

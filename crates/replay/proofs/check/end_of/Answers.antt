@@ -33,7 +33,7 @@ pub overflow_add-at : goal.overflow_add-at
 overflow_add-at c =
     let a = c.args in
     let taken = sym (ap got_item (mapped_ok _ _ _ _ c.map_err.ensures.cases c.in_ok-item.was)) ∙ c.item_at-read.ensures in
-    omega (arith, (item_place (directory_in a.t.now) a.log.now a.r c.requires.1 c.loop-item.at c.loop-item.invariant.in_bounds c.in_ok-item.item _ refl taken).1)
+    omega (arith, (item_place (directory_in a.t.now) a.log.now a.r c.requires.1 c.loop-item.at c.loop-item.invariant.in_bounds c.in_ok-item.item taken).1)
 
 pub returns-then-is_end : goal.returns-then-is_end
 returns-then-is_end c =
@@ -42,9 +42,9 @@ returns-then-is_end c =
     let l = c.loop-item in
     let i = c.in_ok-item.item in
     let taken = sym (ap got_item (mapped_ok _ _ _ _ c.map_err.ensures.cases c.in_ok-item.was)) ∙ c.item_at-read.ensures in
-    let e = item_taken d a.log.now a.r c.requires.1 l.at l.invariant.in_bounds i _ c.action.ensures taken in
+    let e = item_taken d a.log.now a.r c.requires.1 l.at l.invariant.in_bounds i taken in
     let ended =
-    ap Ok (sym (item_ends d a.log.now a.r c.requires.1 l.at l.invariant.in_bounds _ _ c.action.ensures taken))
+    ap Ok (sym (item_ends d a.log.now a.r c.requires.1 l.at l.invariant.in_bounds _ taken))
     ∙ sym (ap end_in (last d a.log.now (moved_to a.r l.at) _ e (sym c.is_end.ensures ∙ c.if-is_end.true)))
     ∙ l.invariant.same in
     let place = ended-place d a.log.now a.r (i.start + i.length) c.requires.1 ended in
@@ -54,7 +54,7 @@ pub loop-item-smaller : goal.loop-item-smaller
 loop-item-smaller c =
     let a = c.args in
     let taken = sym (ap got_item (mapped_ok _ _ _ _ c.map_err.ensures.cases c.in_ok-item.was)) ∙ c.item_at-read.ensures in
-    let p = item_place (directory_in a.t.now) a.log.now a.r c.requires.1 c.loop-item.at c.loop-item.invariant.in_bounds c.in_ok-item.item _ c.action.ensures taken in
+    let p = item_place (directory_in a.t.now) a.log.now a.r c.requires.1 c.loop-item.at c.loop-item.invariant.in_bounds c.in_ok-item.item taken in
     omega (arith, p.0, p.1)
 
 pub loop-item-preserved : goal.loop-item-preserved
@@ -65,12 +65,12 @@ loop-item-preserved c =
     let l = c.loop-item in
     let i = c.in_ok-item.item in
     let taken = sym (ap got_item (mapped_ok _ _ _ _ c.map_err.ensures.cases c.in_ok-item.was)) ∙ c.item_at-read.ensures in
-    let e = item_taken d log a.r c.requires.1 l.at l.invariant.in_bounds i _ c.action.ensures taken in
+    let e = item_taken d log a.r c.requires.1 l.at l.invariant.in_bounds i taken in
     let ended = sym c.is_end.ensures ∙ c.if-is_end.false in
     record {
-      in_bounds = (item_place d log a.r c.requires.1 l.at l.invariant.in_bounds i _ c.action.ensures taken).1;
+      in_bounds = (item_place d log a.r c.requires.1 l.at l.invariant.in_bounds i taken).1;
       same =
-          ap (λ (x : LogReader). end_in (rest_in d log x)) (sym (item_next d log a.r c.requires.1 l.at l.invariant.in_bounds _ _ c.action.ensures taken ended))
+          ap (λ (x : LogReader). end_in (rest_in d log x)) (sym (item_next d log a.r c.requires.1 l.at l.invariant.in_bounds _ taken ended))
           ∙ sym (more-ends d log (moved_to a.r l.at) _ e ended)
           ∙ l.invariant.same;
     }
