@@ -6,9 +6,8 @@ ghost use Rattle.record.specs.Record.{key, chunk, value, table, sum_holds, ended
 
 use super::action::LogAction;
 use super::mask::entries_length;
-use super::tables::Tables;
 use answer::{Answer, Tag};
-use directory::{IndexTableId, RefCountTableId, TableDescription, TableKind};
+use directory::{Directory, IndexTableId, RefCountTableId, TableDescription, TableKind};
 
 // A table's number and an index, both tested, with the table's description.
 #[derive(Clone, Copy)]
@@ -41,17 +40,16 @@ impl ReadItem {
 
 // Table and index, behind the tag of an insertion.
 #[tactic(auto, unfolding(crate::specs::Format::read_at, crate::specs::Record::key))]
-fn key_at<T: Tables>(tables: &T, log: &[u8], body: usize, kind: TableKind) -> Result<Key, Answer>
-    requires formed { T.formed tables.now }
-    requires in_bounds { body ≤ length log.now }
-    ensures { got_by result (body + 10) ≡ read_at (key (T.directory tables.now) kind) body log.now }
+fn key_at(directory: &Directory, log: &[u8], body: usize, kind: TableKind) -> Result<Key, Answer>
+    requires { body ≤ length log.now }
+    ensures { got_by result (body + 10) ≡ read_at (key directory.now kind) body log.now }
 {
     if log.len() - body < 10 {
         return Err(Answer::Cut);
     }
     let table = words::u16_at(log, body);
     let index = words::u64_at(log, body + 2);
-    let Some((_, description)) = tables.find(kind, table) else {
+    let Some((_, description)) = directory.find(kind, table) else {
         return Err(Answer::NoTable);
     };
     if index < u64::from(description.count) {
@@ -110,17 +108,16 @@ fn value_at(log: &[u8], start: usize, k: Key) -> Result<ReadItem, Answer>
 }
 
 // Tags 2, 3 and 6: a key, and the payload behind it.
-fn inserted_at<T: Tables>(
-    tables: &T,
+fn inserted_at(
+    directory: &Directory,
     log: &[u8],
     body: usize,
     kind: TableKind,
 ) -> Result<ReadItem, Answer>
-    requires formed { T.formed tables.now }
-    requires in_bounds { body ≤ length log.now }
-    ensures { got_item result ≡ read_at (inserted_item (T.directory tables.now) kind) body log.now }
+    requires { body ≤ length log.now }
+    ensures { got_item result ≡ read_at (inserted_item directory.now kind) body log.now }
 {
-    let k = key_at(tables, log, body, kind)?;
+    let k = key_at(directory, log, body, kind)?;
     let start = body + 10;
     match kind {
         TableKind::Index => chunk_at(log, start, kind, 8, k),
@@ -155,16 +152,15 @@ fn ended_at(log: &[u8], body: usize, validate: bool, register: u32) -> Result<Re
 
 // A table's number, behind the tag of a drop.
 #[tactic(auto, unfolding(crate::specs::Format::read_at, crate::specs::Record::table))]
-fn table_at<T: Tables>(tables: &T, log: &[u8], body: usize, kind: TableKind) -> Result<u16, Answer>
-    requires formed { T.formed tables.now }
-    requires in_bounds { body ≤ length log.now }
-    ensures { got_by result (body + 2) ≡ read_at (table (T.directory tables.now) kind) body log.now }
+fn table_at(directory: &Directory, log: &[u8], body: usize, kind: TableKind) -> Result<u16, Answer>
+    requires { body ≤ length log.now }
+    ensures { got_by result (body + 2) ≡ read_at (table directory.now kind) body log.now }
 {
     if log.len() - body < 2 {
         return Err(Answer::Cut);
     }
     let number = words::u16_at(log, body);
-    match tables.find(kind, number) {
+    match directory.find(kind, number) {
         None => Err(Answer::NoTable),
         Some(_) => Ok(number),
     }
@@ -172,16 +168,15 @@ fn table_at<T: Tables>(tables: &T, log: &[u8], body: usize, kind: TableKind) -> 
 
 // The decision on the tag, inside a record.
 #[tactic(auto, unfolding(crate::specs::Format::read_at, crate::specs::Record::inside, crate::specs::Record::inside_by, crate::specs::Record::dropped_item))]
-pub fn item_at<T: Tables>(
-    tables: &T,
+pub fn item_at(
+    directory: &Directory,
     log: &[u8],
     at: usize,
     validate: bool,
     register: u32,
 ) -> Result<ReadItem, Answer>
-    requires formed { T.formed tables.now }
-    requires in_bounds { at ≤ length log.now }
-    ensures { got_item result ≡ read_at (inside (T.directory tables.now) validate register) at log.now }
+    requires { at ≤ length log.now }
+    ensures { got_item result ≡ read_at (inside directory.now validate register) at log.now }
 {
     let Some(&tag) = log.get(at) else {
         return Err(Answer::Cut);
@@ -189,16 +184,16 @@ pub fn item_at<T: Tables>(
     let body = at + 1;
     match tag {
         1 => Err(Answer::OutOfPlace),
-        2 => inserted_at(tables, log, body, TableKind::Index),
-        3 => inserted_at(tables, log, body, TableKind::Value),
+        2 => inserted_at(directory, log, body, TableKind::Index),
+        3 => inserted_at(directory, log, body, TableKind::Value),
         4 => ended_at(log, body, validate, register),
         5 => {
-            let number = table_at(tables, log, body, TableKind::Index)?;
+            let number = table_at(directory, log, body, TableKind::Index)?;
             Ok(ReadItem::bare(LogAction::DropTable(IndexTableId(number)), body + 2))
         }
-        6 => inserted_at(tables, log, body, TableKind::RefCount),
+        6 => inserted_at(directory, log, body, TableKind::RefCount),
         7 => {
-            let number = table_at(tables, log, body, TableKind::RefCount)?;
+            let number = table_at(directory, log, body, TableKind::RefCount)?;
             Ok(ReadItem::bare(
                 LogAction::DropRefCountTable(RefCountTableId(number)),
                 body + 2,

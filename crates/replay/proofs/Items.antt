@@ -2,8 +2,9 @@
 use mathlib.Core.Path.{◌≡◌, refl, sym, ap, ◌∙◌}
 use mathlib.Core.Bool.{Bool, true, false}
 use mathlib.Core.List.{List}
-use Prim.Native.Nat.{ℕ, ◌+◌, ◌≤◌, ◌<◌}
-use lib.ListN.{length}
+use Prim.Native.Nat.{ℕ, ◌+◌, ◌-◌, ◌≤◌, ◌<◌}
+use native.Mathlib.Omega.{arith}
+use lib.ListN.{length, take, drop}
 use Rattle.words.proofs.Choices.{if_false}
 use Rattle.directory.specs.declared.directory.Directory.{Directory}
 use Rattle.answer.specs.Answer.{refusal}
@@ -30,6 +31,10 @@ after-position log r action end = go (is_end action) refl
     go : (b : Bool) → is_end action ≡ b → (reader_after log r action end).position ≡ end
     go true e = rw e
     go false e = rw e
+
+-- the bytes from a place up to n behind it
+pub payload-part : (s n : ℕ) (l : List ℕ) → take (s + n - s) (drop s l) ≡ take n (drop s l)
+payload-part s n l = let e : s + n - s ≡ n = omega arith in rw e
 
 module _ (d : Directory) (log : List ℕ) (r : LogReader) (w : Walker log r) (at : ℕ) (h : at ≤ length log) where
   pub item_refused : (a : Answer) → stopped a ≡ read_at (inside d r.validate r.crc32) at log → step_of d log (moved_to r at) ≡ Err (refusal a at)

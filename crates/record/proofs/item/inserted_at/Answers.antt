@@ -9,24 +9,24 @@ use Rattle.record.proofs.Parts.{payload_of, payload_8, payload_16, inserted-stop
 use Rattle.record.proofs.item.inserted_at.Goals as goal
 
 pub chunk_at-requires : goal.chunk_at-requires
-chunk_at-requires g c = (omega arith, (within (key _ _) _ _ _ _ c.requires.in_bounds (sym c.in_ok-k.ensures)).inside)
+chunk_at-requires c = (omega arith, (within (key _ _) _ _ _ _ c.requires (sym c.in_ok-k.ensures)).inside)
 
 pub value_at-requires : goal.value_at-requires
-value_at-requires g c = (within (key _ _) _ _ _ _ c.requires.in_bounds (sym c.in_ok-k.ensures)).inside
+value_at-requires c = (within (key _ _) _ _ _ _ c.requires (sym c.in_ok-k.ensures)).inside
 
 pub chunk_at-requires-in-RefCount : goal.chunk_at-requires-in-RefCount
-chunk_at-requires-in-RefCount g c = (omega arith, (within (key _ _) _ _ _ _ c.requires.in_bounds (sym c.in_ok-k.ensures)).inside)
+chunk_at-requires-in-RefCount c = (omega arith, (within (key _ _) _ _ _ _ c.requires (sym c.in_ok-k.ensures)).inside)
 
 pub returns-in_err-k : goal.returns-in_err-k
-returns-in_err-k g c =
+returns-in_err-k c =
     let p = err_from_is_err_and c.from_residual.result c.from_residual.ensures.1 in
     rw (p.1, p.2) (inserted-stop _ _ _ _ _ c.in_err-k.ensures)
 
 pub returns-in-Index : goal.returns-in-Index
-returns-in-Index g c = c.chunk_at.ensures ∙ inserted_met _ _ _ _ _ _ _ (payload_8 _ _ c.in-Index.is) c.in_ok-k.ensures
+returns-in-Index c = c.chunk_at.ensures ∙ inserted_met _ _ _ _ _ _ _ (payload_8 _ _ c.in-Index.is) c.in_ok-k.ensures
 
 pub returns-in-Value : goal.returns-in-Value
-returns-in-Value g c = c.value_at.ensures ∙ inserted_met _ _ _ _ _ _ _ (ap (λ (kind : TableKind). payload_of kind c.in_ok-k.k) c.in-Value.is) c.in_ok-k.ensures
+returns-in-Value c = c.value_at.ensures ∙ inserted_met _ _ _ _ _ _ _ (ap (λ (kind : TableKind). payload_of kind c.in_ok-k.k) c.in-Value.is) c.in_ok-k.ensures
 
 pub returns-in-RefCount : goal.returns-in-RefCount
-returns-in-RefCount g c = c.chunk_at-in-RefCount.ensures ∙ inserted_met _ _ _ _ _ _ _ (payload_16 _ _ c.in-RefCount.is) c.in_ok-k.ensures
+returns-in-RefCount c = c.chunk_at-in-RefCount.ensures ∙ inserted_met _ _ _ _ _ _ _ (payload_16 _ _ c.in-RefCount.is) c.in_ok-k.ensures
