@@ -1,19 +1,19 @@
--- `found` meets its contract: the first that has the name. Assumes nothing.
-use Rattle.std.proofs.Common.{◌≡◌, true, false, ◌∙◌, sym, rules}
-use Rattle.std.proofs.lemmas.Iterator.{YieldsList-from_slice, IsFirst-from_position}
-use Rattle.directory.specs.Table.{is_table}
-use Rattle.directory.proofs.Tables.{no_table_lem, found-none, found-first}
+-- `found` meets its contract. Assumes nothing.
+use Rattle.std.proofs.Common.{◌∙◌, sym}
+use Rattle.directory.proofs.Tables.{no_table_lem, hit, miss, past}
 use Rattle.directory.proofs.slice.found.Goals as goal
 
-pub returns-in_err-row-clause-first : goal.returns-in_err-row-clause-first
-returns-in_err-row-clause-first c =
+pub returns-then-is-clause-first : goal.returns-then-is-clause-first
+returns-then-is-clause-first c =
     let a = c.args in
-    let f = IsFirst-from_position _ _ _ (λ t. is_table t a.kind a.number ≡ true) (λ t. is_table t a.kind a.number ≡ false) c.position.ensures.ran (YieldsList-from_slice a.tables.now cc) (λ x q k. search rules) (λ x q k. search rules) in
-    c.from_residual.ensures ∙ sym (found-none a.kind a.number 0 a.tables.now (rw c.in_err-row.was at f))
+    sym (hit a.tables.now a.kind a.number c.loop-row.row no_table_lem c.loop-row-test.true (sym c.is.ensures ∙ c.if-is.true)) ∙ c.loop-row.invariant
 
-pub returns-clause-first : goal.returns-clause-first
-returns-clause-first c =
+pub loop-row-preserved : goal.loop-row-preserved
+loop-row-preserved c =
     let a = c.args in
-    let f = IsFirst-from_position _ _ _ (λ t. is_table t a.kind a.number ≡ true) (λ t. is_table t a.kind a.number ≡ false) c.position.ensures.ran (YieldsList-from_slice a.tables.now cc) (λ x q k. search rules) (λ x q k. search rules) in
-    let h = rw c.in_ok-row.was at f in
-    sym (found-first a.kind a.number a.tables.now c.in_ok-row.row no_table_lem h.0 (h.1 _) h.2)
+    sym (miss a.tables.now a.kind a.number c.loop-row.row no_table_lem c.loop-row-test.true (sym c.is.ensures ∙ c.if-is.false)) ∙ c.loop-row.invariant
+
+pub returns : goal.returns
+returns c =
+    let a = c.args in
+    record { first = sym (past a.tables.now a.kind a.number c.loop-row.row c.loop-row-test.false) ∙ c.loop-row.invariant; within = tt }
