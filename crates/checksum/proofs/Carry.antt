@@ -205,19 +205,19 @@ module _ (bs : List ℕ) (known : Bytes bs) where
     divided_last : ahead a (drop i bs) ≡ updated p (drop j bs)
     divided_last = ap (λ (x : ℕ). ahead x (drop i bs)) (sym (zero-add a)) ∙ divided_at 0 ∙ ahead-updated p (drop j bs) (drop_bytes_lem j bs known)
 
-  pub forty_turns : (at a b c d e p q r s u : ℕ) → at + 40 ≤ length bs
+  pub forty_turns : (a b c d e p q r s u : ℕ) → 40 ≤ length bs
       → a < 2 ^ 64 → b < 2 ^ 64 → c < 2 ^ 64 → d < 2 ^ 64 → e < 2 ^ 64 → p < 2 ^ 64 → q < 2 ^ 64 → r < 2 ^ 64 → s < 2 ^ 64
-      → p ≡ shifts 64 (bit_xor a (little_at 8 bs at))
-      → q ≡ shifts 64 (bit_xor (bit_xor b p) (little_at 8 bs (at + 8)))
-      → r ≡ shifts 64 (bit_xor (bit_xor c q) (little_at 8 bs (at + 16)))
-      → s ≡ shifts 64 (bit_xor (bit_xor d r) (little_at 8 bs (at + 24)))
-      → u ≡ shifts 64 (bit_xor (bit_xor e s) (little_at 8 bs (at + 32)))
-      → updated u (drop (at + 40) bs) ≡ ahead ((((e * 2 ^ 64 + d) * 2 ^ 64 + c) * 2 ^ 64 + b) * 2 ^ 64 + a) (drop at bs)
-  forty_turns at a b c d e p q r s u l ha hb hc hd he hp hq hr hs ep eq er es eu =
-      sym (divided_next at (at + 8) (omega arith) (omega arith) a p ha ep ((e * 2 ^ 64 + d) * 2 ^ 64 + c) b hb hp
-      ∙ divided_next (at + 8) (at + 16) (omega arith) (omega arith) (bit_xor b p) q (xor_lt 64 b p hb hp) eq (e * 2 ^ 64 + d) c hc hq
-      ∙ divided_next (at + 16) (at + 24) (omega arith) (omega arith) (bit_xor c q) r (xor_lt 64 c q hc hq) er e d hd hr
-      ∙ ap (λ (x : ℕ). ahead (x * 2 ^ 64 + bit_xor d r) (drop (at + 24) bs)) (sym (zero-add e))
-      ∙ divided_next (at + 24) (at + 32) (omega arith) (omega arith) (bit_xor d r) s (xor_lt 64 d r hd hr) es 0 e he hs
-      ∙ ap (λ (x : ℕ). ahead x (drop (at + 32) bs)) (zero-add (bit_xor e s))
-      ∙ divided_last (at + 32) (at + 40) (omega arith) (omega arith) (bit_xor e s) u (xor_lt 64 e s he hs) eu)
+      → p ≡ shifts 64 (bit_xor a (little_at 8 bs 0))
+      → q ≡ shifts 64 (bit_xor (bit_xor b p) (little_at 8 bs 8))
+      → r ≡ shifts 64 (bit_xor (bit_xor c q) (little_at 8 bs 16))
+      → s ≡ shifts 64 (bit_xor (bit_xor d r) (little_at 8 bs 24))
+      → u ≡ shifts 64 (bit_xor (bit_xor e s) (little_at 8 bs 32))
+      → updated u (drop 40 bs) ≡ ahead ((((e * 2 ^ 64 + d) * 2 ^ 64 + c) * 2 ^ 64 + b) * 2 ^ 64 + a) bs
+  forty_turns a b c d e p q r s u l ha hb hc hd he hp hq hr hs ep eq er es eu =
+      sym (divided_next 0 8 (omega arith) (omega arith) a p ha ep ((e * 2 ^ 64 + d) * 2 ^ 64 + c) b hb hp
+      ∙ divided_next 8 16 (omega arith) (omega arith) (bit_xor b p) q (xor_lt 64 b p hb hp) eq (e * 2 ^ 64 + d) c hc hq
+      ∙ divided_next 16 24 (omega arith) (omega arith) (bit_xor c q) r (xor_lt 64 c q hc hq) er e d hd hr
+      ∙ ap (λ (x : ℕ). ahead (x * 2 ^ 64 + bit_xor d r) (drop 24 bs)) (sym (zero-add e))
+      ∙ divided_next 24 32 (omega arith) (omega arith) (bit_xor d r) s (xor_lt 64 d r hd hr) es 0 e he hs
+      ∙ ap (λ (x : ℕ). ahead x (drop 32 bs)) (zero-add (bit_xor e s))
+      ∙ divided_last 32 40 (omega arith) (omega arith) (bit_xor e s) u (xor_lt 64 e s he hs) eu)

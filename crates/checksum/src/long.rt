@@ -5,8 +5,6 @@ ghost use Rattle.std.specs.Int.Bits.{bit_xor};
 ghost use Rattle.checksum.specs.Checksum.{updated};
 ghost use Rattle.checksum.specs.Inner.{ahead, carried_behind, carried_number, spread};
 
-use words::u64_at;
-
 // What is to be added to the next five words, the nearest one first.
 #[derive(Clone, Copy)]
 pub struct Carried(pub u64, pub u64, pub u64, pub u64, pub u64);
@@ -31,11 +29,9 @@ pub fn carry_all(register: u32, bytes: &[u8], to: usize) -> Carried
     requires { (to % 8 ≡ 0) × (to + 40 ≤ length bytes.now) }
     ensures { ahead (carried_number result) (drop to bytes.now) ≡ updated register bytes.now }
 {
-    let mut s = Carried(register as u64, 0, 0, 0, 0);
-    let mut i = 0;
-    while i < to {
-        s = carry(s, u64_at(bytes, i));
-        i += 8;
+    let mut s = Carried(u64::from(register), 0, 0, 0, 0);
+    for word in bytes[..to].as_chunks::<8>().0 {
+        s = carry(s, u64::from_le_bytes(*word));
     }
     s
 }

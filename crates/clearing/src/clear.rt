@@ -1,6 +1,5 @@
 // The shared overlays, action by action.
 ghost use Rattle.std.specs.Prelude.{◌≡◌, true};
-ghost use Rattle.directory.specs.Inner.{directory_in, Flat};
 ghost use Rattle.memory.specs.declared.span.Holder.TheVariants.{Shared};
 ghost use Rattle.memory.specs.Parts.{parts_of, parts_kept};
 ghost use Rattle.replay.specs.Inner.{is_walked, Walker};
@@ -8,7 +7,7 @@ ghost use Rattle.replay.specs.Replay.{rest_in};
 ghost use Rattle.clearing.specs.Clear.{named_by, cleared_key};
 ghost use Rattle.clearing.specs.Inner.{cleared_walk};
 
-use directory::TableKind;
+use directory::{Directory, TableKind};
 use memory::{Counts, Holder};
 use record::{LogAction, LogReader};
 
@@ -56,27 +55,26 @@ fn clear_action(
 
 // The entries that a record names, from inside it to its end. It meets no refusal, since the record was checked.
 pub fn clear_rest(
-    t: &[u64; 81],
+    directory: &Directory,
     log: &[u8],
     r: LogReader,
     counts: Counts,
     words: &mut [u64],
     bytes: &mut [u8],
 ) -> Counts
-    requires { Flat t.now × Walker log.now r × (parts_kept Shared (parts_of Shared counts words.old bytes.old) ≡ true)
-        × (is_walked (rest_in (directory_in t.now) log.now r) ≡ true) }
+    requires { Walker log.now r × (parts_kept Shared (parts_of Shared counts words.old bytes.old) ≡ true)
+        × (is_walked (rest_in directory.now log.now r) ≡ true) }
     ensures { parts_of Shared result words.new bytes.new
-        ≡ cleared_walk r.record_id (rest_in (directory_in t.now) log.now r) (parts_of Shared counts words.old bytes.old) }
+        ≡ cleared_walk r.record_id (rest_in directory.now log.now r) (parts_of Shared counts words.old bytes.old) }
 {
     let id = r.record_id;
     let mut at = r.position;
     let mut left = counts;
-    while let Ok(i) = record::item_at(t, log, at, r.validate, r.crc32) {
-        let action = i.action();
-        if action.is_end() {
+    while let Ok(i) = record::item_at(directory, log, at, r.validate, r.crc32) {
+        if i.action.is_end() {
             break;
         }
-        left = clear_action(action, left, words, bytes, id);
+        left = clear_action(i.action, left, words, bytes, id);
         at = i.start + i.length;
     }
     left

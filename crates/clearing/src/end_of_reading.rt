@@ -1,7 +1,6 @@
 // The end of reading a record.
 ghost use Rattle.std.specs.Prelude.{◌≡◌, true};
 ghost use Rattle.directory.specs.Directory.{directory_kept};
-ghost use Rattle.directory.specs.Inner.{directory_in, Flat};
 ghost use Rattle.memory.specs.declared.span.Holder.TheVariants.{Shared};
 ghost use Rattle.memory.specs.Parts.{parts_of, parts_kept};
 ghost use Rattle.memory.specs.Overlays.{overlays_of};
@@ -21,36 +20,7 @@ pub struct EndRead {
     pub overlays: LogOverlays,
 }
 
-// Reads the record at a position again and takes its entries out of the overlays, under a directory in numbers.
-fn end_read_in(
-    t: &[u64; 81],
-    log: &[u8],
-    position: usize,
-    overlays: LogOverlays,
-    words: &mut [u64],
-    bytes: &mut [u8],
-    next: u64,
-) -> Result<EndRead, Refusal>
-    requires { Flat t.now × (parts_kept Shared (parts_of Shared overlays.counts words.old bytes.old) ≡ true) }
-    ensures { end_read_of_of position overlays next result words.new bytes.new
-        ≡ end_read_by position (overlays_of overlays words.old bytes.old) next (clearable (record_again (directory_in t.now) log.now position)) }
-{
-    let whole = replay::check_record_in(t, log, position)?;
-    let id = whole.opened.record_id;
-    if id == answer::LAST_RECORD_ID {
-        return Err(Refusal::new(Answer::UsedUp, whole.end));
-    }
-    let reader = whole.opened.unvalidated();
-    let counts = clear_rest(t, log, reader, overlays.counts, words, bytes);
-    Ok(EndRead {
-        position: whole.end,
-        record_id: id,
-        next_record_id: next.max(id + 1),
-        overlays: LogOverlays { counts, ..overlays },
-    })
-}
-
-// The same where all of it was tested already.
+// Reads the record at a position again and takes its entries out of the overlays, where all of it was tested already.
 pub fn end_read_kept(
     directory: Directory,
     log: &[u8],
@@ -64,8 +34,19 @@ pub fn end_read_kept(
     ensures { end_read_of_of position overlays next result words.new bytes.new
         ≡ end_read_by position (overlays_of overlays words.old bytes.old) next (clearable (record_again directory log.now position)) }
 {
-    let t = directory::flat(directory);
-    end_read_in(&t, log, position, overlays, words, bytes, next)
+    let whole = replay::check_record_in(&directory, log, position)?;
+    let id = whole.opened.record_id;
+    if id == answer::LAST_RECORD_ID {
+        return Err(Refusal::new(Answer::UsedUp, whole.end));
+    }
+    let reader = whole.opened.unvalidated();
+    let counts = clear_rest(&directory, log, reader, overlays.counts, words, bytes);
+    Ok(EndRead {
+        position: whole.end,
+        record_id: id,
+        next_record_id: next.max(id + 1),
+        overlays: LogOverlays { counts, ..overlays },
+    })
 }
 
 // The same, tested: 13 before anything is read.

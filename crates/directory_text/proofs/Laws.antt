@@ -1,159 +1,133 @@
 -- Laws of scanning. Assumes nothing.
-use mathlib.Core.Path.{◌≡◌, refl, sym, ap, ap₂, ◌∙◌}
+use mathlib.Core.Path.{◌≡◌, refl, sym, ap, ◌∙◌}
 use mathlib.Core.Bool.{Bool, true, false, not, ◌&&◌}
 use mathlib.Core.List.{List, [], ◌∷◌}
-use Prim.Native.Nat.{ℕ, suc, ◌+◌, ◌-◌, ◌≤◌, ◌<◌}
+use Prim.Native.Nat.{ℕ, suc, ◌+◌, ◌<◌}
 use native.Mathlib.Numerals.{add-one}
 use native.Mathlib.Omega.{arith}
 use borrow.Author.Tests.{eq-eqb, ne_eqb}
 use lib.Dec.{eqb}
-use lib.ListN.{length, take, drop, get_or, drop_of_length-le, length-drop}
-use lib.Seq.{drop-drop, drop-cons, length-take-le}
-use Rattle.std.specs.Prelude.{if◌then◌else◌}
-use Rattle.directory_text.specs.Scan.{is_blank, scans_past, front, behind, word_of, behind_word, is_none, same_bytes, on_first, text_lines}
-use Rattle.directory_text.specs.declared.scan.Pass.TheVariants.{Blanks, Word, Before}
+use lib.Pointwise.{pointwise}
+use Rattle.std.specs.Bool.{◌==◌}
+use lib.ListN.{length, take, drop, length-drop}
+use lib.Seq.{drop-drop}
+use Rattle.std.specs.Prelude.{if◌then◌else◌, Option, MatchOption}
+use Rattle.std.specs.List.{AllWithin, HoldsAt}
+use Rattle.std.specs.Option.{unwrap_or}
+use Rattle.std.proofs.lemmas.Iterator.{index_from_first}
+use Rattle.directory_text.specs.Scan.{is_blank, is_wordy, is_before, front, behind, is_none, same_bytes, on_first, text_lines}
 
--- one byte of a scan, by its test
-module _ (p : ℕ → Bool) (text : List ℕ) (at : ℕ) (within : at < length text) where
-  pub front_goes : p (get_or text at 0) ≡ true → length (front p (drop at text)) ≡ suc (length (front p (drop (at + 1) text)))
+-- ---- the bytes in front that pass, by the place of the first that doesn't
+
+module _ (p : ℕ → Bool) where
+  front-hit : (b : ℕ) (bs : List ℕ) → p b ≡ false → length (front p (b ∷ bs)) ≡ 0
   unfolding front
-  front_goes e = rw (add-one at, drop-cons text at 0 within, e)
+  front-hit b bs e = rw e
 
-  pub front-stops : p (get_or text at 0) ≡ false → length (front p (drop at text)) ≡ 0
+  front-miss : (b : ℕ) (bs : List ℕ) → p b ≡ true → length (front p (b ∷ bs)) ≡ length (front p bs) + 1
   unfolding front
-  front-stops e = rw (drop-cons text at 0 within, e)
+  front-miss b bs e = rw (e, add-one (length (front p bs)))
 
-pub front-end : (p : ℕ → Bool) (text : List ℕ) (at : ℕ) → length text ≤ at → length (front p (drop at text)) ≡ 0
-unfolding front
-front-end p text at h =
-    let e : drop at text ≡ [] = drop_of_length-le text {i = at} h in
-    rw e
+  front-none : length (front p []) ≡ 0
+  unfolding front
+  front-none = refl
 
--- what is passed over, and what is left behind it
-front-turn : (b : ℕ) (bs f : List ℕ) → take (length f) bs ≡ f → (t : Bool) → take (length (if t then b ∷ f else [])) (b ∷ bs) ≡ (if t then b ∷ f else [])
-front-turn b bs f e true = ap (λ (l : List ℕ). b ∷ l) e
-front-turn b bs f e false = refl
+  scanned : (text : List ℕ) (r : Option ℕ)
+      → MatchOption r (AllWithin (λ b. p b ≡ true) text 0 (length text)) (λ i. (i < length text) × HoldsAt (λ b. p b ≡ false) text i × AllWithin (λ b. p b ≡ true) text 0 i)
+      → length (front p text) ≡ unwrap_or r (length text)
+  scanned text r h = index_from_first (λ l. length (front p l)) (λ b. p b ≡ false) (λ b. p b ≡ true) front-none front-hit front-miss text r h
 
-by_front : (p : ℕ → Bool) (bs : List ℕ) → take (length (front p bs)) bs ≡ front p bs
-unfolding front
-by_front p [] = refl
-by_front p (b ∷ bs) = front-turn b bs (front p bs) (by_front p bs) (p b)
+  front-turn : (b : ℕ) (bs f : List ℕ) → take (length f) bs ≡ f → (t : Bool) → take (length (if t then b ∷ f else [])) (b ∷ bs) ≡ (if t then b ∷ f else [])
+  front-turn b bs f e true = ap (λ (l : List ℕ). b ∷ l) e
+  front-turn b bs f e false = refl
 
-behind-turn : (b : ℕ) (bs f r : List ℕ) → drop (length f) bs ≡ r → (t : Bool) → drop (length (if t then b ∷ f else [])) (b ∷ bs) ≡ (if t then r else b ∷ bs)
-behind-turn b bs f r e true = e
-behind-turn b bs f r e false = refl
+  by_front : (bs : List ℕ) → take (length (front p bs)) bs ≡ front p bs
+  unfolding front
+  by_front [] = refl
+  by_front (b ∷ bs) = front-turn b bs (front p bs) (by_front bs) (p b)
 
-by-behind : (p : ℕ → Bool) (bs : List ℕ) → drop (length (front p bs)) bs ≡ behind p bs
-unfolding front behind
-by-behind p [] = refl
-by-behind p (b ∷ bs) = behind-turn b bs (front p bs) (behind p bs) (by-behind p bs) (p b)
+  behind-turn : (b : ℕ) (bs f r : List ℕ) → drop (length f) bs ≡ r → (t : Bool) → drop (length (if t then b ∷ f else [])) (b ∷ bs) ≡ (if t then r else b ∷ bs)
+  behind-turn b bs f r e true = e
+  behind-turn b bs f r e false = refl
 
--- what a scan from a place on that stopped at another says
-module _ (p : ℕ → Bool) (text : List ℕ) (from r : ℕ) (e : r ≡ from + length (front p (drop from text))) where
-  pub passed : take (r - from) (drop from text) ≡ front p (drop from text)
-  passed =
-      let s : r - from ≡ length (front p (drop from text)) = omega arith in
-      rw s (by_front p (drop from text))
+  pub by-behind : (bs : List ℕ) → drop (length (front p bs)) bs ≡ behind p bs
+  unfolding front behind
+  by-behind [] = refl
+  by-behind (b ∷ bs) = behind-turn b bs (front p bs) (behind p bs) (by-behind bs) (p b)
 
-  pub left : drop r text ≡ behind p (drop from text)
-  left =
-      ap (λ (k : ℕ). drop k text) e
-      ∙ sym (drop-drop (length (front p (drop from text))) from text)
-      ∙ by-behind p (drop from text)
+  -- cut at that place, or at the end
+  module _ (text : List ℕ) (r : Option ℕ)
+      (h : MatchOption r (AllWithin (λ b. p b ≡ true) text 0 (length text)) (λ i. (i < length text) × HoldsAt (λ b. p b ≡ false) text i × AllWithin (λ b. p b ≡ true) text 0 i))
+      (end : ℕ) (e : end ≡ unwrap_or r (length text)) where
+    pub cut_front : take end text ≡ front p text
+    cut_front = ap (λ (n : ℕ). take n text) (e ∙ sym (scanned text r h)) ∙ by_front text
 
--- whether bytes are left
-pub none_true : (l : List ℕ) → length l ≡ 0 → is_none l ≡ true
+    pub cut-behind : drop end text ≡ behind p text
+    cut-behind = ap (λ (n : ℕ). drop n text) (e ∙ sym (scanned text r h)) ∙ by-behind text
+
+-- the tests in the code, and the definitions'
+pub wordy : (b : ℕ) → is_blank b ≡ false → is_wordy b ≡ true
+unfolding is_wordy
+wordy b e = rw e refl
+
+pub blank : (b : ℕ) → is_blank b ≡ true → is_wordy b ≡ false
+unfolding is_wordy
+blank b e = rw e refl
+
+pub is_it : (c b : ℕ) → b ≡ c → is_before c b ≡ false
+unfolding is_before
+is_it c b e = rw (eq-eqb b c e) refl
+
+pub is_other : (c b : ℕ) → (b ≡ c → ⊥) → is_before c b ≡ true
+unfolding is_before
+is_other c b e = rw (ne_eqb b c e) refl
+
+-- ---- whether bytes are left
+
+pub none_is : (l : List ℕ) (b : Bool) → b ≡ (length l == 0) → is_none l ≡ b
 unfolding is_none
-none_true [] e = refl
-none_true (b ∷ bs) e = absurd (omega arith)
+none_is [] b e = sym e
+none_is (x ∷ l) b e = sym (e ∙ ne_eqb (length (x ∷ l)) 0 (λ q. omega arith))
 
-pub none-false : (l : List ℕ) → 0 < length l → is_none l ≡ false
-unfolding is_none
-none-false [] h = absurd (omega arith)
-none-false (b ∷ bs) h = refl
+-- ---- the lines of a text, one after the other
 
--- blanks, then a word
-module _ (code : List ℕ) (from start end : ℕ) (b : start ≡ from + length (front (scans_past Blanks) (drop from code))) (w : end ≡ start + length (front (scans_past Word) (drop start code))) where
-  pub word : word_of (drop from code) ≡ take (end - start) (drop start code)
-  unfolding word_of
-  word = sym (passed (scans_past Word) code start end w ∙ ap (front (scans_past Word)) (left (scans_past Blanks) code from start b))
-
-  pub rest : behind_word (drop from code) ≡ drop end code
-  unfolding behind_word
-  rest = sym (left (scans_past Word) code start end w ∙ ap (behind (scans_past Word)) (left (scans_past Blanks) code from start b))
-
-  pub no_word : start ≡ end → is_none (word_of (drop from code)) ≡ true
-  no_word e =
-      let s : end - start ≡ 0 = omega arith in
-      ap is_none word ∙ none_true (take (end - start) (drop start code)) (rw s)
-
-  pub some_word : (start ≡ end → ⊥) → start ≤ end → end ≤ length code → is_none (word_of (drop from code)) ≡ false
-  some_word n h k = ap is_none word ∙ none-false (take (end - start) (drop start code)) (simp (length-take-le (end - start) (drop start code) (simp length-drop (omega arith))) (omega arith))
-
--- the lines of a text, one after the other
-lines-turn : (b : ℕ) (bs f : List ℕ) → on_first b (text_lines bs) ≡ (b ∷ f) ∷ text_lines (drop (suc (length f)) bs) → (t : Bool) → (if t then [] ∷ text_lines bs else on_first b (text_lines bs)) ≡ (if not t then b ∷ f else []) ∷ text_lines (drop (suc (length (if not t then b ∷ f else []))) (b ∷ bs))
+lines-turn : (b : ℕ) (bs f : List ℕ) → on_first b (text_lines bs) ≡ (b ∷ f) ∷ text_lines (drop (suc (length f)) bs) → (t : Bool)
+    → (if t then [] ∷ text_lines bs else on_first b (text_lines bs)) ≡ (if not t then b ∷ f else []) ∷ text_lines (drop (suc (length (if not t then b ∷ f else []))) (b ∷ bs))
 lines-turn b bs f e true = refl
 lines-turn b bs f e false = e
 
-first-line : (b : ℕ) (bs : List ℕ) → on_first b (text_lines bs) ≡ (b ∷ front (scans_past (Before 10)) bs) ∷ text_lines (drop (suc (length (front (scans_past (Before 10)) bs))) bs)
-unfolding front scans_past on_first text_lines
+first-line : (b : ℕ) (bs : List ℕ) → on_first b (text_lines bs) ≡ (b ∷ front (is_before 10) bs) ∷ text_lines (drop (suc (length (front (is_before 10) bs))) bs)
+unfolding front is_before on_first text_lines
 first-line b [] = refl
-first-line b (c ∷ cs) = ap (on_first b) (lines-turn c cs (front (scans_past (Before 10)) cs) (first-line c cs) (eqb c 10))
+first-line b (c ∷ cs) = ap (on_first b) (lines-turn c cs (front (is_before 10) cs) (first-line c cs) (eqb c 10))
 
-lines_step : (bs : List ℕ) → 0 < length bs → text_lines bs ≡ front (scans_past (Before 10)) bs ∷ text_lines (drop (suc (length (front (scans_past (Before 10)) bs))) bs)
-unfolding front scans_past text_lines
+lines_step : (bs : List ℕ) → 0 < length bs → text_lines bs ≡ front (is_before 10) bs ∷ text_lines (drop (suc (length (front (is_before 10) bs))) bs)
+unfolding front is_before text_lines
 lines_step [] h = absurd (omega arith)
-lines_step (b ∷ bs) h = lines-turn b bs (front (scans_past (Before 10)) bs) (first-line b bs) (eqb b 10)
+lines_step (b ∷ bs) h = lines-turn b bs (front (is_before 10) bs) (first-line b bs) (eqb b 10)
 
-pub next-line : (text : List ℕ) (at end : ℕ) → at < length text → end ≡ at + length (front (scans_past (Before 10)) (drop at text)) → text_lines (drop at text) ≡ take (end - at) (drop at text) ∷ text_lines (drop (end + 1) text)
-next-line text at end h e =
-    let s : end + 1 ≡ at + suc (length (front (scans_past (Before 10)) (drop at text))) = omega arith in
-    lines_step (drop at text) (simp length-drop (omega arith))
-    ∙ ap₂ (λ (l r : List ℕ). l ∷ text_lines r) (sym (passed (scans_past (Before 10)) text at end e)) (drop-drop (suc (length (front (scans_past (Before 10)) (drop at text)))) at text ∙ ap (λ (k : ℕ). drop k text) (sym s))
+-- the first line, and those behind its end
+pub next-line : (bs : List ℕ) → 0 < length bs → text_lines bs ≡ front (is_before 10) bs ∷ text_lines (drop 1 (behind (is_before 10) bs))
+next-line bs h =
+    let e : suc (length (front (is_before 10) bs)) ≡ length (front (is_before 10) bs) + 1 = omega arith in
+    lines_step bs h ∙ rw (e, ← drop-drop 1 (length (front (is_before 10) bs)) bs, by-behind (is_before 10) bs) refl
 
-pub no_line : (text : List ℕ) (at : ℕ) → length text ≤ at → text_lines (drop at text) ≡ []
+pub line-shorter : (bs : List ℕ) → 0 < length bs → length (drop 1 (behind (is_before 10) bs)) < length bs
+line-shorter bs h = rw (← by-behind (is_before 10) bs) (omega (arith, length-drop 1 (drop (length (front (is_before 10) bs)) bs), length-drop (length (front (is_before 10) bs)) bs))
+
+pub no_line : (bs : List ℕ) → length bs ≡ 0 → text_lines bs ≡ []
 unfolding text_lines
-no_line text at h =
-    let e : drop at text ≡ [] = drop_of_length-le text {i = at} h in
-    rw e
+no_line [] e = refl
+no_line (b ∷ bs) e = absurd (omega arith)
 
--- whether two words are one
-and-false : (t s : Bool) → false ≡ s → false ≡ t && s
-and-false true s e = e
-and-false false s e = refl
+-- ---- whether two words are one, as `==` says it
 
-pub unlike : (a b : List ℕ) → (length a ≡ length b → ⊥) → false ≡ same_bytes a b
+words-same : (a b : List ℕ) → pointwise eqb a b ≡ same_bytes a b
 unfolding same_bytes
-unlike [] [] n = absurd (n refl)
-unlike [] (b ∷ bs) n = refl
-unlike (a ∷ l) [] n = refl
-unlike (a ∷ l) (b ∷ bs) n = and-false (eqb a b) (same_bytes l bs) (unlike l bs (λ e. n (ap suc e)))
+words-same [] [] = refl
+words-same [] (b ∷ bs) = refl
+words-same (a ∷ l) [] = refl
+words-same (a ∷ l) (b ∷ bs) = ap (λ (t : Bool). eqb a b && t) (words-same l bs)
 
-module _ (a b : List ℕ) (i : ℕ) (h : i < length a) (k : i < length b) where
-  pub same-goes : get_or a i 0 ≡ get_or b i 0 → same_bytes (drop i a) (drop i b) ≡ same_bytes (drop (i + 1) a) (drop (i + 1) b)
-  unfolding same_bytes
-  same-goes e = rw (add-one i, drop-cons a i 0 h, drop-cons b i 0 k, eq-eqb (get_or a i 0) (get_or b i 0) e)
-
-  pub same-stops : (get_or a i 0 ≡ get_or b i 0 → ⊥) → same_bytes (drop i a) (drop i b) ≡ false
-  unfolding same_bytes
-  same-stops n = rw (drop-cons a i 0 h, drop-cons b i 0 k, ne_eqb (get_or a i 0) (get_or b i 0) n)
-
-pub same_ends : (a b : List ℕ) (i : ℕ) → length a ≤ i → length b ≤ i → same_bytes (drop i a) (drop i b) ≡ true
-unfolding same_bytes
-same_ends a b i h k =
-    let d : drop i a ≡ [] = drop_of_length-le a {i = i} h in
-    let e : drop i b ≡ [] = drop_of_length-le b {i = i} k in
-    rw (d, e)
-
--- a blank, by its tests
-pub space : (b : ℕ) → b ≡ 32 → true ≡ is_blank b
-unfolding is_blank
-space b e = rw e
-
-pub tab : (b : ℕ) → b ≡ 9 → true ≡ is_blank b
-unfolding is_blank
-tab b e = rw e
-
-pub no-space : (b : ℕ) → (b ≡ 32 → ⊥) → (b ≡ 9 → ⊥) → eqb b 13 ≡ is_blank b
-unfolding is_blank
-no-space b n m = rw (ne_eqb b 32 n, ne_eqb b 9 m)
+pub tested : (word l k : List ℕ) (t : Bool) → l ≡ k → t ≡ pointwise eqb word l → same_bytes word k ≡ t
+tested word l k t e f = sym (f ∙ ap (pointwise eqb word) e ∙ words-same word k)

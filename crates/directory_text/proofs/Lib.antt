@@ -1,4 +1,2 @@
--- Laws that belong to no one function.
-mod Laws
-mod Parts
-mod Whole
+pub mod Laws
+pub mod Lines

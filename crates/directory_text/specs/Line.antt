@@ -1,76 +1,77 @@
 -- A line of a directory's text: a word for the kind, then numbers. Assumes nothing.
-use Rattle.std.specs.Prelude.{Bool, true, false, List, [], ◌∷◌, ℕ, ltb}
+use Rattle.std.specs.Prelude.{List, [], ◌∷◌, ℕ, ltb, Option, Some, None, Result, Ok, Err}
 use Rattle.std.specs.Prelude.{if◌then◌else◌}
 use Rattle.directory.specs.Table.{description}
 use Rattle.directory.specs.declared.table.TableKind.{TableKind}
 use Rattle.directory.specs.declared.table.TableKind.TheVariants.{Index, Value, RefCount}
-use Rattle.directory_text.specs.Scan.{scans_past, front, behind, word_of, behind_word, is_none, same_bytes}
+use Rattle.directory.specs.declared.table.TableDescription.{TableDescription}
+use Rattle.directory_text.specs.Scan.{is_blank, is_before, front, behind, word_of, behind_word, is_none, same_bytes}
 use Rattle.directory_text.specs.Number.{word_number}
-use Rattle.directory_text.specs.declared.scan.Pass.TheVariants.{Blanks, Before}
-use Rattle.directory_text.specs.declared.number.Number.{Number}
-use Rattle.directory_text.specs.declared.number.Number.TheVariants as number
+use Rattle.directory_text.specs.declared.number.NotNumber.{NotNumber}
+use Rattle.directory_text.specs.declared.number.NotNumber.TheVariants as number
 use Rattle.directory_text.specs.declared.fault.Fault.{Fault}
 use Rattle.directory_text.specs.declared.fault.Fault.TheVariants as fault
-use Rattle.directory_text.specs.declared.line.Line.{Line}
-use Rattle.directory_text.specs.declared.line.Line.TheVariants as line
 
--- whether there is a fault
-abbrev pub is_any : Fault → Bool
-is_any fault.None = false
-is_any fault.UnknownKind = true
-is_any (fault.Missing n) = true
-is_any (fault.NotDecimal n) = true
-is_any (fault.TooLarge n) = true
-is_any fault.MoreWords = true
-is_any fault.SeventeenthTable = true
-is_any fault.RuleBroken = true
-is_any fault.NameTaken = true
+-- a number of at most so much with what stands behind it, or what is wrong with it; `which` is its place in the line
+unfoldable pub fitted : ℕ → ℕ → Result ℕ NotNumber → List ℕ → Result (ℕ × List ℕ) Fault
+fitted which most (Ok n) rest = if ltb most n then Err (fault.TooLarge which) else Ok (n, rest)
+fitted which most (Err number.NotDecimal) rest = Err (fault.NotDecimal which)
+fitted which most (Err number.TooLarge) rest = Err (fault.TooLarge which)
 
--- a number of at most so much, or what is wrong with it; `which` is its place in the line
-unfoldable pub fitted : ℕ → ℕ → Number → (ℕ → Line) → Line
-fitted which most (number.Is n) go = if ltb most n then line.Broken (fault.TooLarge which) else go n
-fitted which most number.NotDecimal go = line.Broken (fault.NotDecimal which)
-fitted which most number.TooLarge go = line.Broken (fault.TooLarge which)
-
--- the next word as a number, and then what comes of it and of what stands behind it
-unfoldable pub number_then : ℕ → ℕ → List ℕ → (ℕ → List ℕ → Line) → Line
-number_then which most bs go =
+-- the next word as a number, and what stands behind it
+unfoldable pub number_in : ℕ → ℕ → List ℕ → Result (ℕ × List ℕ) Fault
+number_in which most bs =
     if is_none (word_of bs)
-    then line.Broken (fault.Missing which)
-    else fitted which most (word_number (word_of bs)) (λ n. go n (behind_word bs))
+    then Err (fault.Missing which)
+    else fitted which most (word_number (word_of bs)) (behind_word bs)
 
 -- a value's length; tables of the other kinds have none
-unfoldable pub length_in : TableKind → List ℕ → (ℕ → List ℕ → Line) → Line
-length_in Index bs go = go 0 bs
-length_in Value bs go = number_then 4 65535 bs go
-length_in RefCount bs go = go 0 bs
+unfoldable pub length_in : TableKind → List ℕ → Result (ℕ × List ℕ) Fault
+length_in Index bs = Ok (0, bs)
+length_in Value bs = number_in 4 65535 bs
+length_in RefCount bs = Ok (0, bs)
+
+-- what comes of a number that was read and of what stands behind it
+abbrev pub then_on : {A : Type 0} → Result (ℕ × List ℕ) Fault → (ℕ → List ℕ → Result A Fault) → Result A Fault
+then_on (Ok (n, rest)) go = go n rest
+then_on (Err f) go = Err f
 
 -- what stands behind the kind: the table's number, its column, its count, and a value's length
-unfoldable pub table_in : TableKind → List ℕ → Line
+unfoldable pub table_in : TableKind → List ℕ → Result TableDescription Fault
 table_in kind bs =
-    number_then 1 65535 bs (λ n bs₁.
-    number_then 2 255 bs₁ (λ column bs₂.
-    number_then 3 65535 bs₂ (λ count bs₃.
-    length_in kind bs₃ (λ size bs₄.
-    if is_none (behind (scans_past Blanks) bs₄)
-    then line.Table (description kind n column count size)
-    else line.Broken fault.MoreWords))))
+    then_on (number_in 1 65535 bs) (λ n bs₁.
+    then_on (number_in 2 255 bs₁) (λ column bs₂.
+    then_on (number_in 3 65535 bs₂) (λ count bs₃.
+    then_on (length_in kind bs₃) (λ size bs₄.
+    if is_none (behind is_blank bs₄)
+    then Ok (description kind n column count size)
+    else Err fault.MoreWords))))
 
--- a line by its first word, which is index, value or refcount, and what stands behind it
-unfoldable pub kind_in : List ℕ → List ℕ → Line
-kind_in word bs =
+-- the kind that a word names: index, value or refcount
+unfoldable pub kind_of : List ℕ → Option TableKind
+kind_of word =
     if same_bytes word (105 ∷ 110 ∷ 100 ∷ 101 ∷ 120 ∷ [])
-    then table_in Index bs
+    then Some Index
     else if same_bytes word (118 ∷ 97 ∷ 108 ∷ 117 ∷ 101 ∷ [])
-    then table_in Value bs
+    then Some Value
     else if same_bytes word (114 ∷ 101 ∷ 102 ∷ 99 ∷ 111 ∷ 117 ∷ 110 ∷ 116 ∷ [])
-    then table_in RefCount bs
-    else line.Broken fault.UnknownKind
+    then Some RefCount
+    else None
 
--- a line without its comment; one of blanks alone is empty
-unfoldable pub code_in : List ℕ → Line
-code_in bs = if is_none (word_of bs) then line.Empty else kind_in (word_of bs) (behind_word bs)
+-- a table's line
+abbrev pub of_table : Result TableDescription Fault → Result (Option TableDescription) Fault
+of_table (Ok t) = Ok (Some t)
+of_table (Err f) = Err f
+
+-- a line by its kind, and what stands behind the kind's word
+abbrev pub of_kind : Option TableKind → List ℕ → Result (Option TableDescription) Fault
+of_kind None bs = Err fault.UnknownKind
+of_kind (Some kind) bs = of_table (table_in kind bs)
+
+-- a line without its comment; one of blanks alone has no table
+unfoldable pub code_in : List ℕ → Result (Option TableDescription) Fault
+code_in bs = if is_none (word_of bs) then Ok None else of_kind (kind_of (word_of bs)) (behind_word bs)
 
 -- the character # starts a comment
-unfoldable pub line_in : List ℕ → Line
-line_in bs = code_in (front (scans_past (Before 35)) bs)
+unfoldable pub line_in : List ℕ → Result (Option TableDescription) Fault
+line_in bs = code_in (front (is_before 35) bs)

@@ -1,18 +1,18 @@
 -- The parts of a text: blanks, words, lines. Assumes nothing.
 use Rattle.std.specs.Prelude.{Bool, true, false, ◌&&◌, ◌||◌, not, List, [], ◌∷◌, ℕ, eqb}
 use Rattle.std.specs.Prelude.{if◌then◌else◌}
-use Rattle.directory_text.specs.declared.scan.Pass.{Pass}
-use Rattle.directory_text.specs.declared.scan.Pass.TheVariants.{Blanks, Word, Before}
 
 -- a space, a tab, or a carriage return
 unfoldable pub is_blank : ℕ → Bool
 is_blank b = eqb b 32 || (eqb b 9 || eqb b 13)
 
--- what is passed over
-unfoldable pub scans_past : Pass → ℕ → Bool
-scans_past Blanks b = is_blank b
-scans_past Word b = not (is_blank b)
-scans_past (Before c) b = not (eqb b c)
+-- a character of a word
+unfoldable pub is_wordy : ℕ → Bool
+is_wordy b = not (is_blank b)
+
+-- any character but one
+unfoldable pub is_before : ℕ → ℕ → Bool
+is_before c b = not (eqb b c)
 
 -- the bytes in front that pass, up to the first that doesn't
 unfoldable pub front : (ℕ → Bool) → List ℕ → List ℕ
@@ -26,11 +26,11 @@ behind p (b ∷ bs) = if p b then behind p bs else b ∷ bs
 
 -- the first word, and what stands behind it
 unfoldable pub word_of : List ℕ → List ℕ
-word_of bs = front (scans_past Word) (behind (scans_past Blanks) bs)
+word_of bs = front is_wordy (behind is_blank bs)
 
 -- what stands behind the first word
 unfoldable pub behind_word : List ℕ → List ℕ
-behind_word bs = behind (scans_past Word) (behind (scans_past Blanks) bs)
+behind_word bs = behind is_wordy (behind is_blank bs)
 
 -- whether there are no bytes
 unfoldable pub is_none : List ℕ → Bool

@@ -1,64 +1,55 @@
 -- A directory in its plain text form, a line a table, parsed up to the first fault. Assumes nothing.
-use Rattle.std.specs.Prelude.{Bool, true, false, not, List, [], ◌∷◌, ℕ, ◌+◌, leb, set, Option, Some, None}
+use Rattle.std.specs.Prelude.{not, List, [], ◌∷◌, ℕ, ◌+◌, leb, set, Option, Some, None, Result, Ok, Err, is_some}
 use Rattle.std.specs.Prelude.{if◌then◌else◌}
 use Rattle.directory.specs.Table.{table_kept}
 use Rattle.directory.specs.Directory.{no_tables, find_table}
 use Rattle.directory.specs.declared.table.TableDescription.{TableDescription}
 use Rattle.directory.specs.declared.directory.Directory.{Directory}
 use Rattle.directory_text.specs.Scan.{text_lines}
-use Rattle.directory_text.specs.Line.{is_any, line_in}
+use Rattle.directory_text.specs.Line.{line_in}
 use Rattle.directory_text.specs.declared.fault.Fault.{Fault}
 use Rattle.directory_text.specs.declared.fault.Fault.TheVariants as fault
-use Rattle.directory_text.specs.declared.line.Line.{Line}
-use Rattle.directory_text.specs.declared.line.Line.TheVariants as line
-use Rattle.directory_text.specs.declared.text.Parsed.{Parsed}
-
--- a table was found
-abbrev pub is_found_of : Option (ℕ × TableDescription) → Bool
-is_found_of (Some found) = true
-is_found_of None = false
-
--- what a table would break that a line adds: "Up to 16 tables", its own rules, "No two of one kind share a number."
-unfoldable pub fault_of : Directory → TableDescription → Fault
-fault_of d t =
-    if leb 16 d.count
-    then fault.SeventeenthTable
-    else if not (table_kept t)
-    then fault.RuleBroken
-    else if is_found_of (find_table d t.kind t.number)
-    then fault.NameTaken
-    else fault.None
+use Rattle.directory_text.specs.declared.text.LineFault.{LineFault}
 
 -- the directory with a table more
 abbrev pub added : Directory → TableDescription → Directory
 added d t = record { tables = set d.tables d.count t; count = d.count + 1 }
 
--- what the text comes to, so far: a directory, the line, and its fault
-abbrev pub at-line : Directory → ℕ → Fault → Parsed
-at-line d n f = record { directory = d; line = n; fault = f }
+-- one table more, unless it breaks a rule: "Up to 16 tables", its own rules, "No two of one kind share a number."
+unfoldable pub with_table : Directory → TableDescription → Result Directory Fault
+with_table d t =
+    if leb 16 d.count
+    then Err fault.SeventeenthTable
+    else if not (table_kept t)
+    then Err fault.RuleBroken
+    else if is_some (find_table d t.kind t.number)
+    then Err fault.NameTaken
+    else Ok (added d t)
 
--- one table more, unless it breaks a rule
-unfoldable pub with_table : Directory → TableDescription → ℕ → Parsed
-with_table d t n = if is_any (fault_of d t) then at-line d n (fault_of d t) else at-line (added d t) n fault.None
-
--- what one line makes of the directory so far
-unfoldable pub of_line : Directory → ℕ → Line → Parsed
-of_line d n line.Empty = at-line d n fault.None
-of_line d n (line.Table t) = with_table d t n
-of_line d n (line.Broken f) = at-line d n f
+-- what a line makes of the directory so far
+unfoldable pub of_line : Directory → Result (Option TableDescription) Fault → Result Directory Fault
+of_line d (Ok None) = Ok d
+of_line d (Ok (Some t)) = with_table d t
+of_line d (Err f) = Err f
 
 -- one line more
-unfoldable pub with_line : Directory → List ℕ → ℕ → Parsed
-with_line d bs n = of_line d n (line_in bs)
+unfoldable pub with_line : Directory → List ℕ → Result Directory Fault
+with_line d bs = of_line d (line_in bs)
 
--- the lines up to the first fault
-unfoldable pub from_lines : Parsed → List (List ℕ) → Parsed
-from_lines p [] = p
-from_lines p (l ∷ ls) =
-    if is_any (with_line p.directory l (p.line + 1)).fault
-    then with_line p.directory l (p.line + 1)
-    else from_lines (with_line p.directory l (p.line + 1)) ls
+-- a fault in line n
+abbrev pub in_line : ℕ → Fault → LineFault
+in_line n f = record { line = n; fault = f }
+
+-- what comes of the directory behind line n
+abbrev pub behind_line : ℕ → Result Directory Fault → (Directory → Result Directory LineFault) → Result Directory LineFault
+behind_line n (Ok d) go = go d
+behind_line n (Err f) go = Err (in_line n f)
+
+-- the lines behind line n, up to the first fault
+unfoldable pub from_lines : ℕ → Directory → List (List ℕ) → Result Directory LineFault
+from_lines n d [] = Ok d
+from_lines n d (l ∷ ls) = behind_line (n + 1) (with_line d l) (λ e. from_lines (n + 1) e ls)
 
 -- the whole text: its directory, or its first fault and the number of that line, from 1 on
-unfoldable pub parsed : List ℕ → Parsed
-parsed text = from_lines (at-line no_tables 0 fault.None) (text_lines text)
+unfoldable pub parsed : List ℕ → Result Directory LineFault
+parsed text = from_lines 0 no_tables (text_lines text)

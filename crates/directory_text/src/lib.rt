@@ -8,6 +8,6 @@ mod scan;
 mod text;
 
 pub use fault::Fault;
-pub use line::{Line, line_of};
-pub use number::{Number, number_of};
-pub use text::{Parsed, directory_of};
+pub use line::line_of;
+pub use number::{NotNumber, number_of};
+pub use text::{LineFault, directory_of};

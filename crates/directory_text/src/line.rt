@@ -1,165 +1,95 @@
 // A line of the text.
-ghost use Rattle.std.specs.Prelude.{◌≡◌, ◌≤◌, length, drop};
-ghost use Rattle.directory_text.specs.Line.{table_in, kind_in, code_in, line_in};
-ghost use Rattle.directory_text.specs.Inner.{stopped, Fitted, Took, TookBehind, TookLength, Ended};
+ghost use Rattle.std.specs.Prelude.{◌≡◌, ◌≤◌, IfOk};
+ghost use Rattle.directory_text.specs.Line.{number_in, length_in, table_in, kind_of, line_in};
+ghost use Rattle.directory_text.specs.Inner.{taken};
 
 use super::fault::Fault;
-use super::number::{Number, number_of};
-use super::scan::{Pass, pass_over, same};
+use super::number::{NotNumber, number_of};
+use super::scan::{behind_blanks, first_word, split_before};
 use directory::{TableDescription, TableKind};
 
-#[derive(Clone, Copy)]
-pub enum Line {
-    Empty,
-    Table(TableDescription),
-    Broken(Fault),
-}
-
-// A number that was read, where the text goes on behind it, and what was wrong with it or a number before it.
-#[derive(Clone, Copy)]
-pub struct Taken {
-    pub value: u64,
-    pub next: usize,
-    pub fault: Fault,
-}
-
-fn broken(next: usize, fault: Fault) -> Taken
-    ensures { result ≡ stopped next fault }
+// The next word as a number of at most so much, and what stands behind it; `which` is its place in the line.
+#[tactic(auto, unfolding(crate::specs::Line::number_in, crate::specs::Line::fitted, crate::specs::Scan::is_none))]
+fn number_at(code: &[u8], which: u8, most: u64) -> Result<(u64, &[u8]), Fault>
+    ensures number { taken result ≡ number_in which most code.now }
+    ensures small { IfOk result (λ number. number.0 ≤ most) }
 {
-    Taken {
-        value: 0,
-        next: next,
-        fault: fault,
+    let (word, rest) = first_word(code);
+    if word.is_empty() {
+        return Err(Fault::Missing(which));
     }
-}
-
-// A word's number, which has to be at most so much.
-fn fitted(number: Number, which: u8, most: u64, next: usize) -> Taken
-    ensures { Fitted number which most next result }
-{
-    match number {
-        Number::NotDecimal => broken(next, Fault::NotDecimal(which)),
-        Number::TooLarge => broken(next, Fault::TooLarge(which)),
-        Number::Is(value) => {
-            if most < value {
-                return broken(next, Fault::TooLarge(which));
-            }
-            Taken {
-                value: value,
-                next: next,
-                fault: Fault::None,
+    match number_of(word) {
+        Ok(number) => {
+            if number <= most {
+                Ok((number, rest))
+            } else {
+                Err(Fault::TooLarge(which))
             }
         }
+        Err(NotNumber::NotDecimal) => Err(Fault::NotDecimal(which)),
+        Err(NotNumber::TooLarge) => Err(Fault::TooLarge(which)),
     }
-}
-
-// The next word as a number.
-fn number_at(code: &[u8], from: usize, which: u8, most: u64) -> Taken
-    requires { from ≤ length code.now }
-    ensures { Took code.now from which most result }
-{
-    let start = pass_over(code, from, Pass::Blanks);
-    let end = pass_over(code, start, Pass::Word);
-    if start == end {
-        return broken(end, Fault::Missing(which));
-    }
-    fitted(number_of(&code[start..end]), which, most, end)
-}
-
-// The number behind another one: where that one is at fault, its fault stays.
-fn number_behind(code: &[u8], before: Taken, which: u8, most: u64) -> Taken
-    requires { before.next ≤ length code.now }
-    ensures { TookBehind code.now before which most result }
-{
-    let fault = before.fault;
-    let next = before.next;
-    if fault.is_any() {
-        return broken(next, fault);
-    }
-    number_at(code, next, which, most)
 }
 
 // A value's length; tables of the other kinds have none.
-fn length_behind(code: &[u8], before: Taken, kind: TableKind) -> Taken
-    requires { before.next ≤ length code.now }
-    ensures { TookLength code.now before kind result }
+#[tactic(auto, unfolding(crate::specs::Line::length_in))]
+fn length_at(code: &[u8], kind: TableKind) -> Result<(u64, &[u8]), Fault>
+    ensures number { taken result ≡ length_in kind code.now }
+    ensures small { IfOk result (λ number. number.0 ≤ 65535) }
 {
-    let fault = before.fault;
     match kind {
-        TableKind::Index => broken(before.next, fault),
-        TableKind::Value => number_behind(code, before, 4, 65535),
-        TableKind::RefCount => broken(before.next, fault),
+        TableKind::Value => number_at(code, 4, 65535),
+        TableKind::Index | TableKind::RefCount => Ok((0, code)),
     }
 }
 
-fn fault_at_end(code: &[u8], last: Taken) -> Fault
-    requires { last.next ≤ length code.now }
-    ensures { Ended code.now last result }
+#[tactic(auto, unfolding(crate::specs::Line::table_in))]
+fn table_of(code: &[u8], kind: TableKind) -> Result<TableDescription, Fault>
+    ensures { result ≡ table_in kind code.now }
 {
-    let fault = last.fault;
-    let next = last.next;
-    if fault.is_any() {
-        return fault;
+    let (number, code) = number_at(code, 1, 65535)?;
+    let (column, code) = number_at(code, 2, 255)?;
+    let (count, code) = number_at(code, 3, 65535)?;
+    let (length, code) = length_at(code, kind)?;
+    if !behind_blanks(code).is_empty() {
+        return Err(Fault::MoreWords);
     }
-    if pass_over(code, next, Pass::Blanks) < code.len() {
-        return Fault::MoreWords;
-    }
-    Fault::None
-}
-
-fn table_of(code: &[u8], from: usize, kind: TableKind) -> Line
-    requires { from ≤ length code.now }
-    ensures { result ≡ table_in kind (drop from code.now) }
-{
-    let number = number_at(code, from, 1, 65535);
-    let column = number_behind(code, number, 2, 255);
-    let count = number_behind(code, column, 3, 65535);
-    let length = length_behind(code, count, kind);
-    let fault = fault_at_end(code, length);
-    if fault.is_any() {
-        return Line::Broken(fault);
-    }
-    Line::Table(TableDescription::new(
+    Ok(TableDescription::new(
         kind,
-        number.value as u16,
-        column.value as u8,
-        count.value as u16,
-        length.value as u16,
+        number as u16,
+        column as u8,
+        count as u16,
+        length as u16,
     ))
 }
 
-// What a line comes to by its first word, behind which it goes on at a place.
-fn table_for(word: &[u8], code: &[u8], next: usize) -> Line
-    requires { next ≤ length code.now }
-    ensures { result ≡ kind_in word.now (drop next code.now) }
+#[tactic(auto, unfolding(crate::specs::Line::kind_of))]
+fn kind_of(word: &[u8]) -> Option<TableKind>
+    ensures { result ≡ kind_of word.now }
 {
-    if same(word, b"index") {
-        return table_of(code, next, TableKind::Index);
+    if word == b"index".as_slice() {
+        Some(TableKind::Index)
+    } else if word == b"value".as_slice() {
+        Some(TableKind::Value)
+    } else if word == b"refcount".as_slice() {
+        Some(TableKind::RefCount)
+    } else {
+        None
     }
-    if same(word, b"value") {
-        return table_of(code, next, TableKind::Value);
-    }
-    if same(word, b"refcount") {
-        return table_of(code, next, TableKind::RefCount);
-    }
-    Line::Broken(Fault::UnknownKind)
 }
 
-// A line without its comment.
-fn code_of(code: &[u8]) -> Line
-    ensures { result ≡ code_in code.now }
-{
-    let start = pass_over(code, 0, Pass::Blanks);
-    let end = pass_over(code, start, Pass::Word);
-    if start == end {
-        return Line::Empty;
-    }
-    table_for(&code[start..end], code, end)
-}
-
-pub fn line_of(line: &[u8]) -> Line
+// The table that a line describes, if it describes one: # begins a comment.
+#[tactic(auto, unfolding(crate::specs::Line::line_in, crate::specs::Line::code_in))]
+pub fn line_of(line: &[u8]) -> Result<Option<TableDescription>, Fault>
     ensures { result ≡ line_in line.now }
 {
-    let stop = pass_over(line, 0, Pass::Before(b'#'));
-    code_of(&line[0..stop])
+    let (code, _) = split_before(line, b'#');
+    let (word, rest) = first_word(code);
+    if word.is_empty() {
+        return Ok(None);
+    }
+    let Some(kind) = kind_of(word) else {
+        return Err(Fault::UnknownKind);
+    };
+    Ok(Some(table_of(rest, kind)?))
 }

@@ -1,44 +1,37 @@
 // Decimal numbers below 2^64.
-ghost use Rattle.std.specs.Prelude.{◌≡◌, ◌≤◌};
-ghost use Rattle.directory_text.specs.Number.{decimal_digit, word_number};
+ghost use Rattle.std.specs.Prelude.{◌≡◌};
+ghost use Rattle.directory_text.specs.Number.{digit_more, word_number};
 
-#[derive(Clone, Copy)]
-pub enum Number {
-    Is(u64),
+#[derive(Clone, Copy, PartialEq, Eq)]
+pub enum NotNumber {
     NotDecimal,
     TooLarge,
 }
 
-fn digit_of(character: u8) -> u64
-    ensures { (result ≡ decimal_digit character) × (result ≤ 10) }
+// The number with a digit more, if it stays below 2^64.
+#[tactic(auto, unfolding(crate::specs::Number::digit_more, crate::specs::Number::decimal_digit))]
+fn with_digit(number: u64, character: u8) -> Result<u64, NotNumber>
+    ensures { result ≡ digit_more number character }
 {
-    if character < 48 {
-        return 10;
+    if !character.is_ascii_digit() {
+        return Err(NotNumber::NotDecimal);
     }
-    if 57 < character {
-        return 10;
-    }
-    (character - 48) as u64
+    number
+        .checked_mul(10)
+        .and_then(|tens| tens.checked_add(u64::from(character - b'0')))
+        .ok_or(NotNumber::TooLarge)
 }
 
-pub fn number_of(word: &[u8]) -> Number
+#[tactic(auto, unfolding(crate::specs::Number::word_number, crate::specs::Number::number_from))]
+pub fn number_of(word: &[u8]) -> Result<u64, NotNumber>
     ensures { result ≡ word_number word.now }
 {
-    if word.len() == 0 {
-        return Number::NotDecimal;
+    if word.is_empty() {
+        return Err(NotNumber::NotDecimal);
     }
-    let mut number: u64 = 0;
-    let mut i = 0;
-    while i < word.len() {
-        let digit = digit_of(word[i]);
-        if 9 < digit {
-            return Number::NotDecimal;
-        }
-        if (18446744073709551615 - digit) / 10 < number {
-            return Number::TooLarge;
-        }
-        number = 10 * number + digit;
-        i += 1;
+    let mut number = 0;
+    for character in word {
+        number = with_digit(number, *character)?;
     }
-    Number::Is(number)
+    Ok(number)
 }

@@ -1,64 +1,53 @@
 // Where the parts of a text begin and end.
-ghost use Rattle.std.specs.Prelude.{◌≡◌, ◌+◌, ◌≤◌, length, drop};
-ghost use Rattle.directory_text.specs.Scan.{is_blank, scans_past, front, same_bytes};
+ghost use Rattle.std.specs.Prelude.{◌≡◌, drop};
+ghost use Rattle.directory_text.specs.Scan.{is_blank, is_before, front, behind, word_of, behind_word};
 
-// What is passed over: blanks, what is no blank, or all before a character.
-#[derive(Clone, Copy)]
-pub enum Pass {
-    Blanks,
-    Word,
-    Before(u8),
-}
-
+#[tactic(auto, unfolding(crate::specs::Scan::is_blank))]
 fn is_blank(character: u8) -> bool
     ensures { result ≡ is_blank character }
 {
-    if character == b' ' {
-        return true;
-    }
-    if character == b'\t' {
-        return true;
-    }
-    character == b'\r'
+    character == b' ' || character == b'\t' || character == b'\r'
 }
 
-fn is_passed(pass: Pass, character: u8) -> bool
-    ensures { result ≡ scans_past pass character }
+// What stands behind the blanks in front.
+pub fn behind_blanks(text: &[u8]) -> &[u8]
+    ensures { result.now ≡ behind is_blank text.now }
 {
-    match pass {
-        Pass::Blanks => is_blank(character),
-        Pass::Word => !is_blank(character),
-        Pass::Before(other) => character != other,
-    }
+    let end = text
+        .iter()
+        .position(|character| !is_blank(*character))
+        .unwrap_or(text.len());
+    &text[end..]
 }
 
-// Passes over what it may, from a place on. Answers where it stops.
-pub fn pass_over(text: &[u8], from: usize, pass: Pass) -> usize
-    requires { from ≤ length text.now }
-    ensures { (from ≤ result) × (result ≤ length text.now) × (result ≡ from + length (front (scans_past pass) (drop from text.now))) }
+// The first word, and what stands behind it.
+pub fn first_word(text: &[u8]) -> (&[u8], &[u8])
+    ensures word { result.0.now ≡ word_of text.now }
+    ensures rest { result.1.now ≡ behind_word text.now }
 {
-    let mut at = from;
-    while at < text.len() {
-        if !is_passed(pass, text[at]) {
-            break;
-        }
-        at += 1;
-    }
-    at
+    let text = behind_blanks(text);
+    let end = text
+        .iter()
+        .position(|character| is_blank(*character))
+        .unwrap_or(text.len());
+    text.split_at(end)
 }
 
-pub fn same(word: &[u8], other: &[u8]) -> bool
-    ensures { result ≡ same_bytes word.now other.now }
+// What stands before a character, and the rest, which begins with it.
+pub fn split_before(text: &[u8], other: u8) -> (&[u8], &[u8])
+    ensures before { result.0.now ≡ front (is_before other) text.now }
+    ensures rest { result.1.now ≡ behind (is_before other) text.now }
 {
-    if word.len() != other.len() {
-        return false;
-    }
-    let mut i = 0;
-    while i < word.len() {
-        if word[i] != other[i] {
-            return false;
-        }
-        i += 1;
-    }
-    true
+    let end = text
+        .iter()
+        .position(|character| *character == other)
+        .unwrap_or(text.len());
+    text.split_at(end)
+}
+
+// What stands behind the first character.
+pub fn behind_one(text: &[u8]) -> &[u8]
+    ensures { result.now ≡ drop 1 text.now }
+{
+    text.get(1..).unwrap_or(&[])
 }

@@ -1,5 +1,5 @@
 -- What lies under an index of a table: the search in the code, and the place that it finds. Assumes nothing.
-use mathlib.Core.Path.{◌≡◌, refl, sym, ap}
+use mathlib.Core.Path.{◌≡◌, refl, sym, ap, ◌∙◌}
 use mathlib.Core.Bool.{Bool, true, false}
 use mathlib.Core.List.{List, [], ◌∷◌}
 use mathlib.Core.Option.{Option, none, some}
@@ -16,9 +16,11 @@ use Rattle.directory.specs.Directory.{find_table, start_of, image_length}
 use Rattle.directory.specs.declared.table.TableKind.{TableKind}
 use Rattle.directory.specs.declared.table.TableDescription.{TableDescription}
 use Rattle.directory.specs.declared.directory.Directory.{Directory}
-use Rattle.std.specs.Prelude.{Some, None}
+use Rattle.std.specs.Prelude as std
+use Rattle.std.specs.Prelude.{Some, None, option_map}
 use Rattle.std.proofs.lemmas.Option.{same_Some}
-use Rattle.effect.specs.Effect.{mask_in, entries_in, Place, place_of, Stroke, stroke, slot_strokes, under_index, zeroed, puts}
+use Rattle.directory.specs.Inner.{placed_table}
+use Rattle.effect.specs.Effect.{mask_in, entries_in, Place, placed, place_of, Stroke, stroke, slot_strokes, under_index, zeroed, puts}
 use Rattle.effect.specs.Inner.{spot_under}
 use Rattle.effect.proofs.Places.{stands}
 
@@ -27,33 +29,43 @@ pub under-room : (t : TableDescription) (i : ℕ) → i < t.count → i * slot_l
 unfolding size_of
 under-room t i h = omega (arith, mul-le-mul_right (slot_length t) h)
 
+-- a place that was found, as the definition has it
+abbrev from_std : std.Option (ℕ × TableDescription) → Option Place
+from_std None = none
+from_std (Some x) = some (record { at = x.0; table = x.1 })
+
 module _ (d : Directory) (kind : TableKind) (number : ℕ) where
-  module _ (row : ℕ) (t : TableDescription) (e : find_table d kind number ≡ Some (row, t)) where
-    pub place_at : place_of d kind number ≡ some (record { at = start_of d row; table = t })
-    unfolding place_of
-    place_at = rw e
+  -- the place that the code finds is the definition's
+  by_place : (f : std.Option (ℕ × TableDescription)) → placed d f ≡ from_std (option_map (λ (x : ℕ × TableDescription). (start_of d x.0, x.1)) f)
+  by_place None = refl
+  by_place (Some x) = refl
 
+  pub place_at : (at : ℕ) (t : TableDescription) → placed_table d kind number ≡ Some (at, t) → place_of d kind number ≡ some (record { at = at; table = t })
+  unfolding place_of
+  place_at at t e = by_place (find_table d kind number) ∙ ap from_std e
+
+  pub place_none : placed_table d kind number ≡ None → place_of d kind number ≡ none
+  unfolding place_of
+  place_none e = by_place (find_table d kind number) ∙ ap from_std e
+
+  module _ (at : ℕ) (t : TableDescription) (e : placed_table d kind number ≡ Some (at, t)) where
     -- a found table lies within the image
-    pub row_room : start_of d row + size_of t ≤ image_length d
-    row_room = (stands d kind number (record { at = start_of d row; table = t }) place_at).room
+    pub table_room : at + size_of t ≤ image_length d
+    table_room = (stands d kind number (record { at = at; table = t }) (place_at at t e)).room
 
-    module _ (i : ℕ) (h : i < t.count) (start u : ℕ) (s : start ≡ start_of d row) (l : u ≡ slot_length t) where
-      pub spot-room : start + i * u + u ≤ image_length d
-      spot-room = rw (s, l) (omega (arith, row_room, under-room t i h))
+    module _ (i : ℕ) (h : i < t.count) (u : ℕ) (l : u ≡ slot_length t) where
+      pub spot-room : at + i * u + u ≤ image_length d
+      spot-room = rw l (omega (arith, table_room, under-room t i h))
 
-      pub spot-at : Some (start + i * u, u) ≡ spot_under (place_of d kind number) i
+      pub spot-at : Some (at + i * u, u) ≡ spot_under (place_of d kind number) i
       unfolding spot_under
-      spot-at = rw (place_at, lt-ltb i t.count h, s, l)
+      spot-at = rw (place_at at t e, lt-ltb i t.count h, l)
 
     pub spot_past : (i : ℕ) → t.count ≤ i → None ≡ spot_under (place_of d kind number) i
     unfolding spot_under
-    spot_past i h = rw (place_at, le-ltb i t.count h)
+    spot_past i h = rw (place_at at t e, le-ltb i t.count h)
 
-  pub place_none : find_table d kind number ≡ None → place_of d kind number ≡ none
-  unfolding place_of
-  place_none e = rw e
-
-  pub spot-none : (i : ℕ) → find_table d kind number ≡ None → None ≡ spot_under (place_of d kind number) i
+  pub spot-none : (i : ℕ) → placed_table d kind number ≡ None → None ≡ spot_under (place_of d kind number) i
   unfolding spot_under
   spot-none i e = rw (place_none e)
 
@@ -120,11 +132,11 @@ module _ (d : Directory) (kind : TableKind) (number i : ℕ) (image : List ℕ) 
     puts-value = rw ((spotted d kind number i at u e).strokes (λ at u. stroke at (take u payload) ∷ []))
 
 module _ (d : Directory) (kind : TableKind) (number : ℕ) (image : List ℕ) where
-  pub puts_undropped : find_table d kind number ≡ None → image ≡ puts (zeroed (place_of d kind number)) image
+  pub puts_undropped : placed_table d kind number ≡ None → image ≡ puts (zeroed (place_of d kind number)) image
   unfolding puts zeroed
   puts_undropped e = rw (place_none d kind number e)
 
-  pub puts-dropped : (row : ℕ) (t : TableDescription) → find_table d kind number ≡ Some (row, t) → (start n : ℕ) → start ≡ start_of d row → n ≡ size_of t
-      → sets image start (replicate n 0) ≡ puts (zeroed (place_of d kind number)) image
+  pub puts-dropped : (at : ℕ) (t : TableDescription) → placed_table d kind number ≡ Some (at, t) → (n : ℕ) → n ≡ size_of t
+      → sets image at (replicate n 0) ≡ puts (zeroed (place_of d kind number)) image
   unfolding puts zeroed
-  puts-dropped row t e start n s l = rw (place_at d kind number row t e, s, l)
+  puts-dropped at t e n l = rw (place_at d kind number at t e, l)

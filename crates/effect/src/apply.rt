@@ -1,7 +1,6 @@
 // The effect of each kind of action, and of any.
-ghost use Rattle.std.specs.Prelude.{◌≡◌, [], ◌∷◌, ◌+◌, ◌≤◌, length, take, drop};
+ghost use Rattle.std.specs.Prelude.{◌≡◌, [], ◌∷◌, length, take};
 ghost use Rattle.directory.specs.Directory.{image_length};
-ghost use Rattle.directory.specs.Inner.{directory_in, Flat};
 ghost use Rattle.directory.specs.declared.table.TableKind.TheVariants.{Value};
 ghost use Rattle.effect.specs.Effect.{written, mask_in, entries_in, place_of, stroke, slot_strokes, under_index, zeroed, puts, done};
 ghost use Rattle.effect.specs.Meaning.{Entries, OneValue, SizedBy};
@@ -9,12 +8,12 @@ ghost use Rattle.effect.specs.Inner.{Chunks};
 
 use super::place::locate;
 use super::store::put_slots;
-use directory::TableKind;
+use directory::{Layout, TableKind};
 use record::LogAction;
 
 // The entries that a mask names, under an index of a table with chunks of 64 entries.
 fn insert_chunk(
-    t: &[u64; 81],
+    tables: &Layout,
     kind: TableKind,
     width: usize,
     number: u16,
@@ -22,55 +21,62 @@ fn insert_chunk(
     payload: &[u8],
     image: &mut [u8],
 )
-    requires flat { Flat t.now × (length image.old ≡ image_length (directory_in t.now)) }
+    requires image { length image.old ≡ image_length tables.now.directory }
     requires chunks { Chunks kind width }
     requires entries { Entries width payload.now }
-    ensures { image.new ≡ puts (under_index (place_of (directory_in t.now) kind number) index (λ at u. slot_strokes 64 width at (mask_in payload.now) (entries_in payload.now))) image.old }
+    ensures { image.new ≡ puts (under_index (place_of tables.now.directory kind number) index (λ at u. slot_strokes 64 width at (mask_in payload.now) (entries_in payload.now))) image.old }
 {
-    if let Some((at, _)) = locate(t, kind, number, index) {
+    if let Some((at, _)) = locate(tables, kind, number, index) {
         put_slots(image, at, width, words::u64_at(payload, 0), &payload[8..]);
     }
 }
 
 // A value, under an index of a table of values.
-fn insert_value(t: &[u64; 81], number: u16, index: u64, payload: &[u8], image: &mut [u8])
-    requires flat { Flat t.now × (length image.old ≡ image_length (directory_in t.now)) }
-    requires one_value { OneValue (place_of (directory_in t.now) Value number) payload.now }
-    ensures { image.new ≡ puts (under_index (place_of (directory_in t.now) Value number) index (λ at u. stroke at (take u payload.now) ∷ [])) image.old }
+fn insert_value(tables: &Layout, number: u16, index: u64, payload: &[u8], image: &mut [u8])
+    requires image { length image.old ≡ image_length tables.now.directory }
+    requires one_value { OneValue (place_of tables.now.directory Value number) payload.now }
+    ensures { image.new ≡ puts (under_index (place_of tables.now.directory Value number) index (λ at u. stroke at (take u payload.now) ∷ [])) image.old }
 {
-    if let Some((at, unit)) = locate(t, TableKind::Value, number, index) {
+    if let Some((at, unit)) = locate(tables, TableKind::Value, number, index) {
         image[at..at + unit].copy_from_slice(&payload[..unit]);
     }
 }
 
 // Zeros over a whole table.
-fn drop_table(t: &[u64; 81], kind: TableKind, number: u16, image: &mut [u8])
-    requires { Flat t.now × (length image.old ≡ image_length (directory_in t.now)) }
-    ensures { image.new ≡ puts (zeroed (place_of (directory_in t.now) kind number)) image.old }
+fn drop_table(tables: &Layout, kind: TableKind, number: u16, image: &mut [u8])
+    requires { length image.old ≡ image_length tables.now.directory }
+    ensures { image.new ≡ puts (zeroed (place_of tables.now.directory kind number)) image.old }
 {
-    if let Some((row, x)) = directory::find_in(t, kind, number) {
-        let at = directory::start_in(t, row);
-        let end = at + x.size();
+    if let Some((at, t)) = tables.place(kind, number) {
+        let end = at + t.size();
         image[at..end].fill(0);
     }
 }
 
-// An action with its payload's bytes.
+// An action with its payload, all that stands behind its index in the log.
 #[tactic(auto, unfolding(crate::specs::Effect::done, crate::specs::Effect::strokes, crate::specs::Effect::puts, crate::specs::Meaning::SizedBy))]
-fn apply_written(t: &[u64; 81], action: LogAction, payload: &[u8], image: &mut [u8])
-    requires flat { Flat t.now × (length image.old ≡ image_length (directory_in t.now)) }
-    requires sized_by { SizedBy (directory_in t.now) action payload.now }
-    ensures { image.new ≡ done (directory_in t.now) (written action payload.now) image.old }
+pub fn apply_action(tables: &Layout, action: LogAction, payload: &[u8], image: &mut [u8])
+    requires image { length image.old ≡ image_length tables.now.directory }
+    requires sized_by { SizedBy tables.now.directory action payload.now }
+    ensures { image.new ≡ done tables.now.directory (written action payload.now) image.old }
 {
     match action {
         LogAction::BeginRecord | LogAction::EndRecord => {}
         LogAction::InsertIndex(a) => {
-            insert_chunk(t, TableKind::Index, 8, a.table.0, a.index, payload, image);
+            insert_chunk(
+                tables,
+                TableKind::Index,
+                8,
+                a.table.0,
+                a.index,
+                payload,
+                image,
+            );
         }
-        LogAction::InsertValue(a) => insert_value(t, a.table.0, a.index, payload, image),
+        LogAction::InsertValue(a) => insert_value(tables, a.table.0, a.index, payload, image),
         LogAction::InsertRefCount(a) => {
             insert_chunk(
-                t,
+                tables,
                 TableKind::RefCount,
                 16,
                 a.table.0,
@@ -79,24 +85,12 @@ fn apply_written(t: &[u64; 81], action: LogAction, payload: &[u8], image: &mut [
                 image,
             );
         }
-        LogAction::DropTable(table) => drop_table(t, TableKind::Index, table.0, image),
-        LogAction::DropRefCountTable(table) => drop_table(t, TableKind::RefCount, table.0, image),
+        LogAction::DropTable(table) => drop_table(tables, TableKind::Index, table.0, image),
+        LogAction::DropRefCountTable(table) => drop_table(
+            tables,
+            TableKind::RefCount,
+            table.0,
+            image,
+        ),
     }
-}
-
-// An action whose payload is the `size` bytes of the log from `start` on.
-pub fn apply_action(
-    t: &[u64; 81],
-    log: &[u8],
-    action: LogAction,
-    start: usize,
-    size: usize,
-    image: &mut [u8],
-)
-    requires size_in_bounds { start + size ≤ length log.now }
-    requires flat { Flat t.now × (length image.old ≡ image_length (directory_in t.now)) }
-    requires sized_by { SizedBy (directory_in t.now) action (take size (drop start log.now)) }
-    ensures { image.new ≡ done (directory_in t.now) (written action (take size (drop start log.now))) image.old }
-{
-    apply_written(t, action, &log[start..start + size], image);
 }

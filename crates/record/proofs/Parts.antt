@@ -26,7 +26,7 @@ use Rattle.record.specs.declared.item.Key.{Key}
 use Rattle.record.specs.declared.item.ReadItem.{ReadItem}
 use Rattle.record.specs.declared.reader.LogReader.{LogReader}
 use Rattle.record.specs.Next.{reader_after, stepped}
-use Rattle.record.specs.Inner.{action_in, got_item, inserted_item}
+use Rattle.record.specs.Inner.{got_item, inserted_item}
 use Rattle.record.proofs.Formats.{need-short, need_met, read-give, read-refuse, then_stop, then_got}
 use Rattle.std.specs.Prelude.{Ok, Option, Some, None}
 
@@ -181,6 +181,6 @@ no-tag {tag} n1 n2 n3 n4 n5 n6 n7 n0 = past 4 (past 0 zero-le n0 n1 n2 n3) n4 n5
 back : (s l : ℕ) → s + l - l ≡ s
 back s l = omega arith
 
-pub item_step : (log : List ℕ) (r : LogReader) (i : ReadItem) (g : Got Item) (x : LogAction) (n : LogReader) → got_item (Ok i) ≡ g → x ≡ action_in i
-    → n ≡ reader_after log r x (i.start + i.length) → Ok (record { action = x; start = i.start; length = i.length; reader = n }) ≡ stepped log r g
-item_step log r i g x n e q m = rw (← e, back i.start i.length, m, q)
+pub item_step : (log : List ℕ) (r : LogReader) (i : ReadItem) (g : Got Item) (n : LogReader) → got_item (Ok i) ≡ g → n ≡ reader_after log r i.action (i.start + i.length)
+    → Ok (record { action = i.action; start = i.start; length = i.length; reader = n }) ≡ stepped log r g
+item_step log r i g n e m = rw (← e, back i.start i.length, m)

@@ -6,23 +6,18 @@ ghost use Rattle.record.specs.Record.{insert_of, tag_of};
 use answer::Tag;
 use directory::{IndexTableId, RefCountTableId, TableKind, ValueTableId};
 
+// An insertion: into which table, whose number's type says its kind, and under which index.
 #[derive(Clone, Copy)]
-pub struct InsertIndexAction {
-    pub table: IndexTableId,
+pub struct InsertAction<Id> {
+    pub table: Id,
     pub index: u64,
 }
 
-#[derive(Clone, Copy)]
-pub struct InsertValueAction {
-    pub table: ValueTableId,
-    pub index: u64,
-}
+pub type InsertIndexAction = InsertAction<IndexTableId>;
 
-#[derive(Clone, Copy)]
-pub struct InsertRefCountAction {
-    pub table: RefCountTableId,
-    pub index: u64,
-}
+pub type InsertValueAction = InsertAction<ValueTableId>;
+
+pub type InsertRefCountAction = InsertAction<RefCountTableId>;
 
 #[derive(Clone, Copy)]
 pub enum LogAction {

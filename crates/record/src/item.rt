@@ -1,14 +1,13 @@
 // What stands inside a record, from a position on: the tag, and what the tag says is behind it.
 ghost use Rattle.std.specs.Prelude.{◌≡◌, ◌+◌, ◌≤◌, length};
 ghost use Rattle.record.specs.Format.{read_at};
-ghost use Rattle.record.specs.Inner.{got_by, tag_of_kind, action_by, action_in, got_item, inserted_item};
-ghost use Rattle.record.specs.Record.{key, chunk, value, table, dropped_item, sum_holds, ended_item, inside};
+ghost use Rattle.record.specs.Inner.{got_by, got_item, inserted_item};
+ghost use Rattle.record.specs.Record.{key, chunk, value, table, sum_holds, ended_item, inside};
 
 use super::action::LogAction;
 use super::mask::entries_length;
-use super::tables::Tables;
 use answer::{Answer, Tag};
-use directory::{IndexTableId, RefCountTableId, TableDescription, TableKind};
+use directory::{Directory, IndexTableId, RefCountTableId, TableDescription, TableKind};
 
 // A table's number and an index, both tested, with the table's description.
 #[derive(Clone, Copy)]
@@ -18,47 +17,39 @@ pub struct Key {
     pub description: TableDescription,
 }
 
-// An action in plain numbers, table and index 0 where it has none, and its payload's place; it ends where its payload ends. An action itself
-// would be copied at each return, its unused bytes too.
+// An action that was read, and its payload's place; it ends where its payload ends.
 #[derive(Clone, Copy)]
 pub struct ReadItem {
-    pub index: u64,
-    pub length: usize,
-    pub tag: Tag,
-    pub table: u16,
+    pub action: LogAction,
     pub start: usize,
+    pub length: usize,
 }
 
 impl ReadItem {
-    #[tactic(auto, unfolding(crate::specs::Inner::action_by))]
-    pub fn action(self) -> LogAction
-        ensures { result ≡ action_in self }
+    // An action without a payload, up to its end.
+    fn bare(action: LogAction, end: usize) -> ReadItem
+        ensures { result ≡ record { action = action; start = end; length = 0 } }
     {
-        match self.tag.0 {
-            2 => LogAction::insert(TableKind::Index, self.table, self.index),
-            3 => LogAction::insert(TableKind::Value, self.table, self.index),
-            4 => LogAction::EndRecord,
-            5 => LogAction::DropTable(IndexTableId(self.table)),
-            6 => LogAction::insert(TableKind::RefCount, self.table, self.index),
-            7 => LogAction::DropRefCountTable(RefCountTableId(self.table)),
-            _ => LogAction::BeginRecord,
+        ReadItem {
+            action,
+            start: end,
+            length: 0,
         }
     }
 }
 
 // Table and index, behind the tag of an insertion.
 #[tactic(auto, unfolding(crate::specs::Format::read_at, crate::specs::Record::key))]
-fn key_at<T: Tables>(tables: &T, log: &[u8], body: usize, kind: TableKind) -> Result<Key, Answer>
-    requires formed { T.formed tables.now }
-    requires in_bounds { body ≤ length log.now }
-    ensures { got_by result (body + 10) ≡ read_at (key (T.directory tables.now) kind) body log.now }
+fn key_at(directory: &Directory, log: &[u8], body: usize, kind: TableKind) -> Result<Key, Answer>
+    requires { body ≤ length log.now }
+    ensures { got_by result (body + 10) ≡ read_at (key directory.now kind) body log.now }
 {
     if log.len() - body < 10 {
         return Err(Answer::Cut);
     }
     let table = words::u16_at(log, body);
     let index = words::u64_at(log, body + 2);
-    let Some((_, description)) = tables.find(kind, table) else {
+    let Some((_, description)) = directory.find(kind, table) else {
         return Err(Answer::NoTable);
     };
     if index < u64::from(description.count) {
@@ -72,19 +63,8 @@ fn key_at<T: Tables>(tables: &T, log: &[u8], body: usize, kind: TableKind) -> Re
     }
 }
 
-// The tag of an insertion.
-fn insert_tag(kind: TableKind) -> Tag
-    ensures { result.0 ≡ tag_of_kind kind }
-{
-    match kind {
-        TableKind::Index => Tag::INSERT_INDEX,
-        TableKind::Value => Tag::INSERT_VALUE,
-        TableKind::RefCount => Tag::INSERT_REF_COUNT,
-    }
-}
-
 // The mask and its entries, behind a key.
-#[tactic(auto, unfolding(crate::specs::Format::read_at, crate::specs::Record::chunk, crate::specs::Inner::action_by))]
+#[tactic(auto, unfolding(crate::specs::Format::read_at, crate::specs::Record::chunk))]
 fn chunk_at(
     log: &[u8],
     start: usize,
@@ -104,16 +84,14 @@ fn chunk_at(
         return Err(Answer::Cut);
     }
     Ok(ReadItem {
-        index: k.index,
-        length: 8 + entries,
-        tag: insert_tag(kind),
-        table: k.table,
+        action: LogAction::insert(kind, k.table, k.index),
         start,
+        length: 8 + entries,
     })
 }
 
 // The value, behind a key. A record has as many bytes for a value as its table says.
-#[tactic(auto, unfolding(crate::specs::Format::read_at, crate::specs::Record::value, crate::specs::Inner::action_by))]
+#[tactic(auto, unfolding(crate::specs::Format::read_at, crate::specs::Record::value))]
 fn value_at(log: &[u8], start: usize, k: Key) -> Result<ReadItem, Answer>
     requires { start ≤ length log.now }
     ensures { got_item result ≡ read_at (value k) start log.now }
@@ -123,26 +101,23 @@ fn value_at(log: &[u8], start: usize, k: Key) -> Result<ReadItem, Answer>
         return Err(Answer::Cut);
     }
     Ok(ReadItem {
-        index: k.index,
-        length,
-        tag: Tag::INSERT_VALUE,
-        table: k.table,
+        action: LogAction::insert(TableKind::Value, k.table, k.index),
         start,
+        length,
     })
 }
 
 // Tags 2, 3 and 6: a key, and the payload behind it.
-fn inserted_at<T: Tables>(
-    tables: &T,
+fn inserted_at(
+    directory: &Directory,
     log: &[u8],
     body: usize,
     kind: TableKind,
 ) -> Result<ReadItem, Answer>
-    requires formed { T.formed tables.now }
-    requires in_bounds { body ≤ length log.now }
-    ensures { got_item result ≡ read_at (inserted_item (T.directory tables.now) kind) body log.now }
+    requires { body ≤ length log.now }
+    ensures { got_item result ≡ read_at (inserted_item directory.now kind) body log.now }
 {
-    let k = key_at(tables, log, body, kind)?;
+    let k = key_at(directory, log, body, kind)?;
     let start = body + 10;
     match kind {
         TableKind::Index => chunk_at(log, start, kind, 8, k),
@@ -160,7 +135,7 @@ fn sum_holds(validate: bool, register: u32, sum: u32) -> bool
 }
 
 // Tag 4.
-#[tactic(auto, unfolding(crate::specs::Format::read_at, crate::specs::Record::ended_item, crate::specs::Inner::action_by))]
+#[tactic(auto, unfolding(crate::specs::Format::read_at, crate::specs::Record::ended_item))]
 fn ended_at(log: &[u8], body: usize, validate: bool, register: u32) -> Result<ReadItem, Answer>
     requires { body ≤ length log.now }
     ensures { got_item result ≡ read_at (ended_item validate register) body log.now }
@@ -169,13 +144,7 @@ fn ended_at(log: &[u8], body: usize, validate: bool, register: u32) -> Result<Re
         return Err(Answer::Cut);
     }
     if sum_holds(validate, register, words::u32_at(log, body)) {
-        Ok(ReadItem {
-            index: 0,
-            length: 0,
-            tag: Tag::END_RECORD,
-            table: 0,
-            start: body + 4,
-        })
+        Ok(ReadItem::bare(LogAction::EndRecord, body + 4))
     } else {
         Err(Answer::WrongSum)
     }
@@ -183,75 +152,53 @@ fn ended_at(log: &[u8], body: usize, validate: bool, register: u32) -> Result<Re
 
 // A table's number, behind the tag of a drop.
 #[tactic(auto, unfolding(crate::specs::Format::read_at, crate::specs::Record::table))]
-fn table_at<T: Tables>(tables: &T, log: &[u8], body: usize, kind: TableKind) -> Result<u16, Answer>
-    requires formed { T.formed tables.now }
-    requires in_bounds { body ≤ length log.now }
-    ensures { got_by result (body + 2) ≡ read_at (table (T.directory tables.now) kind) body log.now }
+fn table_at(directory: &Directory, log: &[u8], body: usize, kind: TableKind) -> Result<u16, Answer>
+    requires { body ≤ length log.now }
+    ensures { got_by result (body + 2) ≡ read_at (table directory.now kind) body log.now }
 {
     if log.len() - body < 2 {
         return Err(Answer::Cut);
     }
     let number = words::u16_at(log, body);
-    match tables.find(kind, number) {
+    match directory.find(kind, number) {
         None => Err(Answer::NoTable),
         Some(_) => Ok(number),
     }
 }
 
-// Tags 5 and 7.
-fn dropped_at<T: Tables>(
-    tables: &T,
-    log: &[u8],
-    body: usize,
-    kind: TableKind,
-    tag: Tag,
-) -> Result<ReadItem, Answer>
-    requires formed { T.formed tables.now }
-    requires in_bounds { body ≤ length log.now }
-    ensures { got_item result ≡ read_at (dropped_item (T.directory tables.now) kind (λ number. action_by tag.0 number 0)) body log.now }
-{
-    let table = table_at(tables, log, body, kind)?;
-    Ok(ReadItem {
-        index: 0,
-        length: 0,
-        tag,
-        table,
-        start: body + 2,
-    })
-}
-
 // The decision on the tag, inside a record.
-#[tactic(auto, unfolding(crate::specs::Format::read_at, crate::specs::Record::inside, crate::specs::Record::inside_by, crate::specs::Inner::action_by))]
-pub fn item_at<T: Tables>(
-    tables: &T,
+#[tactic(auto, unfolding(crate::specs::Format::read_at, crate::specs::Record::inside, crate::specs::Record::inside_by, crate::specs::Record::dropped_item))]
+pub fn item_at(
+    directory: &Directory,
     log: &[u8],
     at: usize,
     validate: bool,
     register: u32,
 ) -> Result<ReadItem, Answer>
-    requires formed { T.formed tables.now }
-    requires in_bounds { at ≤ length log.now }
-    ensures { got_item result ≡ read_at (inside (T.directory tables.now) validate register) at log.now }
+    requires { at ≤ length log.now }
+    ensures { got_item result ≡ read_at (inside directory.now validate register) at log.now }
 {
-    if log.len() - at < 1 {
+    let Some(&tag) = log.get(at) else {
         return Err(Answer::Cut);
-    }
-    let tag = log[at];
+    };
     let body = at + 1;
     match tag {
         1 => Err(Answer::OutOfPlace),
-        2 => inserted_at(tables, log, body, TableKind::Index),
-        3 => inserted_at(tables, log, body, TableKind::Value),
+        2 => inserted_at(directory, log, body, TableKind::Index),
+        3 => inserted_at(directory, log, body, TableKind::Value),
         4 => ended_at(log, body, validate, register),
-        5 => dropped_at(tables, log, body, TableKind::Index, Tag::DROP_TABLE),
-        6 => inserted_at(tables, log, body, TableKind::RefCount),
-        7 => dropped_at(
-            tables,
-            log,
-            body,
-            TableKind::RefCount,
-            Tag::DROP_REF_COUNT_TABLE,
-        ),
+        5 => {
+            let number = table_at(directory, log, body, TableKind::Index)?;
+            Ok(ReadItem::bare(LogAction::DropTable(IndexTableId(number)), body + 2))
+        }
+        6 => inserted_at(directory, log, body, TableKind::RefCount),
+        7 => {
+            let number = table_at(directory, log, body, TableKind::RefCount)?;
+            Ok(ReadItem::bare(
+                LogAction::DropRefCountTable(RefCountTableId(number)),
+                body + 2,
+            ))
+        }
         0 | 8..=255 => Err(Answer::UnknownTag),
     }
 }

@@ -6,9 +6,9 @@ mod item;
 mod mask;
 mod opening;
 mod reader;
-mod tables;
 
-pub use action::{InsertIndexAction, InsertRefCountAction, InsertValueAction, LogAction};
+pub use action::{
+    InsertAction, InsertIndexAction, InsertRefCountAction, InsertValueAction, LogAction,
+};
 pub use item::{ReadItem, item_at};
 pub use reader::{LogReader, Stepped};
-pub use tables::Tables;

@@ -53,10 +53,9 @@ pub fn opening_at(log: &[u8], at: usize, validate: bool) -> Result<u64, Answer>
     requires { at ≤ length log.now }
     ensures { got_by result (at + 1 + 8) ≡ read_at (opening validate) at log.now }
 {
-    if log.len() - at < 1 {
+    let Some(&tag) = log.get(at) else {
         return Err(Answer::EndOfLog);
-    }
-    let tag = log[at];
+    };
     let body = at + 1;
     match tag {
         1 => begun_at(log, body),

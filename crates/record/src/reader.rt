@@ -10,7 +10,6 @@ ghost use Rattle.record.specs.Record.{inside, opening};
 use super::action::LogAction;
 use super::item::item_at;
 use super::opening::opening_at;
-use super::tables::Tables;
 use answer::{Answer, Refusal};
 use directory::Directory;
 
@@ -107,19 +106,17 @@ impl LogReader {
     }
 
     // Inside a record.
-    fn step_inside<T: Tables>(self, tables: &T, log: &[u8]) -> Result<Stepped, Refusal>
-        requires formed { T.formed tables.now }
-        requires in_bounds { self.position ≤ length log.now }
-        ensures { result ≡ stepped log.now self (read_at (inside (T.directory tables.now) self.validate self.crc32) self.position log.now) }
+    fn step_inside(self, directory: &Directory, log: &[u8]) -> Result<Stepped, Refusal>
+        requires { self.position ≤ length log.now }
+        ensures { result ≡ stepped log.now self (read_at (inside directory.now self.validate self.crc32) self.position log.now) }
     {
-        let read = item_at(tables, log, self.position, self.validate, self.crc32);
+        let read = item_at(directory, log, self.position, self.validate, self.crc32);
         let item = read.map_err(|answer| self.refusal(answer))?;
-        let action = item.action();
         Ok(Stepped {
-            action,
+            action: item.action,
             start: item.start,
             length: item.length,
-            reader: self.after(log, action, item.start + item.length),
+            reader: self.after(log, item.action, item.start + item.length),
         })
     }
 

@@ -11,7 +11,6 @@ use Rattle.words.specs.Words.{little_at}
 use Rattle.words.proofs.Choices.{if_true, if_false}
 use Rattle.checksum.specs.Checksum.{checksum_of}
 use Rattle.directory.specs.Directory.{directory_kept, image_length}
-use Rattle.directory.specs.Inner.{directory_in, Flat}
 use Rattle.directory.specs.declared.directory.Directory.{Directory}
 use Rattle.answer.specs.declared.answer.Answer.TheVariants.{WrongSum, BadState}
 use Rattle.record.specs.declared.reader.LogReader.{LogReader}
@@ -19,7 +18,7 @@ use Rattle.effect.specs.Effect.{Written}
 use Rattle.record.specs.Next.{plain}
 use Rattle.answer.specs.declared.answer.Refusal.{Refusal}
 use Rattle.answer.specs.Answer.{refusal}
-use Rattle.replay.specs.Inner.{is_walked, Opened, Walker, FlatFor}
+use Rattle.replay.specs.Inner.{is_walked, Opened, Walker}
 use Rattle.replay.specs.Replay.{Walked, fault, walked, record_at, tables_kept, judged, image_after, end_in}
 use Rattle.replay.specs.Sum.{sum_held, sum_tested}
 use Rattle.replay.proofs.Places.{EndsIn, ends_in}
@@ -111,7 +110,3 @@ module _ (d : Directory) (image : List ℕ) (e : tables_kept d image ≡ true) w
   pub kept-length : length image ≡ image_length d
   unfolding tables_kept
   kept-length = eqb-true (length image) (image_length d) ((and-eq-true_iff (directory_kept d) (eqb (length image) (image_length d))).0 e).1
-
--- written out as numbers, they are the same
-pub flat_for : (t : List ℕ) (d : Directory) (image : List ℕ) → directory_in t ≡ d → Flat t → tables_kept d image ≡ true → FlatFor t image
-flat_for t d image e f k = record { flat = f; long = kept-length d image k ∙ ap image_length (sym e) }

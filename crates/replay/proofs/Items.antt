@@ -2,14 +2,15 @@
 use mathlib.Core.Path.{◌≡◌, refl, sym, ap, ◌∙◌}
 use mathlib.Core.Bool.{Bool, true, false}
 use mathlib.Core.List.{List}
-use Prim.Native.Nat.{ℕ, ◌+◌, ◌≤◌, ◌<◌}
-use lib.ListN.{length}
+use Prim.Native.Nat.{ℕ, ◌+◌, ◌-◌, ◌≤◌, ◌<◌}
+use native.Mathlib.Omega.{arith}
+use lib.ListN.{length, take, drop}
 use Rattle.words.proofs.Choices.{if_false}
 use Rattle.directory.specs.declared.directory.Directory.{Directory}
 use Rattle.answer.specs.Answer.{refusal}
 use Rattle.answer.specs.declared.answer.Answer.{Answer}
 use Rattle.record.specs.Format.{Got, stopped, read_at}
-use Rattle.record.specs.Inner.{action_in, got_item}
+use Rattle.record.specs.Inner.{got_item}
 use Rattle.record.specs.Next.{is_end, forward_to, reader_after, stepped, step_of}
 use Rattle.record.specs.Record.{Item, inside}
 use Rattle.record.specs.declared.action.LogAction.{LogAction}
@@ -31,33 +32,37 @@ after-position log r action end = go (is_end action) refl
     go true e = rw e
     go false e = rw e
 
+-- the bytes from a place up to n behind it
+pub payload-part : (s n : ℕ) (l : List ℕ) → take (s + n - s) (drop s l) ≡ take n (drop s l)
+payload-part s n l = let e : s + n - s ≡ n = omega arith in rw e
+
 module _ (d : Directory) (log : List ℕ) (r : LogReader) (w : Walker log r) (at : ℕ) (h : at ≤ length log) where
   pub item_refused : (a : Answer) → stopped a ≡ read_at (inside d r.validate r.crc32) at log → step_of d log (moved_to r at) ≡ Err (refusal a at)
   item_refused a e = inside-step d log (moved_to r at) w.inside h ∙ sym (ap (λ (g : Got Item). stepped log (moved_to r at) g) e)
 
-  module _ (i : ReadItem) (x : LogAction) (is : x ≡ action_in i) (e : got_item (Ok i) ≡ read_at (inside d r.validate r.crc32) at log) where
+  module _ (i : ReadItem) (e : got_item (Ok i) ≡ read_at (inside d r.validate r.crc32) at log) where
     abbrev pub took_item : Stepped
     took_item = record {
-      action = x;
+      action = i.action;
       start = i.start;
       length = i.length;
-      reader = reader_after log (moved_to r at) x (i.start + i.length);
+      reader = reader_after log (moved_to r at) i.action (i.start + i.length);
     }
 
     pub item_taken : step_of d log (moved_to r at) ≡ Ok took_item
-    item_taken = inside-step d log (moved_to r at) w.inside h ∙ sym (item_step log (moved_to r at) i (read_at (inside d r.validate r.crc32) at log) x took_item.reader e is refl)
+    item_taken = inside-step d log (moved_to r at) w.inside h ∙ sym (item_step log (moved_to r at) i (read_at (inside d r.validate r.crc32) at log) took_item.reader e refl)
 
     -- it lies within the log, and takes a byte or more
     pub item_place : (at < i.start + i.length) × (i.start + i.length ≤ length log)
     item_place =
         let o = step-on d log (moved_to r at) took_item item_taken in
-        let p : took_item.reader.position ≡ i.start + i.length = after-position log (moved_to r at) x (i.start + i.length) in
+        let p : took_item.reader.position ≡ i.start + i.length = after-position log (moved_to r at) i.action (i.start + i.length) in
         (rw p at o.forward, rw p at o.inside)
 
     pub item_ends : took_item.reader.position ≡ i.start + i.length
-    item_ends = after-position log (moved_to r at) x (i.start + i.length)
+    item_ends = after-position log (moved_to r at) i.action (i.start + i.length)
 
     -- the reader behind it is the same at the next place
-    pub item_next : is_end x ≡ false → took_item.reader ≡ moved_to r (i.start + i.length)
+    pub item_next : is_end i.action ≡ false → took_item.reader ≡ moved_to r (i.start + i.length)
     unfolding reader_after forward_to
-    item_next q = if_false (is_end x) _ _ q ∙ rw w.plainly
+    item_next q = if_false (is_end i.action) _ _ q ∙ rw w.plainly

@@ -1,8 +1,6 @@
 -- What the inner functions of replay ask for. Nothing here has to be believed: `Replay` and `Run` say what the public calls answer.
 use Rattle.std.specs.Prelude.{Bool, true, false, ◌≡◌, List, ℕ, ◌-◌, ◌≤◌, length, take, drop}
 use Rattle.checksum.specs.Checksum.{all_ones, updated}
-use Rattle.directory.specs.Directory.{image_length}
-use Rattle.directory.specs.Inner.{directory_in, Flat}
 use Rattle.record.specs.declared.reader.LogReader.{LogReader}
 use Rattle.effect.specs.Effect.{Written}
 use Rattle.replay.specs.Replay.{Walked, fault, walked}
@@ -29,8 +27,3 @@ pub record Walker (log : List ℕ) (r : LogReader) : Type 0 where
 -- the same reader at another place: all of it that a walk changes
 abbrev pub moved_to : LogReader → ℕ → LogReader
 moved_to r at = record { position = at; record_id = r.record_id; crc32 = r.crc32; validate = r.validate; inside = r.inside }
-
--- a directory in numbers, and an image that is its
-pub record FlatFor (t image : List ℕ) : Type 0 where
-  pub flat : Flat t
-  pub long : length image ≡ image_length (directory_in t)

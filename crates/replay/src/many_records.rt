@@ -1,13 +1,12 @@
 // Records one behind the other.
-ghost use Rattle.std.specs.Prelude.{◌≡◌, true, []};
-ghost use Rattle.directory.specs.Inner.{directory_in};
-ghost use Rattle.replay.specs.Inner.{FlatFor};
+ghost use Rattle.std.specs.Prelude.{◌≡◌, true, [], length};
+ghost use Rattle.directory.specs.Directory.{image_length};
 ghost use Rattle.replay.specs.Replay.{tables_kept};
 ghost use Rattle.replay.specs.Run.{stops, run_in, run_of};
 
 use super::one_record::{replay_in, tables_kept};
 use answer::{Answer, Refusal};
-use directory::Directory;
+use directory::{Directory, Layout};
 
 // `position` is where the record not replayed begins, `fault_at` where the action at fault begins.
 #[derive(Clone, Copy)]
@@ -30,16 +29,17 @@ fn stopped(refusal: Refusal, position: usize, count: u64) -> Ran
     }
 }
 
-// A run under a directory in numbers.
-fn run_in(t: &[u64; 81], log: &[u8], at: usize, expected: u64, image: &mut [u8]) -> Ran
-    requires { FlatFor t.now image.old }
-    ensures { (result ≡ (run_in (directory_in t.now) log.now at expected 0 image.old).ran) × (image.new ≡ (run_in (directory_in t.now) log.now at expected 0 image.old).image) }
+// A run under a directory that is lent.
+fn run_in(layout: &Layout, log: &[u8], at: usize, expected: u64, image: &mut [u8]) -> Ran
+    requires { length image.old ≡ image_length layout.now.directory }
+    ensures told { result ≡ (run_in layout.now.directory log.now at expected 0 image.old).ran }
+    ensures image { image.new ≡ (run_in layout.now.directory log.now at expected 0 image.old).image }
 {
     let mut position = at;
     let mut id = expected;
     let mut count = 0;
     loop {
-        match replay_in(t, log, position, id, image) {
+        match replay_in(layout, log, position, id, image) {
             Err(refusal) => return stopped(refusal, position, count),
             Ok(end) => {
                 position = end;
@@ -56,16 +56,17 @@ fn run_in(t: &[u64; 81], log: &[u8], at: usize, expected: u64, image: &mut [u8])
 // A run under a directory and an image that were tested already.
 pub fn run_kept(d: Directory, log: &[u8], at: usize, expected: u64, image: &mut [u8]) -> Ran
     requires { tables_kept d image.old ≡ true }
-    ensures { (result ≡ (run_in d log.now at expected 0 image.old).ran) × (image.new ≡ (run_in d log.now at expected 0 image.old).image) }
+    ensures told { result ≡ (run_in d log.now at expected 0 image.old).ran }
+    ensures image { image.new ≡ (run_in d log.now at expected 0 image.old).image }
 {
-    let t = directory::flat(d);
-    run_in(&t, log, at, expected, image)
+    run_in(&Layout::of(d), log, at, expected, image)
 }
 
 // Replays from a position, the expected id rising by 1, up to the first answer other than 0.
 #[tactic(auto, unfolding(crate::specs::Run::run_of))]
 pub fn run(d: Directory, log: &[u8], at: usize, expected: u64, image: &mut [u8]) -> Ran
-    ensures { (result ≡ (run_of d log.now at expected image.old).ran) × (image.new ≡ (run_of d log.now at expected image.old).image) }
+    ensures told { result ≡ (run_of d log.now at expected image.old).ran }
+    ensures image { image.new ≡ (run_of d log.now at expected image.old).image }
 {
     if tables_kept(d, image) {
         run_kept(d, log, at, expected, image)

@@ -1,45 +1,48 @@
 // One record, in two passes over its bytes: checked, then applied.
-ghost use Rattle.std.specs.Prelude.{◌≡◌, true};
-ghost use Rattle.directory.specs.Inner.{directory_in};
-ghost use Rattle.replay.specs.Inner.{Opened, FlatFor};
+ghost use Rattle.std.specs.Prelude.{◌≡◌, true, length};
+ghost use Rattle.directory.specs.Directory.{image_length};
+ghost use Rattle.replay.specs.Inner.{Opened};
 ghost use Rattle.replay.specs.Replay.{rest_in, record_at, tables_kept, judged, image_after, end_in};
 
 use super::apply::apply_rest;
 use super::check::checked_rest;
 use answer::{Answer, Refusal};
-use directory::Directory;
+use directory::{Directory, Layout};
 use record::LogReader;
 
 // The record behind its opening: checked to its end, then applied. The second pass leaves the checksum out: it was found right.
 fn replay_opened(
-    t: &[u64; 81],
+    layout: &Layout,
     log: &[u8],
     at: usize,
     opened: LogReader,
     image: &mut [u8],
 ) -> Result<usize, Refusal>
-    requires { FlatFor t.now image.old × Opened log.now at opened }
-    ensures { (result ≡ end_in (rest_in (directory_in t.now) log.now opened)) × (image.new ≡ image_after (directory_in t.now) image.old (rest_in (directory_in t.now) log.now opened)) }
+    requires opened { Opened log.now at opened }
+    requires image { length image.old ≡ image_length layout.now.directory }
+    ensures told { result ≡ end_in (rest_in layout.now.directory log.now opened) }
+    ensures image { image.new ≡ image_after layout.now.directory image.old (rest_in layout.now.directory log.now opened) }
 {
-    let end = checked_rest(t, log, at, opened)?;
-    apply_rest(t, log, opened.unvalidated(), image);
+    let end = checked_rest(&layout.directory, log, at, opened)?;
+    apply_rest(layout, log, opened.unvalidated(), image);
     Ok(end)
 }
 
-// A record under a directory in numbers: a run writes it once.
+// A record under a directory that is lent: a run lays it out once.
 pub fn replay_in(
-    t: &[u64; 81],
+    layout: &Layout,
     log: &[u8],
     at: usize,
     expected: u64,
     image: &mut [u8],
 ) -> Result<usize, Refusal>
-    requires { FlatFor t.now image.old }
-    ensures { (result ≡ end_in (record_at (directory_in t.now) log.now at expected)) × (image.new ≡ image_after (directory_in t.now) image.old (record_at (directory_in t.now) log.now at expected)) }
+    requires { length image.old ≡ image_length layout.now.directory }
+    ensures told { result ≡ end_in (record_at layout.now.directory log.now at expected) }
+    ensures image { image.new ≡ image_after layout.now.directory image.old (record_at layout.now.directory log.now at expected) }
 {
     let opened = LogReader::new(at, true).open(log)?.reader;
     if opened.record_id == expected {
-        replay_opened(t, log, at, opened, image)
+        replay_opened(layout, log, at, opened, image)
     } else {
         Err(Refusal::new(Answer::WrongId, at))
     }
@@ -54,10 +57,10 @@ pub fn replay_kept(
     image: &mut [u8],
 ) -> Result<usize, Refusal>
     requires { tables_kept d image.old ≡ true }
-    ensures { (result ≡ end_in (record_at d log.now at expected)) × (image.new ≡ image_after d image.old (record_at d log.now at expected)) }
+    ensures told { result ≡ end_in (record_at d log.now at expected) }
+    ensures image { image.new ≡ image_after d image.old (record_at d log.now at expected) }
 {
-    let t = directory::flat(d);
-    replay_in(&t, log, at, expected, image)
+    replay_in(&Layout::of(d), log, at, expected, image)
 }
 
 // Whether the directory keeps its rules and the image is its.
@@ -77,7 +80,8 @@ pub fn replay(
     expected: u64,
     image: &mut [u8],
 ) -> Result<usize, Refusal>
-    ensures { (result ≡ end_in (judged d log.now at expected image.old)) × (image.new ≡ image_after d image.old (judged d log.now at expected image.old)) }
+    ensures told { result ≡ end_in (judged d log.now at expected image.old) }
+    ensures image { image.new ≡ image_after d image.old (judged d log.now at expected image.old) }
 {
     if tables_kept(d, image) {
         replay_kept(d, log, at, expected, image)

@@ -1,20 +1,19 @@
 // The list of a log.
 ghost use Rattle.std.specs.Prelude.{◌≡◌};
-ghost use Rattle.directory.specs.Inner.{directory_in, Flat};
 ghost use Rattle.salvaging.specs.Inner.{Lists};
 ghost use Rattle.salvaging.specs.Salvage.{lines_of};
 
 use super::lines::Lines;
 use super::search::{Search, search_in};
+use directory::Directory;
 
 // It stops at a line that finds no room: the rest can't change the answer.
-pub fn lines_of(t: &[u64; 81], log: &[u8]) -> Result<Lines, u64>
-    requires { Flat t.now }
-    ensures { Lists log.now result (lines_of (directory_in t.now) log.now) }
+pub fn lines_of(directory: &Directory, log: &[u8]) -> Result<Lines, u64>
+    ensures { Lists log.now result (lines_of directory.now log.now) }
 {
     let mut lines = Lines::new();
     let mut at = 0;
-    while let Search::Record(f) = search_in(t, log, at, false) {
+    while let Search::Record(f) = search_in(directory, log, at, false) {
         lines.keep(f.position as u64, f.end as u64, f.id)?;
         at = f.end;
     }

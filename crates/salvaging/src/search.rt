@@ -1,7 +1,6 @@
 // The next whole record, from a position of a log on.
 ghost use Rattle.std.specs.Prelude.{◌≡◌, true, length};
 ghost use Rattle.directory.specs.Directory.{directory_kept};
-ghost use Rattle.directory.specs.Inner.{directory_in, Flat};
 ghost use Rattle.salvaging.specs.Inner.{NextBegin, undecided, search_in, Inside};
 
 use answer::Refusal;
@@ -42,13 +41,12 @@ fn is_open(more: bool, x: Refusal) -> bool
 }
 
 // Where more bytes may follow, a record that they could make whole isn't passed over.
-pub fn search_in(t: &[u64; 81], log: &[u8], from: usize, more: bool) -> Search
-    requires { Flat t.now }
-    ensures { (result ≡ search_in more (directory_in t.now) log.now from) × Inside result from (length log.now) }
+pub fn search_in(directory: &Directory, log: &[u8], from: usize, more: bool) -> Search
+    ensures { (result ≡ search_in more directory.now log.now from) × Inside result from (length log.now) }
 {
     let mut rest = from;
     while let Some(at) = next_begin(log, rest) {
-        match replay::check_record_in(t, log, at) {
+        match replay::check_record_in(directory, log, at) {
             Ok(w) => {
                 return Search::Record(Found {
                     position: at,
@@ -72,6 +70,5 @@ pub fn search_kept(d: Directory, log: &[u8], from: usize, more: bool) -> Search
     requires { directory_kept d ≡ true }
     ensures { (result ≡ search_in more d log.now from) × Inside result from (length log.now) }
 {
-    let t = directory::flat(d);
-    search_in(&t, log, from, more)
+    search_in(&d, log, from, more)
 }

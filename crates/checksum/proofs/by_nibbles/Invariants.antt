@@ -1,9 +1,8 @@
 -- What each turn keeps.
+use Prim.Native.Nat.{◌-◌}
 use Rattle.checksum.proofs.Looked.{Looking}
 use Rattle.checksum.proofs.by_nibbles.Given as goal
 
-abbrev pub invariant-loop-left : goal.invariant-loop-left
-invariant-loop-left l = Looking 4 8 l.base l.number l.r l.x l.left
-
-abbrev pub decreases-loop-left : goal.decreases-loop-left
-decreases-loop-left l = l.left
+-- the digits left and what the others came to make the number
+abbrev pub invariant-loop-part : goal.invariant-loop-part
+invariant-loop-part l = Looking 4 8 l.base l.number l.r l.x (l.part - l.base)

@@ -11,4 +11,4 @@ use Rattle.checksum.proofs.byte_in.Goals as goal
 pub returns : goal.returns
 returns c =
     let a = c.args in
-    ap (bit_xor (a.r / 256)) (look_byte a.t.now c.requires (bit_xor a.r a.b % 256) (omega arith)) ∙ sym (byte_in a.r a.b (search rules))
+    rw c.from.ensures (ap (bit_xor (a.r / 256)) (look_byte a.t.now c.requires (bit_xor a.r a.b % 256) (omega arith)) ∙ sym (byte_in a.r a.b (search rules)))

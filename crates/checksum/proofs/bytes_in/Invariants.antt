@@ -1,12 +1,15 @@
--- What each turn keeps.
+-- What each turn keeps: the bytes left bring the register where all of them bring it.
 use mathlib.Core.Path.{◌≡◌}
-use Prim.Native.Nat.{◌-◌, ◌≤◌}
-use lib.ListN.{length, drop}
+use Prim.Native.Nat.{◌*◌, ◌<◌}
+use lib.ListN.{drop}
 use Rattle.checksum.specs.Checksum.{updated}
 use Rattle.checksum.proofs.bytes_in.Given as goal
 
-abbrev pub invariant-loop-i : goal.invariant-loop-i
-invariant-loop-i l = (l.i ≤ length l.bytes) × (updated l.r (drop l.i l.bytes) ≡ updated l.register (drop l.from l.bytes))
+abbrev pub invariant-loop-word : goal.invariant-loop-word
+invariant-loop-word l = record {
+  small : l.r < 4294967296;
+  left : updated l.r (drop (l.word-index * 8) l.bytes) ≡ updated l.register l.bytes;
+}
 
-abbrev pub decreases-loop-i : goal.decreases-loop-i
-decreases-loop-i l = length l.bytes - l.i
+abbrev pub invariant-loop-b : goal.invariant-loop-b
+invariant-loop-b l = updated l.r (drop l.b-index l.rest) ≡ updated l.register l.bytes

@@ -2,7 +2,6 @@
 -- from the overlays as they were. Assumes nothing.
 use mathlib.Core.Path.{refl, sym, ap, ◌∙◌}
 use native.Mathlib.Omega.{arith}
-use Rattle.directory.specs.Inner.{directory_in}
 use Rattle.record.specs.declared.reader.LogReader.{LogReader}
 use Rattle.replay.specs.Inner.{is_walked, moved_to}
 use Rattle.replay.specs.Replay.{rest_in}
@@ -15,53 +14,53 @@ use Rattle.clearing.proofs.Walk.{last-cleared, more-cleared}
 use Rattle.clearing.proofs.clear.clear_rest.Goals as goal
 
 pub loop-i-init : goal.loop-i-init
-loop-i-init c = (c.requires.1.within, refl, refl, c.requires.2, c.requires.3, refl)
+loop-i-init c = (c.requires.0.within, refl, refl, c.requires.1, c.requires.2, refl)
 
 pub returns-in_default : goal.returns-in_default
 returns-in_default c =
     let a = c.args in
     let l = c.loop-i in
-    let d = directory_in a.t.now in
+    let d = a.directory.now in
     absurd (unstopped d a.log.now (moved_to a.r l.at) _ l.invariant.4
-    (item_refused d a.log.now a.r c.requires.1 l.at l.invariant.0 _ (c.in_default.ensures)))
+    (item_refused d a.log.now a.r c.requires.0 l.at l.invariant.0 _ c.in_default.ensures))
 
 pub returns-then-is_end : goal.returns-then-is_end
 returns-then-is_end c =
     let a = c.args in
     let l = c.loop-i in
-    let d = directory_in a.t.now in
+    let d = a.directory.now in
     last-cleared a.r.record_id d a.log.now (moved_to a.r l.at) _ (parts_of Shared l.left l.words l.bytes)
-    (item_taken d a.log.now a.r c.requires.1 l.at l.invariant.0 _ _ c.action-action.ensures (c.in-Ok.ensures)) (sym c.is_end.ensures ∙ c.if-is_end.true)
+    (item_taken d a.log.now a.r c.requires.0 l.at l.invariant.0 _ c.in-Ok.ensures) (sym c.is_end.ensures ∙ c.if-is_end.true)
     ∙ l.invariant.5
 
 pub overflow_add-at : goal.overflow_add-at
 overflow_add-at c =
     let a = c.args in
     let l = c.loop-i in
-    let d = directory_in a.t.now in
-    omega (arith, (item_place d a.log.now a.r c.requires.1 l.at l.invariant.0 _ _ c.action-action.ensures (c.in-Ok.ensures)).1)
+    let d = a.directory.now in
+    omega (arith, (item_place d a.log.now a.r c.requires.0 l.at l.invariant.0 _ c.in-Ok.ensures).1)
 
 pub loop-i-smaller : goal.loop-i-smaller
 loop-i-smaller c =
     let a = c.args in
     let l = c.loop-i in
-    let d = directory_in a.t.now in
-    let p = item_place d a.log.now a.r c.requires.1 l.at l.invariant.0 _ _ c.action-action.ensures (c.in-Ok.ensures) in
+    let d = a.directory.now in
+    let p = item_place d a.log.now a.r c.requires.0 l.at l.invariant.0 _ c.in-Ok.ensures in
     omega (arith, p.0, p.1)
 
 pub loop-i-preserved : goal.loop-i-preserved
 loop-i-preserved c =
     let a = c.args in
     let l = c.loop-i in
-    let d = directory_in a.t.now in
+    let d = a.directory.now in
     let log = a.log.now in
     let taken = c.in-Ok.ensures in
-    let took = item_taken d log a.r c.requires.1 l.at l.invariant.0 _ _ c.action-action.ensures taken in
+    let took = item_taken d log a.r c.requires.0 l.at l.invariant.0 _ taken in
     let ended = sym c.is_end.ensures ∙ c.if-is_end.false in
-    let next = item_next d log a.r c.requires.1 l.at l.invariant.0 _ _ c.action-action.ensures taken ended in
+    let next = item_next d log a.r c.requires.0 l.at l.invariant.0 _ taken ended in
     let cleared = c.clear_action-left in
     let m = more-cleared a.r.record_id d log (moved_to a.r l.at) _ (parts_of Shared l.left l.words l.bytes) took cleared.ensures ended l.invariant.3 l.invariant.4 in (
-      (item_place d log a.r c.requires.1 l.at l.invariant.0 _ _ c.action-action.ensures taken).1,
+      (item_place d log a.r c.requires.0 l.at l.invariant.0 _ taken).1,
       cleared.auto.words ∙ l.invariant.1,
       cleared.auto.bytes ∙ l.invariant.2,
       m.0,

@@ -1,17 +1,42 @@
--- `directory_of` meets its contract. The invariant: the lines that are left make the same of what there is so far. Assumes nothing.
-use mathlib.Core.Path.{sym, ◌∙◌}
+-- `directory_of` meets its contract. Assumes nothing.
+use mathlib.Core.Path.{sym, ap, ◌∙◌}
+use Prim.Native.Nat.{◌<◌}
 use native.Mathlib.Omega.{arith}
-use Rattle.directory_text.proofs.Whole.{line-stops, line-goes, line-counts, lines_end, all_lines}
+use borrow.Author.Tests.{eqb-true, eqb-false}
+use lib.ListN.{length, drop}
+use Rattle.directory_text.specs.Text.{parsed}
+use Rattle.directory_text.proofs.Laws.{line-shorter}
+use Rattle.directory_text.proofs.Lines.{line-fault, line-goes, lines_end}
 use Rattle.directory_text.proofs.text.directory_of.Goals as goal
 
-pub loop-at-init : goal.loop-at-init
-loop-at-init c = (omega arith, omega arith, all_lines _ c.new.ensures)
+pub loop-rest-init : goal.loop-rest-init
+unfolding parsed
+loop-rest-init c = record { few = omega arith; left = rw c.new-directory.ensures }
 
-pub returns-then-is_any : goal.returns-then-is_any
-returns-then-is_any c = line-stops c.args.text.now c.loop-at.at c.pass_over-end.result c.loop-at.so_far c.with_line-so_far.result (omega arith) c.pass_over-end.ensures.2 c.with_line-so_far.ensures c.loop-at.invariant.2 (sym c.is_any.ensures ∙ c.if-is_any.true)
+pub loop-rest-smaller : goal.loop-rest-smaller
+loop-rest-smaller c =
+    let some : 0 < length c.loop-rest.rest.now = omega (arith, eqb-false _ 0 (sym c.loop-rest-test.ensures)) in
+    let e = c.behind_one-rest.ensures ∙ ap (drop 1) c.split_before.ensures.rest in
+    rw e (line-shorter c.loop-rest.rest.now some)
 
-pub loop-at-preserved : goal.loop-at-preserved
-loop-at-preserved c = (omega (arith, line-counts c.args.text.now c.loop-at.at c.pass_over-end.result c.loop-at.so_far c.with_line-so_far.result (omega arith) c.pass_over-end.ensures.2 c.with_line-so_far.ensures c.loop-at.invariant.2), omega arith, line-goes c.args.text.now c.loop-at.at c.pass_over-end.result c.loop-at.so_far c.with_line-so_far.result (omega arith) c.pass_over-end.ensures.2 c.with_line-so_far.ensures c.loop-at.invariant.2 (sym c.is_any.ensures ∙ c.if-is_any.false))
+pub returns-in-Err : goal.returns-in-Err
+returns-in-Err c =
+    let l = c.loop-rest in
+    let some : 0 < length l.rest.now = omega (arith, eqb-false _ 0 (sym c.loop-rest-test.ensures)) in
+    sym (line-fault l.line l.directory l.rest.now c.split_before.result.0.now some c.split_before.ensures.before (sym c.with_line.ensures ∙ c.in-Err.is)) ∙ l.invariant.left
+
+pub loop-rest-preserved : goal.loop-rest-preserved
+loop-rest-preserved c =
+    let l = c.loop-rest in
+    let some : 0 < length l.rest.now = omega (arith, eqb-false _ 0 (sym c.loop-rest-test.ensures)) in
+    let behind = c.behind_one-rest.ensures ∙ ap (drop 1) c.split_before.ensures.rest in
+    let shorter : length c.behind_one-rest.result.now < length l.rest.now = rw behind (line-shorter l.rest.now some) in
+    record {
+      few = omega (arith, l.invariant.few);
+      left =
+          sym (line-goes l.line l.directory l.rest.now c.split_before.result.0.now some c.split_before.ensures.before (sym c.with_line.ensures ∙ c.in-Ok.is) behind)
+          ∙ l.invariant.left;
+    }
 
 pub returns : goal.returns
-returns c = lines_end _ c.loop-at.at _ (omega arith) c.loop-at.invariant.2
+returns c = sym (lines_end _ _ c.loop-rest.rest.now (eqb-true _ 0 (sym c.loop-rest-test.ensures))) ∙ c.loop-rest.invariant.left

@@ -1,13 +1,17 @@
 -- What each turn keeps.
 use mathlib.Core.Path.{◌≡◌}
-use Prim.Native.Nat.{◌+◌, ◌-◌, ◌≤◌}
-use lib.ListN.{length, drop}
+use Prim.Native.Nat.{◌+◌, ◌≤◌}
+use lib.ListN.{length}
 use Rattle.directory_text.specs.Scan.{text_lines}
 use Rattle.directory_text.specs.Text.{from_lines, parsed}
 use Rattle.directory_text.proofs.text.directory_of.Given as goal
 
-abbrev pub invariant-loop-at : goal.invariant-loop-at
-invariant-loop-at l = (l.so_far.line ≤ l.at) × (l.at ≤ length l.text + 1) × (from_lines l.so_far (text_lines (drop l.at l.text)) ≡ parsed l.text)
+-- the lines that are left make of the directory so far what the text comes to
+abbrev pub invariant-loop-rest : goal.invariant-loop-rest
+invariant-loop-rest l = record {
+  few : l.line + length l.rest ≤ length l.text;
+  left : from_lines l.line l.directory (text_lines l.rest) ≡ parsed l.text;
+}
 
-abbrev pub decreases-loop-at : goal.decreases-loop-at
-decreases-loop-at l = length l.text + 1 - l.at
+abbrev pub decreases-loop-rest : goal.decreases-loop-rest
+decreases-loop-rest l = length l.rest

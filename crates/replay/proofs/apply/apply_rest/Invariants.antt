@@ -3,7 +3,6 @@ use mathlib.Core.Path.{◌≡◌}
 use mathlib.Core.Bool.{true}
 use Prim.Native.Nat.{◌-◌, ◌≤◌}
 use lib.ListN.{length}
-use Rattle.directory.specs.Inner.{directory_in}
 use Rattle.replay.specs.Inner.{is_walked, moved_to}
 use Rattle.replay.specs.Replay.{rest_in, image_after}
 use Rattle.replay.proofs.apply.apply_rest.Given as goal
@@ -12,9 +11,9 @@ abbrev pub invariant-loop-item : goal.invariant-loop-item
 invariant-loop-item l = record {
   in_bounds : l.at ≤ length l.log;
   long : length l.image ≡ length l.initial.image;
-  walks : is_walked (rest_in (directory_in l.t) l.log (moved_to l.r l.at)) ≡ true;
-  same : image_after (directory_in l.t) l.image (rest_in (directory_in l.t) l.log (moved_to l.r l.at))
-      ≡ image_after (directory_in l.t) l.initial.image (rest_in (directory_in l.t) l.log l.r);
+  walks : is_walked (rest_in l.layout.directory l.log (moved_to l.r l.at)) ≡ true;
+  same : image_after l.layout.directory l.image (rest_in l.layout.directory l.log (moved_to l.r l.at))
+      ≡ image_after l.layout.directory l.initial.image (rest_in l.layout.directory l.log l.r);
 }
 
 abbrev pub decreases-loop-item : goal.decreases-loop-item

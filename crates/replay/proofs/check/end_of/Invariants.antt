@@ -2,7 +2,6 @@
 use mathlib.Core.Path.{◌≡◌}
 use Prim.Native.Nat.{◌-◌, ◌≤◌}
 use lib.ListN.{length}
-use Rattle.directory.specs.Inner.{directory_in}
 use Rattle.replay.specs.Inner.{moved_to}
 use Rattle.replay.specs.Replay.{rest_in, end_in}
 use Rattle.replay.proofs.check.end_of.Given as goal
@@ -10,7 +9,7 @@ use Rattle.replay.proofs.check.end_of.Given as goal
 abbrev pub invariant-loop-item : goal.invariant-loop-item
 invariant-loop-item l = record {
   in_bounds : l.at ≤ length l.log;
-  same : end_in (rest_in (directory_in l.t) l.log (moved_to l.r l.at)) ≡ end_in (rest_in (directory_in l.t) l.log l.r);
+  same : end_in (rest_in l.directory l.log (moved_to l.r l.at)) ≡ end_in (rest_in l.directory l.log l.r);
 }
 
 abbrev pub decreases-loop-item : goal.decreases-loop-item

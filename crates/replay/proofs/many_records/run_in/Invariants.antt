@@ -2,7 +2,6 @@
 -- run from where it began.
 use mathlib.Core.Path.{◌≡◌}
 use Prim.Native.Nat.{suc, ◌-◌, ◌≤◌}
-use Rattle.directory.specs.Inner.{directory_in}
 use lib.ListN.{length}
 use Rattle.answer.specs.Answer.{last_record_id}
 use Rattle.replay.specs.Run.{run_from}
@@ -13,8 +12,8 @@ invariant-loop-refusal l = record {
   long : length l.image ≡ length l.initial.image;
   counted : l.count ≤ l.position;
   fits : l.id ≤ last_record_id;
-  same : run_from (suc (length l.log)) (directory_in l.t) l.log l.position l.id l.count l.image
-      ≡ run_from (suc (length l.log)) (directory_in l.t) l.log l.initial.position l.initial.id l.initial.count l.initial.image;
+  same : run_from (suc (length l.log)) l.layout.directory l.log l.position l.id l.count l.image
+      ≡ run_from (suc (length l.log)) l.layout.directory l.log l.initial.position l.initial.id l.initial.count l.initial.image;
 }
 
 abbrev pub decreases-loop-refusal : goal.decreases-loop-refusal

@@ -1,9 +1,8 @@
--- `run_kept` meets its contract: the directory is written out as numbers first. Assumes nothing.
-use Rattle.replay.proofs.Checked.{kept-directory, flat_for}
+-- `run_kept` meets its contract. Assumes nothing.
+use mathlib.Core.Path.{sym, ap, ◌∙◌}
+use Rattle.directory.specs.Directory.{image_length}
+use Rattle.replay.proofs.Checked.{kept-length}
 use Rattle.replay.proofs.many_records.run_kept.Goals as goal
 
-pub flat-t-requires : goal.flat-t-requires
-flat-t-requires c = kept-directory _ _ c.requires
-
 pub run_in-requires : goal.run_in-requires
-run_in-requires c = flat_for _ _ _ c.flat-t.ensures.0 c.flat-t.ensures.1 c.requires
+run_in-requires c = kept-length _ _ c.requires ∙ ap image_length (sym c.of.ensures)

@@ -1,9 +1,8 @@
--- `replay_kept` meets its contract: the directory is written out as numbers first. Assumes nothing.
-use Rattle.replay.proofs.Checked.{kept-directory, flat_for}
+-- `replay_kept` meets its contract. Assumes nothing.
+use mathlib.Core.Path.{sym, ap, ◌∙◌}
+use Rattle.directory.specs.Directory.{image_length}
+use Rattle.replay.proofs.Checked.{kept-length}
 use Rattle.replay.proofs.one_record.replay_kept.Goals as goal
 
-pub flat-t-requires : goal.flat-t-requires
-flat-t-requires c = kept-directory _ _ c.requires
-
 pub replay_in-requires : goal.replay_in-requires
-replay_in-requires c = flat_for _ _ _ c.flat-t.ensures.0 c.flat-t.ensures.1 c.requires
+replay_in-requires c = kept-length _ _ c.requires ∙ ap image_length (sym c.of.ensures)

@@ -8,11 +8,11 @@ use Rattle.record.proofs.Mapped.{mapped_ok}
 use Rattle.record.proofs.reader.LogReader.step_inside.Goals as goal
 
 pub overflow_add-item : goal.overflow_add-item
-overflow_add-item g c =
-    let w = within (inside _ _ _) _ _ _ _ c.requires.in_bounds (sym c.item_at-read.ensures ∙ ap got_item (mapped_ok _ _ _ _ c.map_err.ensures.cases c.in_ok-item.was)) in
+overflow_add-item c =
+    let w = within (inside _ _ _) _ _ _ _ c.requires (sym c.item_at-read.ensures ∙ ap got_item (mapped_ok _ _ _ _ c.map_err.ensures.cases c.in_ok-item.was)) in
     omega (arith, w.inside)
 
 pub after-requires : goal.after-requires
-after-requires g c =
-    let w = within (inside _ _ _) _ _ _ _ c.requires.in_bounds (sym c.item_at-read.ensures ∙ ap got_item (mapped_ok _ _ _ _ c.map_err.ensures.cases c.in_ok-item.was)) in
+after-requires c =
+    let w = within (inside _ _ _) _ _ _ _ c.requires (sym c.item_at-read.ensures ∙ ap got_item (mapped_ok _ _ _ _ c.map_err.ensures.cases c.in_ok-item.was)) in
     (w.behind, w.inside)
