@@ -22,7 +22,7 @@ fn lent<'a>(list: &'a List, overlays: &'a Overlays, kind: TableKind) -> Listed<'
     }
 }
 
-fn look<L: Lookup>(within: &L, kind: TableKind, table: u16, index: u64) -> Result<&[u8], Answer> {
+fn look<L: Lookup>(within: &L, kind: TableKind, table: u16, index: u64) -> Result<L::Part, Answer> {
     match kind {
         TableKind::Index => within.with_index(IndexTableId::from_u16(table), index),
         TableKind::Value => within.value_ref(ValueTableId::from_u16(table), index),
