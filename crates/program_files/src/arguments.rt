@@ -2,7 +2,7 @@
 ghost use Rattle.std.specs.Prelude.{◌≤◌, length, IfSome};
 
 use super::message::{Teller, Told};
-use directory_text::{Number, number_of};
+use directory_text::{NotNumber, number_of};
 use std::env::FillError;
 use std::rt::Env;
 
@@ -38,8 +38,8 @@ pub fn first_id<P: Print>(env: &impl Env, teller: &Teller<P>, i: usize) -> Resul
     let mut buffer = [0; PATH_ROOM];
     let word = argument(env, i, &mut buffer).unwrap_or(b"");
     match number_of(word) {
-        Number::Is(first) => Ok(first),
-        Number::NotDecimal => Err(teller.quote("FIRST-ID is no decimal number: ", word)),
-        Number::TooLarge => Err(teller.quote("FIRST-ID isn't below 2^64: ", word)),
+        Ok(first) => Ok(first),
+        Err(NotNumber::NotDecimal) => Err(teller.quote("FIRST-ID is no decimal number: ", word)),
+        Err(NotNumber::TooLarge) => Err(teller.quote("FIRST-ID isn't below 2^64: ", word)),
     }
 }

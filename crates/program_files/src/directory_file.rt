@@ -16,12 +16,7 @@ pub const TEXT_ROOM: usize = 65537;
 fn read_text<P: Print>(teller: &Teller<P>, path: &[u8], text: &[u8]) -> Result<Directory, Told>
     ensures { IfOk result (λ directory. directory_kept directory ≡ true) }
 {
-    let parsed = directory_of(text);
-    let fault = parsed.fault;
-    if fault.is_any() {
-        return Err(tell_fault(teller, path, parsed.line, fault));
-    }
-    let directory = parsed.directory;
+    let directory = directory_of(text).map_err(|at| tell_fault(teller, path, at))?;
     if !directory.kept() {
         return Err(teller.tell(path, ": the directory breaks a rule"));
     }

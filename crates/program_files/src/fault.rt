@@ -1,6 +1,6 @@
 // How standard error is told what is wrong in a line of the directory's text.
 use super::message::{Teller, Told};
-use directory_text::Fault;
+use directory_text::{Fault, LineFault};
 use std::fmt;
 
 // A number by its place in the line.
@@ -25,7 +25,6 @@ struct Words(Fault);
 impl fmt::Display for Words {
     fn fmt<W: fmt::Write>(&self, f: &mut fmt::Formatter<W>) -> fmt::Result {
         match self.0 {
-            Fault::None => Ok(()),
             Fault::UnknownKind => f.write_str("the first word isn't index, value or refcount"),
             Fault::Missing(which) => write!(f, "{} is missing", Numbered(which)),
             Fault::NotDecimal(which) => write!(f, "{} is no decimal number", Numbered(which)),
@@ -41,7 +40,8 @@ impl fmt::Display for Words {
     }
 }
 
-pub fn tell_fault<P: Print>(teller: &Teller<P>, path: &[u8], line: u64, fault: Fault) -> Told {
-    let words = Words(fault);
+pub fn tell_fault<P: Print>(teller: &Teller<P>, path: &[u8], at: LineFault) -> Told {
+    let line = at.line;
+    let words = Words(at.fault);
     teller.tell(path, format_args!(": line {line}: {words}"))
 }

@@ -11,6 +11,7 @@ use Rattle.words.proofs.Runs.{set-half, set-odd}
 use Rattle.directory.specs.declared.table.TableKind.{TableKind}
 use Rattle.change.specs.Change.{Change}
 use Rattle.output.specs.Put.{put, Wrote}
+use Rattle.words.specs.Words.{Passes}
 use Rattle.output.proofs.Laws.{rest, room, none_left, length-le}
 use Rattle.writer.specs.Bytes.{set_slots, masked_bytes, payload_of, entry_bytes, body, record_of}
 use Rattle.writer.specs.Inner.{changes_of}
@@ -44,24 +45,26 @@ slots-none (suc n) w chunk = slots-none n w (drop w chunk)
 abbrev pub run : ℕ → List ℕ → ℕ → ℕ → List ℕ
 run w chunk a e = take (e * w - a * w) (drop (a * w) chunk)
 
--- a turn of the walk: from a slot on to behind the next run
-module _ (w : ℕ) (chunk : List ℕ) (slot m z o x : ℕ) (whole : m ≡ (x * 2 ^ o + (2 ^ o - 1)) * 2 ^ z) (fits : slot + z + o ≤ 64) where
-  slots-run : set_slots (64 - slot) w m (drop (slot * w) chunk) ≡ run w chunk (slot + z) (slot + z + o) ++ set_slots (64 - (slot + z + o)) w x (drop ((slot + z + o) * w) chunk)
+-- a turn of the walk: a run is passed
+module _ (w : ℕ) (chunk : List ℕ) {from bits a n after left : ℕ} (p : Passes from bits a n after left) (fits : after ≤ 64) where
+  slots-run : set_slots (64 - from) w bits (drop (from * w) chunk) ≡ run w chunk a (a + n) ++ set_slots (64 - after) w left (drop (after * w) chunk)
   slots-run =
-      let a : 64 - (slot + z + o) ≡ 64 - slot - z - o = omega arith in
-      let b : (slot + z + o) * w - (slot + z) * w ≡ o * w = omega arith in
-      let c : (slot + z + o) * w ≡ (slot + z) * w + o * w = omega arith in
-      let d : (slot + z) * w ≡ slot * w + z * w = omega arith in
-      let t = slots-clear z (64 - slot) w (x * 2 ^ o + (2 ^ o - 1)) (drop (slot * w) chunk) (omega arith) in
-      let s = slots_set o (64 - slot - z) w x (drop (z * w) (drop (slot * w) chunk)) (omega arith) in
-      rw (a, b, c, d, whole, ← drop-drop (o * w) (slot * w + z * w) chunk, ← drop-drop (z * w) (slot * w) chunk, t) s
+      let z : ℕ = p.clear in
+      let e : 64 - after ≡ 64 - from - z - n = omega (arith, p.begins, p.ends) in
+      let k : z + n ≤ 64 - from = omega (arith, p.begins, p.ends) in
+      let b : (a + n) * w - a * w ≡ n * w = omega arith in
+      let c : after * w ≡ a * w + n * w = omega (arith, ap (λ (i : ℕ). i * w) p.ends) in
+      let d : a * w ≡ from * w + z * w = omega (arith, ap (λ (i : ℕ). i * w) p.begins) in
+      let t = slots-clear z (64 - from) w (left * 2 ^ n + (2 ^ n - 1)) (drop (from * w) chunk) (omega arith) in
+      let s = slots_set n (64 - from - z) w left (drop (z * w) (drop (from * w) chunk)) (omega arith) in
+      rw (e, b, c, d, p.bits, ← drop-drop (n * w) (from * w + z * w) chunk, ← drop-drop (z * w) (from * w) chunk, t) s
 
-  module _ {out : List ℕ} {at : ℕ} {f : List ℕ} {e : ℕ} (left : Wrote out at (set_slots (64 - slot) w m (drop (slot * w) chunk)) f e) where
-    pub slots-room : at + length (run w chunk (slot + z) (slot + z + o)) ≤ e
-    slots-room = room (run w chunk (slot + z) (slot + z + o)) (set_slots (64 - (slot + z + o)) w x (drop ((slot + z + o) * w) chunk)) (rw slots-run at left)
+  module _ {out : List ℕ} {at : ℕ} {f : List ℕ} {e : ℕ} (still : Wrote out at (set_slots (64 - from) w bits (drop (from * w) chunk)) f e) where
+    pub slots-room : at + length (run w chunk a (a + n)) ≤ e
+    slots-room = room (run w chunk a (a + n)) (set_slots (64 - after) w left (drop (after * w) chunk)) (rw slots-run at still)
 
-    pub slots-rest : {n : List ℕ} {r : ℕ} → Wrote out at (run w chunk (slot + z) (slot + z + o)) n r → Wrote n r (set_slots (64 - (slot + z + o)) w x (drop ((slot + z + o) * w) chunk)) f e
-    slots-rest x = rest (rw slots-run at left) x
+    pub slots-rest : {m : List ℕ} {r : ℕ} → Wrote out at (run w chunk a (a + n)) m r → Wrote m r (set_slots (64 - after) w left (drop (after * w) chunk)) f e
+    slots-rest x = rest (rw slots-run at still) x
 
 pub slots-done : (k w m : ℕ) (chunk : List ℕ) {l : List ℕ} {at : ℕ} {bs n : List ℕ} {r : ℕ} → m ≤ 0 → Wrote n r (set_slots k w m chunk) (put l at bs) (at + length bs) → Wrote l at bs n r
 slots-done k w m chunk h left =

@@ -3,22 +3,18 @@ ghost use Rattle.std.specs.Prelude.{◌+◌, ◌*◌, ◌≤◌, length};
 ghost use Rattle.output.specs.Put.{Wrote};
 ghost use Rattle.writer.specs.Bytes.{set_slots, masked_bytes};
 
+use words::BitRuns;
+
 // A run of set bits is one copy.
 fn put_slots(out: &mut [u8], at: usize, width: usize, mask: u64, chunk: &[u8]) -> usize
     requires { (64 * width ≤ length chunk.now) × (at + length (set_slots 64 width mask chunk.now) ≤ length out.old) }
     ensures { Wrote out.old at (set_slots 64 width mask chunk.now) out.new result }
 {
     let mut o = at;
-    let mut m = mask;
-    let mut slot: usize = 0;
-    while 0 < m {
-        let r = words::next_run(m);
-        slot += r.clear;
-        let a = slot * width;
-        slot += r.set;
-        let e = slot * width;
+    for r in BitRuns::of(mask) {
+        let a = r.from * width;
+        let e = (r.from + r.count) * width;
         o = output::copy_into(out, o, &chunk[a..e]);
-        m = r.rest;
     }
     o
 }
