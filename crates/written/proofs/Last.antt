@@ -36,6 +36,7 @@ use Rattle.written.proofs.Accepted.{in_order, good, places-good, place-fits, pla
 use Rattle.written.proofs.Entries.{Fitting}
 use Rattle.written.proofs.Lists.{every-has, each_append, each_left, each_right, each_map, each_at, once, last-append, silent, Only, agreed, none_of, not_none}
 use Rattle.written.proofs.Said.{in_within, exactly, insert-sized, insert-under}
+use Rattle.written.proofs.Placed.{placed-found, placed-none}
 
 -- ---- each action of a list
 
@@ -99,7 +100,7 @@ module _ (d : Directory) (p : ℕ) where
   table_in_lem kind t h k = by (find_table d kind t) refl
     where
       by : (f : Option (ℕ × TableDescription)) → find_table d kind t ≡ f → In d kind t p
-      by (Some (row, T)) q = record { place = _; is = place_at d kind t row T q; from = rw q at h; to = rw q at k }
+      by (Some (row, T)) q = record { place = _; is = place_at d kind t (start_of d row) T (placed-found d kind t row T q); from = rw q at h; to = rw q at k }
       by None q = let k' = rw q at k in absurd (omega arith)
 
   pub in_table : (kind : TableKind) (t : ℕ) → In d kind t p → (table_start d kind t ≤ p) × (p < table_start d kind t + table_size d kind t)
@@ -107,11 +108,11 @@ module _ (d : Directory) (p : ℕ) where
     where
       by : (f : Option (ℕ × TableDescription)) → find_table d kind t ≡ f → (table_start d kind t ≤ p) × (p < table_start d kind t + table_size d kind t)
       by (Some (row, T)) q =
-          let e : x.place ≡ record { at = start_of d row; table = T } = cc (x.is, place_at d kind t row T q) in
+          let e : x.place ≡ record { at = start_of d row; table = T } = cc (x.is, place_at d kind t (start_of d row) T (placed-found d kind t row T q)) in
           let a = ap (λ (P : Place). P.at) e in
           let b = ap (λ (P : Place). size_of P.table) e in
           rw q (omega (arith, x.from), omega (arith, x.to))
-      by None q = absurd (not_none x.is (place_none d kind t q))
+      by None q = absurd (not_none x.is (place_none d kind t (placed-none d kind t q)))
 
   drop_says : (kind : TableKind) (t : ℕ) → In d kind t p → of_drop (place_of d kind t) p ≡ some 0
   unfolding of_drop

@@ -7,6 +7,7 @@ pub mod Last
 pub mod Lists
 pub mod Order
 pub mod Parts
+pub mod Placed
 pub mod Replayed
 pub mod Said
 pub mod Walk

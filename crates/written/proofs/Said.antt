@@ -35,6 +35,7 @@ use Rattle.writer.specs.Bytes.{set_slots, masked_bytes, payload_of}
 use Rattle.writer.proofs.Sizes.{ones_in_lem, length-slots}
 use Rattle.written.specs.Tables.{slot_in, table_start, Width, eight, sixteen}
 use Rattle.written.proofs.Entries.{Fitting, unit_kept}
+use Rattle.written.proofs.Placed.{placed-found}
 
 -- ---- a chunk's slots, and a value
 
@@ -147,7 +148,7 @@ module _ (d : Directory) (kind : TableKind) (t i m : ℕ) (f : Fitting d kind t 
   place = record { at = start_of d f.row; table = f.table }
 
   pub place_is : place_of d kind t ≡ some place
-  place_is = place_at d kind t f.row f.table f.found
+  place_is = place_at d kind t (start_of d f.row) f.table (placed-found d kind t f.row f.table f.found)
 
   unit-is : slot_length f.table ≡ unit_of kind m
   unit-is = ap (λ (k : TableKind). unit_of k f.table.length) (stands d kind t place place_is).of ∙ unit_kept kind f.table m f.mark
