@@ -136,16 +136,14 @@ unfolding listed_look
 value-listed-refused l o key =
     by-rules (change_ruled l && overlay_kept Value 256 o) (or_else (find_entry key (entries_of Value (of_kind Value l.parts))) (find_entry key (entries_of Value o)))
 
--- ---- `begin_record`: the next id
-by-id : (next : ℕ) (b c : Bool) → (let x : Result Begun Answer = if b then Err BadState else if c then Err UsedUp else Ok (record { next_record_id = next + 1; list = new_list next }) in
-    0 < number_of (answer_in x) → IfOk x (λ (r : Begun). r.next_record_id ≡ next))
-by-id next true c h = tt
-by-id next false true h = tt
-by-id next false false h = never h
+-- A refused call that answers a `Result` hands nothing on: what it was handed by value is the caller's, as it was.
+refused-is : {A : Type 0} (r : Result A Answer) → 0 < number_of (answer_in r) → (a : Answer) × (r ≡ Err a)
+refused-is (Ok x) h = never h
+refused-is (Err a) h = (a, refl)
 
-pub begin-refused : (next : ℕ) → 0 < number_of (answer_in (begin_record next)) → IfOk (begin_record next) (λ (r : Begun). r.next_record_id ≡ next)
-unfolding begin_record
-begin-refused next = by-id next (eqb next 0) (eqb next last_record_id)
+-- ---- `begin_record`: the next id
+pub begin-refused : (next : ℕ) → 0 < number_of (answer_in (begin_record next)) → (a : Answer) × (begin_record next ≡ Err a)
+begin-refused next = refused-is (begin_record next)
 
 -- ---- `end_record`: overlays, queues, output
 module _ (d : Directory) (h : Handed) where
@@ -170,11 +168,8 @@ module _ (d : Directory) (log : List ℕ) (at : ℕ) (s : Overlays) (next : ℕ)
 
 -- ---- `clear_replay_logs`: overlays and queues
 pub clear-replay-refused : (o : LogOverlays) (words bytes : List ℕ) (q : Queues) → 0 < number_of (answer_in (logs_cleared o words bytes q))
-    → IfOk (logs_cleared o words bytes q) (λ (x : LogsCleared). (x.overlays ≡ o) × (x.queues ≡ q))
-unfolding logs_cleared
-clear-replay-refused o words bytes q =
-    behind-13 answer_in (λ (r : Result LogsCleared Answer). IfOk r (λ (x : LogsCleared). (x.overlays ≡ o) × (x.queues ≡ q)))
-    (parts_kept holder.Shared (overlays_of o words bytes).parts && queues_kept q) (Ok (logs_cleared_kept q)) (Err BadState) tt never
+    → (a : Answer) × (logs_cleared o words bytes q ≡ Err a)
+clear-replay-refused o words bytes q = refused-is (logs_cleared o words bytes q)
 
 -- ---- `open`: the list for the removals, of which a refusal writes none
 module _ (names nameLengths lengths heads remove : List ℕ) where
@@ -247,17 +242,8 @@ module _ (q : Queues) where
       behind-13 (λ (x : Killed). x.answer) (λ (x : Killed). x.queues ≡ q) (queues_kept q) (kill_logs_kept q) bad refl never
 
   -- ---- `take_file`
-  by-set : (b c : Bool) (t : Taken) → (let all : Result Taken Answer = if b then Err NoRoom else if c then Err UsedUp else Ok t in
-      0 < number_of (answer_in all) → IfOk all (λ (x : Taken). x.queues ≡ q))
-  by-set true c t h = tt
-  by-set false true t h = tt
-  by-set false false t h = never h
-
-  pub take_refused : (more : ℕ) → 0 < number_of (answer_in (take_file q more)) → IfOk (take_file q more) (λ (x : Taken). x.queues ≡ q)
-  unfolding take_file take_file_kept
-  take_refused more =
-      behind-13 answer_in (λ (r : Result Taken Answer). IfOk r (λ (x : Taken). x.queues ≡ q)) (queues_kept q) (take_file_kept q more) (Err BadState) tt
-      (by-set (file_set_full q) (files_used_up q more) (taken_by q (appending_size q + more)))
+  pub take_refused : (more : ℕ) → 0 < number_of (answer_in (take_file q more)) → (a : Answer) × (take_file q more ≡ Err a)
+  take_refused more = refused-is (take_file q more)
 
   -- ---- `read_next`: "1 sends the file to cleanup, other answers move nothing"
   by_number : (n : ℕ) (x : Queues) → (n ≡ 1 → ⊥) → (if eqb n 1 then x else q) ≡ q
