@@ -12,6 +12,7 @@ pub const NAME_ROOM: usize = 4100;
 // The path and ".new", put into a name.
 pub fn new_name<'a>(path: &[u8], name: &'a mut [u8; NAME_ROOM]) -> &'a [u8]
     requires { length path.now ≤ 4096 }
+    ensures { length result.now ≤ 4100 }
 {
     let end = path.len() + 4;
     name[..path.len()].copy_from_slice(path);
