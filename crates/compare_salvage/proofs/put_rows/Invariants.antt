@@ -1,3 +1,4 @@
+-- The loop's invariant: how much of the line the rows put so far take at most.
 use Rattle.std.proofs.Common.{◌≤◌, ◌+◌, ◌*◌}
 use Rattle.compare_salvage.proofs.put_rows.Given as goal
 

@@ -1,3 +1,4 @@
+-- The loop's invariant: how much of the line the keys put so far take at most.
 use Rattle.std.proofs.Common.{◌≤◌, ◌+◌, ◌*◌}
 use Rattle.compare_keys.proofs.telling.put_part.Given as goal
 

@@ -1,3 +1,4 @@
+-- The loop's invariant: how much of the line the drops put so far take at most.
 use Rattle.std.proofs.Common.{◌≤◌, ◌+◌, ◌*◌}
 use Rattle.compare_lists.proofs.telling.put_drops.Given as goal
 

@@ -1,3 +1,4 @@
+-- The loop's invariant: how much of the line what stands before and the ids put so far take at most.
 use Rattle.std.proofs.Common.{◌≤◌, ◌+◌, ◌*◌}
 use Rattle.compare_log.proofs.state.state.Given as goal
 

@@ -1,3 +1,4 @@
+-- The loop's invariant: as many files are held as were taken.
 use Rattle.std.proofs.Common.{◌≡◌}
 use Rattle.compare_queues.proofs.opening.take_files.Given as goal
 

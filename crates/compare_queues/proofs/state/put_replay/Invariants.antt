@@ -1,3 +1,4 @@
+-- The loop's invariant: how much of the line the pairs put so far take at most.
 use Rattle.std.proofs.Common.{◌≤◌, ◌+◌, ◌*◌}
 use Rattle.compare_queues.proofs.state.put_replay.Given as goal
 

@@ -1,3 +1,4 @@
+-- The loop's invariant: how much of the line the numbers put so far take at most.
 use Rattle.std.proofs.Common.{◌≤◌, ◌+◌, ◌*◌}
 use Rattle.compare_lines.proofs.line.Line.put_nums.Given as goal
 
