@@ -38,7 +38,7 @@ fn insert_value(tables: &Layout, number: u16, index: u64, payload: &[u8], image:
     ensures { image.new ≡ puts (under_index (place_of tables.now.directory Value number) index (λ at u. stroke at (take u payload.now) ∷ [])) image.old }
 {
     if let Some((at, unit)) = locate(tables, TableKind::Value, number, index) {
-        image[at..at + unit].copy_from_slice(&payload[..unit]);
+        words::copy_from_slice(&mut image[at..at + unit], &payload[..unit]);
     }
 }
 

@@ -14,7 +14,7 @@ pub fn put_slots(image: &mut [u8], at: usize, width: usize, mask: u64, entries: 
     for r in BitRuns::of(mask) {
         let p = at + r.from * width;
         let n = r.count * width;
-        image[p..p + n].copy_from_slice(&entries[f..f + n]);
+        words::copy_from_slice(&mut image[p..p + n], &entries[f..f + n]);
         f += n;
     }
 }

@@ -4,6 +4,7 @@ ghost use Rattle.answer.specs.Answer.{number_of};
 ghost use Rattle.host_words.specs.Head.{head_room, head_after, HeadLeft};
 
 use answer::Answer;
+use words::copy_from_slice;
 
 // What a call answered, as a number; the words are then the state that it left, where it answered 0 or 1.
 #[tactic(auto, unfolding(crate::specs::Head::head_stored))]
@@ -12,7 +13,7 @@ pub fn keep<const N: usize>(words: &mut [u64], answer: Answer, state: &[u64; N])
 {
     let number = u64::from(answer.number());
     if words.len() == N && number < 2 {
-        words.copy_from_slice(state);
+        copy_from_slice(words, state);
     }
     number
 }

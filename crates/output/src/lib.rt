@@ -23,7 +23,7 @@ pub fn copy_into(out: &mut [u8], at: usize, src: &[u8]) -> usize
     ensures { Wrote out.old at src.now out.new result }
 {
     let end = at + src.len();
-    out[at..end].copy_from_slice(src);
+    words::copy_from_slice(&mut out[at..end], src);
     end
 }
 

@@ -6,5 +6,5 @@ pub(crate) fn copy_over(dest: &mut [u8], bytes: &[u8])
     ensures { dest.new ≡ copied_over bytes.now dest.old }
 {
     let n = dest.len().min(bytes.len());
-    dest[..n].copy_from_slice(&bytes[..n]);
+    words::copy_from_slice(&mut dest[..n], &bytes[..n]);
 }

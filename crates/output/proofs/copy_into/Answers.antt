@@ -6,4 +6,4 @@ use Rattle.output.proofs.copy_into.Goals as goal
 pub returns : goal.returns
 returns c =
     let a = c.args in
-    record { next = refl; bytes = copied a.out.now a.at a.src.now c.copy_from_slice.new.self c.copy_from_slice.ensures.after }
+    record { next = refl; bytes = copied a.out.now a.at a.src.now c.copy_from_slice.new.to c.copy_from_slice.ensures.after }

@@ -40,7 +40,7 @@ loop-r-preserved c =
     let held : l.f + n + ones c.next.new.self.rest * a.width ≤ length a.entries.now = omega (arith, passed-ones passes a.width, l.invariant.held) in
     let long : length (take n (drop l.f a.entries.now)) ≡ n = simp (length-take, length-drop) (omega (arith, held)) in
     let cut : l.f + n - l.f ≡ n = omega arith in
-    let e : c.copy_from_slice.new.self ≡ take n (drop l.f a.entries.now) = c.copy_from_slice.ensures.after ∙ ap (λ (k : ℕ). take k (drop l.f a.entries.now)) cut in
+    let e : c.copy_from_slice.new.to ≡ take n (drop l.f a.entries.now) = c.copy_from_slice.ensures.after ∙ ap (λ (k : ℕ). take k (drop l.f a.entries.now)) cut in
     let s = stored l.image (take n (drop l.f a.entries.now)) p n (omega (arith, passed-wide passes c.next.new.self.within a.width, l.invariant.long)) long in
     record {
       can_next = tt;
