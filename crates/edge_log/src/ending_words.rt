@@ -20,7 +20,7 @@ use answer::{Answer, Refusal};
 use clearing::EndRead;
 use ending::Ended;
 use files::{FileSource, Queues};
-use host_queues::{queues_of, queues_words};
+use host_queues::{keep_queues, queues_of};
 use host_words::{directory_of, keep, list_of, list_words, make, overlays_of, overlays_words};
 use log_calls::{Begun, LogsCleared};
 use memory::LogOverlays;
@@ -80,14 +80,14 @@ fn keep_ended(
             *source = source_number(ended.source);
             *file = ended.number;
             keep(overlays, Answer::Done, &overlays_words(ended.overlays));
-            keep(queues, Answer::Done, &queues_words(ended.queues))
+            keep_queues(queues, Answer::Done, &ended.queues)
         }
         Err(answer) => {
             *size = 0;
             *source = 0;
             *file = 0;
             keep(overlays, answer, &overlays_words(o));
-            keep(queues, answer, &queues_words(q))
+            keep_queues(queues, answer, &q)
         }
     }
 }
@@ -129,7 +129,7 @@ fn keep_cleared(overlays: &mut [u64], queues: &mut [u64], done: Result<LogsClear
     match done {
         Ok(cleared) => {
             keep(overlays, Answer::Done, &overlays_words(cleared.overlays));
-            keep(queues, Answer::Done, &queues_words(cleared.queues))
+            keep_queues(queues, Answer::Done, &cleared.queues)
         }
         Err(answer) => u64::from(answer.number()),
     }

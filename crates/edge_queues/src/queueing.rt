@@ -15,7 +15,7 @@ ghost use Rattle.edge_queues.specs.Queueing.{open_in, opened_words, no_reader, r
 
 use answer::Answer;
 use files::{Cleaned, Flushed, Killed, Opened, Queues, ReadNext, ReplayNext};
-use host_queues::{queues_of, queues_words};
+use host_queues::{keep_queues, queues_of, queues_words};
 use host_words::{keep, make, reader_words};
 use record::LogReader;
 
@@ -63,7 +63,7 @@ pub extern "C" fn hongsathep_open<'a>(
     match opened(names, name_lengths, lengths, heads, remove, queues.len()) {
         Ok(o) => {
             *removed = o.remove_count as u64;
-            keep(queues, Answer::Done, &queues_words(o.queues))
+            keep_queues(queues, Answer::Done, &o.queues)
         }
         Err(answer) => {
             *removed = 0;
@@ -78,7 +78,7 @@ fn keep_flush(queues: &mut [u64], done: Flushed, moved: &mut u64, number: &mut u
 {
     *moved = u64::from(done.moved.is_some());
     *number = done.moved.unwrap_or(0);
-    keep(queues, done.answer, &queues_words(done.queues))
+    keep_queues(queues, done.answer, &done.queues)
 }
 
 fn keep_replay(queues: &mut [u64], done: ReplayNext, found: &mut u64, number: &mut u64) -> u64
@@ -86,7 +86,7 @@ fn keep_replay(queues: &mut [u64], done: ReplayNext, found: &mut u64, number: &m
 {
     *found = u64::from(done.number.is_some());
     *number = done.number.unwrap_or(0);
-    keep(queues, done.answer, &queues_words(done.queues))
+    keep_queues(queues, done.answer, &done.queues)
 }
 
 fn keep_killed(queues: &mut [u64], done: Killed, remove: &mut [u64; 64], removed: &mut u64) -> u64
@@ -94,7 +94,7 @@ fn keep_killed(queues: &mut [u64], done: Killed, remove: &mut [u64; 64], removed
 {
     remove.copy_from_slice(&done.remove.numbers);
     *removed = done.remove.count as u64;
-    keep(queues, done.answer, &queues_words(done.queues))
+    keep_queues(queues, done.answer, &done.queues)
 }
 
 fn keep_cleaned(
@@ -113,7 +113,7 @@ fn keep_cleaned(
     *emptied = done.empty.count as u64;
     remove.copy_from_slice(&done.remove.numbers);
     *removed = done.remove.count as u64;
-    keep(queues, done.answer, &queues_words(done.queues))
+    keep_queues(queues, done.answer, &done.queues)
 }
 
 // A refusal for the words lent for the reader, too many or too few.
@@ -162,7 +162,7 @@ fn keep_read(queues: &mut [u64], done: ReadNext, number: &mut u64, reader: &mut 
 {
     *number = done.number;
     keep(reader, done.answer, &reader_words(done.reader));
-    keep(queues, done.answer, &queues_words(done.queues))
+    keep_queues(queues, done.answer, &done.queues)
 }
 
 #[unsafe(no_mangle)]

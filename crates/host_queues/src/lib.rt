@@ -1,10 +1,12 @@
 // The file queues from words and back: any words load, those that are no queues as queues that break a rule.
 #![tactic(auto)]
 
-ghost use Rattle.std.specs.Prelude.{◌≡◌, length};
-ghost use Rattle.host_queues.specs.Queues.{queue_from, broken_queues, queues_from, queue_words, front_words, behind_words, queues_words};
-ghost use Rattle.host_queues.specs.Inner.{queues_read};
+ghost use Rattle.std.specs.Prelude.{◌≡◌, true, length, get_or, IfSome};
+ghost use Rattle.host_words.specs.Head.{HeadLeft};
+ghost use Rattle.host_queues.specs.Queues.{queues_size, queues_formed, queue_from, broken_queues, queues_in, queues_from, queue_words, front_words, behind_words, queues_words};
+ghost use Rattle.host_queues.specs.Inner.{next_log_id_read};
 
+use answer::Answer;
 use files::{Appending, NumberQueue, Queues, Reading};
 
 // How many numbers stand in a queue, and 64 numbers.
@@ -20,18 +22,26 @@ fn queue_of(words: &[u64]) -> NumberQueue
     }
 }
 
-// The queues that words are, where there are 331 and each is within its field's range.
+// The next number, where the words are queues: there are 331, and each is within its field's range.
 #[tactic(auto, unfolding(crate::specs::Queues::queues_formed))]
-fn loaded(words: &[u64]) -> Option<Queues>
-    ensures { result ≡ queues_read words.now }
+fn next_log_id_in(words: &[u64]) -> Option<u32>
+    ensures is { result ≡ next_log_id_read words.now }
+    ensures whole { IfSome result (λ next. (queues_formed words.now ≡ true) × (length words.now ≡ 331) × (next ≡ get_or words.now 329 0)) }
 {
     if words.len() != 331 || words[0] > 1 || words[68] > 1 || words[330] > 1 {
         return None;
     }
-    let next_log_id = u32::try_from(words[329]).ok()?;
+    u32::try_from(words[329]).ok()
+}
+
+fn loaded(words: &[u64], next_log_id: u32) -> Queues
+    requires whole { length words.now ≡ 331 }
+    requires next { next_log_id ≡ get_or words.now 329 0 }
+    ensures { result ≡ queues_in words.now }
+{
     let mut replay_ids = [0; 64];
     replay_ids.copy_from_slice(&words[265..329]);
-    Some(Queues {
+    Queues {
         appending: Appending {
             some: words[0] == 1,
             id: words[1],
@@ -48,7 +58,7 @@ fn loaded(words: &[u64]) -> Option<Queues>
         replay_ids,
         next_log_id,
         dirty: words[330] == 1,
-    })
+    }
 }
 
 fn broken() -> Queues
@@ -63,44 +73,50 @@ fn broken() -> Queues
 pub fn queues_of(words: &[u64]) -> Queues
     ensures { result ≡ queues_from words.now }
 {
-    loaded(words).unwrap_or_else(broken)
+    match next_log_id_in(words) {
+        Some(next_log_id) => loaded(words, next_log_id),
+        None => broken(),
+    }
 }
 
-fn put_queue(words: &mut [u64], q: NumberQueue)
+fn put_queue(words: &mut [u64], q: &NumberQueue)
     requires { length words.old ≡ 65 }
-    ensures { words.new ≡ queue_words q }
+    ensures words { words.new ≡ queue_words q.now }
+    ensures whole { length q.now.numbers ≡ 64 }
 {
     words[0] = q.count as u64;
     words[1..].copy_from_slice(&q.numbers);
 }
 
 // The appending file, the read queue and the file being read.
-fn put_front(words: &mut [u64], q: Queues)
+fn put_front(words: &mut [u64], q: &Queues)
     requires { length words.old ≡ 70 }
-    ensures { words.new ≡ front_words q }
+    ensures words { words.new ≡ front_words q.now }
+    ensures whole { length q.now.read_queue.numbers ≡ 64 }
 {
     words[..3].copy_from_slice(&[
         u64::from(q.appending.some),
         q.appending.id,
         q.appending.size,
     ]);
-    put_queue(&mut words[3..68], q.read_queue);
+    put_queue(&mut words[3..68], &q.read_queue);
     words[68..].copy_from_slice(&[u64::from(q.reading.some), q.reading.id]);
 }
 
 // Cleanup, pool and replay queue.
-fn put_behind(words: &mut [u64], q: Queues)
+fn put_behind(words: &mut [u64], q: &Queues)
     requires { length words.old ≡ 195 }
-    ensures { words.new ≡ behind_words q }
+    ensures words { words.new ≡ behind_words q.now }
+    ensures whole { (length q.now.cleanup_queue.numbers ≡ 64) × (length q.now.log_pool.numbers ≡ 64) × (length q.now.replay_queue.numbers ≡ 64) }
 {
-    put_queue(&mut words[..65], q.cleanup_queue);
-    put_queue(&mut words[65..130], q.log_pool);
-    put_queue(&mut words[130..], q.replay_queue);
+    put_queue(&mut words[..65], &q.cleanup_queue);
+    put_queue(&mut words[65..130], &q.log_pool);
+    put_queue(&mut words[130..], &q.replay_queue);
 }
 
-fn put_queues(words: &mut [u64], q: Queues)
+fn put_queues(words: &mut [u64], q: &Queues)
     requires { length words.old ≡ 331 }
-    ensures { words.new ≡ queues_words q }
+    ensures { words.new ≡ queues_words q.now }
 {
     put_front(&mut words[..70], q);
     put_behind(&mut words[70..265], q);
@@ -112,6 +128,19 @@ pub fn queues_words(q: Queues) -> [u64; 331]
     ensures { result ≡ queues_words q }
 {
     let mut words = [0; 331];
-    put_queues(&mut words, q);
+    put_queues(&mut words, &q);
     words
+}
+
+// What a call answered, as a number; the words are then the queues that it left, where it answered 0 or 1. They are written in their place: an
+// array of them would be copied there.
+#[tactic(auto, unfolding(host_words::specs::Head::head_stored))]
+pub fn keep_queues(words: &mut [u64], answer: Answer, q: &Queues) -> u64
+    ensures { HeadLeft queues_size answer (queues_words q.now) words.old result words.new }
+{
+    let number = u64::from(answer.number());
+    if words.len() == 331 && number < 2 {
+        put_queues(words, q);
+    }
+    number
 }

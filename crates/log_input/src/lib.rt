@@ -3,4 +3,4 @@
 
 mod window;
 
-pub use window::{Outcome, ROOM, Stop, fill, move_front, replay_file};
+pub use window::{Outcome, ROOM, Stop, Unfilled, fill, move_front, replay_file};

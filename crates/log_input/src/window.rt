@@ -38,16 +38,24 @@ pub enum Outcome {
     Unreadable(io::Error),
 }
 
+// Why a read failed, and how many bytes of the buffer are held all the same.
+#[derive(Clone, Copy)]
+pub struct Unfilled {
+    pub held: usize,
+    pub why: io::Error,
+}
+
 // Reads behind the bytes held, until the buffer is full or the file ends. Answers how many are held then.
-pub fn fill<R: Read>(file: &mut R, buffer: &mut [u8], from: usize) -> io::Result<usize>
+pub fn fill<R: Read>(file: &mut R, buffer: &mut [u8], from: usize) -> Result<usize, Unfilled>
     requires { from ≤ length buffer.old }
     ensures { FilledWithin result (length buffer.old) }
 {
     let mut held = from;
     while held < buffer.len() {
-        match file.read(&mut buffer[held..])? {
-            0 => break,
-            more => held += more,
+        match file.read(&mut buffer[held..]) {
+            Ok(0) => break,
+            Ok(more) => held += more,
+            Err(why) => return Err(Unfilled { held, why }),
         }
     }
     Ok(held)
@@ -77,7 +85,7 @@ fn full<R: Read>(file: &mut R, stop: Stop) -> Outcome {
     match fill(file, &mut one, 0) {
         Ok(0) => Outcome::At(stop),
         Ok(_) => Outcome::TooLong(stop.position),
-        Err(why) => Outcome::Unreadable(why),
+        Err(unfilled) => Outcome::Unreadable(unfilled.why),
     }
 }
 
@@ -114,7 +122,7 @@ fn one_turn<R: Read>(
 {
     let held = match fill(file, window, left.rest) {
         Ok(held) => held,
-        Err(why) => return ControlFlow::Break(Outcome::Unreadable(why)),
+        Err(unfilled) => return ControlFlow::Break(Outcome::Unreadable(unfilled.why)),
     };
     let bytes: &[u8] = window;
     let ran = replay::run(directory, &bytes[..held], 0, left.stop.expected, image);

@@ -33,7 +33,7 @@ pub fn read_directory<R: Files, P: Print>(
     ensures { IfOk result (λ directory. directory_kept directory ≡ true) }
 {
     let mut file = open_told(files, teller, path)?;
-    let held = fill(&mut file, text, 0).map_err(|why| teller.fail(path, &why))?;
+    let held = fill(&mut file, text, 0).map_err(|unfilled| teller.fail(path, &unfilled.why))?;
     if held == TEXT_ROOM {
         return Err(teller.tell(path, ": more than 65536 bytes"));
     }

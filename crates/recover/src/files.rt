@@ -36,7 +36,7 @@ fn read_opened<F: Read + Seek, P: Print>(
         return Err(teller.tell(path, text));
     }
     let _ = file.seek(SeekFrom::Start(0));
-    let held = fill(file, image, 0).map_err(|why| teller.fail(path, &why))?;
+    let held = fill(file, image, 0).map_err(|unfilled| teller.fail(path, &unfilled.why))?;
     if held < due {
         return Err(teller.tell(path, ": the file became shorter while it was read"));
     }

@@ -100,14 +100,16 @@ pub fn salvage_file<R: Read, W: Write>(
     let mut base = 0;
     let mut rest = 0;
     for _turn in 0..TURNS {
-        let held = fill(file, window, rest).map_err(Stop::Unreadable)?;
+        let held = fill(file, window, rest).map_err(|unfilled| Stop::Unreadable(unfilled.why))?;
         if held < ROOM {
             return last_window(out, directory, &window[..held], base, lines);
         }
         let taken = keep_records(out, directory, window, base, true, lines)?;
         if taken.at == 0 {
             // An open record at the window's front passes it, if the file goes on.
-            return match fill(file, &mut [0u8; 1], 0).map_err(Stop::Unreadable)? {
+            return match fill(file, &mut [0u8; 1], 0).map_err(|unfilled| Stop::Unreadable(
+                unfilled.why,
+            ))? {
                 0 => last_window(out, directory, window, base, lines),
                 _ => Err(Stop::TooLong(base)),
             };

@@ -3,6 +3,7 @@ pub mod Begins
 pub mod Calls
 pub mod Cases
 pub mod Copied
+mod FirstTag
 pub mod Held
 pub mod KeptWhole
 pub mod Listed

@@ -22,16 +22,13 @@ pub enum Search {
     Nothing,
 }
 
-// No other byte opens a record, so that most positions cost no call of the reader; a loop of its own, since it is twice as fast so.
+// No other byte opens a record, so that most positions cost no call of the reader.
 fn next_begin(log: &[u8], from: usize) -> Option<usize>
     ensures { NextBegin log.now from result }
 {
-    for at in from..log.len() {
-        if log[at] == 1 {
-            return Some(at);
-        }
-    }
-    None
+    let rest = log.get(from..)?;
+    let behind = rest.iter().position(|byte| *byte == 1)?;
+    Some(from + behind)
 }
 
 fn is_open(more: bool, x: Refusal) -> bool

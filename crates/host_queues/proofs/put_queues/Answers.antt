@@ -12,11 +12,11 @@ slice_bounds-put_front-end-2 c = sym (length-take-le 70 c.args.words.now (omega 
 
 pub returns : goal.returns
 returns c =
-    let q = c.args.q in
-    let a : length q.read_queue.numbers ≡ 64 = search rules in
-    let b : length q.cleanup_queue.numbers ≡ 64 = search rules in
-    let d : length q.log_pool.numbers ≡ 64 = search rules in
-    let e : length q.replay_queue.numbers ≡ 64 = search rules in
+    let q = c.args.q.now in
+    let a = c.put_front.ensures.whole in
+    let b = c.put_behind.ensures.whole.0 in
+    let d = c.put_behind.ensures.whole.1 in
+    let e = c.put_behind.ensures.whole.2 in
     let f : length q.replay_ids ≡ 64 = search rules in
-    rw (c.put_front.ensures, c.put_behind.ensures, c.copy_from_slice.ensures.after, c.copy_from_slice-2.ensures.after, c.from.ensures, c.from-2.ensures, one-from q.dirty)
+    rw (c.put_front.ensures.words, c.put_behind.ensures.words, c.copy_from_slice.ensures.after, c.copy_from_slice-2.ensures.after, c.from.ensures, c.from-2.ensures, one-from q.dirty)
     (four c.args.words.now (front_words q) (behind_words q) 70 195 (simp length-append (omega arith)) (simp length-append (omega arith)) q.replay_ids (q.next_log_id ∷ one_if q.dirty ∷ []) 64 f)
