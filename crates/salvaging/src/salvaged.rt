@@ -16,6 +16,7 @@ pub struct Salvaged {
 }
 
 // Under a directory that was tested already, and memory for 64 lines.
+#[tactic(auto, using(crate::proofs::Calls::no_room))]
 pub fn salvage_kept(
     d: Directory,
     log: &[u8],

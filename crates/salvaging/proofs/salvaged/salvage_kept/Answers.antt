@@ -1,11 +1,6 @@
 -- `salvage_kept` meets its contract. Assumes nothing.
-use Rattle.salvaging.proofs.Calls.{over-64, short-output, all-within, all-put}
+use Rattle.salvaging.proofs.Calls.{short-output, all-within, all-put}
 use Rattle.salvaging.proofs.salvaged.salvage_kept.Goals as goal
-
-pub returns-in-Err-clause-left : goal.returns-in-Err-clause-left
-returns-in-Err-clause-left c =
-    let a = c.args in
-    over-64 a.d a.log.now a.out.now a.list.now c.in-Err.ensures
 
 pub returns-then-out-written-clause-left : goal.returns-then-out-written-clause-left
 returns-then-out-written-clause-left c =
