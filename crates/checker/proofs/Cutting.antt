@@ -29,7 +29,7 @@ use Rattle.replay.specs.declared.many_records.Ran.{Ran}
 use Rattle.replay.proofs.Records.{run_bad}
 use Rattle.numbers.proofs.Laws.{both}
 use Rattle.checker.specs.Check.{Check, may_change, decides, first_standing, reading_at, report_of, check_on, check_in}
-use Rattle.checker.specs.Checker.{checker_bytes, unread, padded, new_checker, checker_kept, answered, counted, keeping, settled, piece_by, piece_taken, piece_at, piece_kept, piece_of, report_in, unclosed, close_at, close_kept, close_of, after_pieces, all_bytes, open_as0, Told}
+use Rattle.checker.specs.Checker.{checker_bytes, unread, padded, new_checker, checker_kept, answered, counted, keeping, settled, piece_by, piece_taken, piece_at, piece_kept, piece_of, report_in, report_now, unclosed, close_at, close_kept, close_of, after_pieces, all_bytes, open_as0, Told}
 use Rattle.checker.specs.declared.checker.LogChecker.{LogChecker}
 use Rattle.checker.specs.declared.checker.Stage.{Stage}
 use Rattle.checker.specs.declared.checker.Stage.TheVariants as stage
@@ -386,7 +386,7 @@ module _ (c : LogChecker) (bytes : List ℕ) where
       by : checker_kept c ≡ true → (g : Stage) → c.stage ≡ g → Says c (piece_at c bytes g)
       by kept stage.Open q = taken-says (kept_open c kept q)
       by kept (stage.Settled ran) q = decided (kept-settled c kept ran q)
-      by kept stage.Closed q = refuses BadArgument refl refl
+      by kept (stage.Closed ran) q = refuses BadArgument refl refl
 
   -- NO PIECE ANSWERS 1 OR 2
   pub never-1-or-2 : may_change (piece_of c bytes).answer ≡ true → (piece_of c bytes).answer ≡ Done
@@ -408,9 +408,9 @@ module _ (c : LogChecker) (bytes : List ℕ) where
 
 -- ---- the close
 
-close_twice : (c : LogChecker) → checker_kept c ≡ true → c.stage ≡ stage.Closed → close_of c ≡ unclosed BadArgument c
+close_twice : (c : LogChecker) → checker_kept c ≡ true → (ran : Ran) → c.stage ≡ stage.Closed ran → close_of c ≡ unclosed BadArgument c
 unfolding close_of close_kept
-close_twice c k q = if_true (checker_kept c) _ _ k ∙ ap (close_at c) q
+close_twice c k ran q = if_true (checker_kept c) _ _ k ∙ ap (close_at c) q
 
 module _ (c : LogChecker) where
   -- 13 AND 14 CHANGE NOTHING at the close either
@@ -428,17 +428,17 @@ module _ (c : LogChecker) where
       by : checker_kept c ≡ true → (g : Stage) → c.stage ≡ g → Same (close_at c g)
       by kept stage.Open q m = absurd (omega (arith, few c.standing.reader.inside))
       by kept (stage.Settled ran) q m = absurd (omega (arith, most-twelve ran.answer (kept-settled c kept ran q)))
-      by kept stage.Closed q m = refl
+      by kept (stage.Closed ran) q m = refl
 
   module _ (kept : checker_kept c ≡ true) where
-    closed_then : (close_of c).checker.stage ≡ stage.Closed
+    closed_then : (ran : Ran) × ((close_of c).checker.stage ≡ stage.Closed ran)
     unfolding close_of close_kept
-    closed_then = ap (λ (x : Closed). x.checker.stage) (if_true (checker_kept c) _ _ kept) ∙ by c.stage refl
+    closed_then = subst (λ (x : Closed). (ran : Ran) × (x.checker.stage ≡ stage.Closed ran)) (sym (if_true (checker_kept c) _ _ kept)) (by c.stage refl)
       where
-        by : (g : Stage) → c.stage ≡ g → (close_at c g).checker.stage ≡ stage.Closed
-        by stage.Open q = refl
-        by (stage.Settled ran) q = refl
-        by stage.Closed q = q
+        by : (g : Stage) → c.stage ≡ g → (ran : Ran) × ((close_at c g).checker.stage ≡ stage.Closed ran)
+        by stage.Open q = (report_now c, refl)
+        by (stage.Settled ran) q = (ran, refl)
+        by (stage.Closed ran) q = (ran, q)
 
     kept_then : checker_kept (close_of c).checker ≡ true
     unfolding close_of
@@ -450,10 +450,10 @@ module _ (c : LogChecker) where
     piece_after bytes =
         let x : LogChecker = (close_of c).checker in
         if_true (checker_kept x) _ _ kept_then
-        ∙ chosen (λ (y : Checked). y ≡ answered BadArgument x) (leb (9223372036854775808 - x.total) (length bytes)) _ _ (λ e. refl) (λ e. ap (piece_at x bytes) closed_then)
+        ∙ chosen (λ (y : Checked). y ≡ answered BadArgument x) (leb (9223372036854775808 - x.total) (length bytes)) _ _ (λ e. refl) (λ e. ap (piece_at x bytes) closed_then.1)
 
     pub close_after : close_of (close_of c).checker ≡ unclosed BadArgument (close_of c).checker
-    close_after = close_twice (close_of c).checker kept_then closed_then
+    close_after = close_twice (close_of c).checker kept_then closed_then.0 closed_then.1
 
 -- ---- its size
 

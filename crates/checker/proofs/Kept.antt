@@ -150,7 +150,7 @@ module _ (c : LogChecker) (kept : checker_kept c ≡ true) where
       by : c.total + length bytes < 9223372036854775808 → (g : Stage) → c.stage ≡ g → checker_kept (piece_at c bytes g).checker ≡ true
       by few stage.Open q = taken-kept c bytes kept few known q long
       by few (stage.Settled ran) q = settled_checker (settled (counted c (length bytes)) ran).checker (kept-directory c kept) few ran refl (kept-settled c kept ran q)
-      by few stage.Closed q = kept
+      by few (stage.Closed ran) q = kept
 
   -- AND SO DOES THE CLOSE
   pub close_keeps : checker_kept (close_kept c).checker ≡ true
@@ -158,9 +158,9 @@ module _ (c : LogChecker) (kept : checker_kept c ≡ true) where
   close_keeps = by c.stage
     where
       closes : (ran : Ran) → checker_kept (closing c ran).checker ≡ true
-      closes ran = closed_checker (closing c ran).checker (kept-directory c kept) (kept-total c kept) refl
+      closes ran = closed_checker (closing c ran).checker (kept-directory c kept) (kept-total c kept) ran refl
 
       by : (g : Stage) → checker_kept (close_at c g).checker ≡ true
       by stage.Open = closes (report_now c)
       by (stage.Settled ran) = closes ran
-      by stage.Closed = kept
+      by (stage.Closed ran) = kept

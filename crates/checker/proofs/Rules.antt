@@ -121,5 +121,5 @@ module _ (c : LogChecker) where
     pub settled_checker : (ran : Ran) → c.stage ≡ stage.Settled ran → decides ran.answer ≡ true → checker_kept c ≡ true
     settled_checker ran q k = stage_checker (stage.Settled ran) q k
 
-    pub closed_checker : c.stage ≡ stage.Closed → checker_kept c ≡ true
-    closed_checker q = stage_checker stage.Closed q refl
+    pub closed_checker : (ran : Ran) → c.stage ≡ stage.Closed ran → checker_kept c ≡ true
+    closed_checker ran q = stage_checker (stage.Closed ran) q refl

@@ -51,7 +51,7 @@ open_kept_of c =
 abbrev pub stage_kept : LogChecker → Stage → Bool
 stage_kept c stage.Open = open_kept_of c
 stage_kept c (stage.Settled ran) = decides ran.answer
-stage_kept c stage.Closed = true
+stage_kept c (stage.Closed ran) = true
 
 -- the directory's rules; fewer than 2^63 bytes taken; and the stage's
 unfoldable pub checker_kept : LogChecker → Bool
@@ -114,7 +114,7 @@ piece_taken c bytes = piece_by (counted c (length bytes)) (unread c ++ bytes) (c
 abbrev pub piece_at : LogChecker → List ℕ → Stage → Checked
 piece_at c bytes stage.Open = piece_taken c bytes
 piece_at c bytes (stage.Settled ran) = settled (counted c (length bytes)) ran
-piece_at c bytes stage.Closed = answered BadArgument c  -- 14
+piece_at c bytes (stage.Closed ran) = answered BadArgument c  -- 14
 
 -- "a call after the close, or a piece that brings the total to 2^63 bytes, gives 14 and changes nothing"
 unfoldable pub piece_kept : LogChecker → List ℕ → Checked
@@ -146,14 +146,14 @@ unclosed answer c = record { ran = record { answer = answer; position = c.total;
 abbrev pub closing : LogChecker → Ran → Closed
 closing c ran = record {
   ran = ran;
-  checker = record { directory = c.directory; standing = c.standing; held = c.held; part = c.part; total = c.total; stage = stage.Closed };
+  checker = record { directory = c.directory; standing = c.standing; held = c.held; part = c.part; total = c.total; stage = stage.Closed ran };
 }
 
 -- by the stage
 abbrev pub close_at : LogChecker → Stage → Closed
 close_at c stage.Open = closing c (report_now c)
 close_at c (stage.Settled ran) = closing c ran
-close_at c stage.Closed = unclosed BadArgument c
+close_at c (stage.Closed ran) = unclosed BadArgument c
 
 -- "a call after the close .. gives 14"
 unfoldable pub close_kept : LogChecker → Closed

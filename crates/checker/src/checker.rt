@@ -18,12 +18,12 @@ pub const ROOM: usize = 1043;
 
 const LIMIT: usize = 9223372036854775808;
 
-// Pieces are read; or what a run reports is settled, whatever comes; or the log was closed.
+// Pieces are read; or what a run reports is settled, whatever comes; or the log was closed, with that report or the one that the close gave.
 #[derive(Clone, Copy)]
 pub enum Stage {
     Open,
     Settled(Ran),
-    Closed,
+    Closed(Ran),
 }
 
 // `part` holds the bytes of the action that isn't whole yet.
@@ -181,7 +181,7 @@ impl LogChecker {
             && match self.stage {
                 Stage::Open => self.open_kept(),
                 Stage::Settled(ran) => decides(ran.answer),
-                Stage::Closed => true,
+                Stage::Closed(_) => true,
             }
     }
 
@@ -237,7 +237,7 @@ impl LogChecker {
         match self.stage {
             Stage::Open => self.taken(bytes),
             Stage::Settled(ran) => self.counted(bytes.len()).settled(ran),
-            Stage::Closed => self.answered(Answer::BadArgument),
+            Stage::Closed(_) => self.answered(Answer::BadArgument),
         }
     }
 
@@ -272,7 +272,7 @@ impl LogChecker {
         Closed {
             ran,
             checker: LogChecker {
-                stage: Stage::Closed,
+                stage: Stage::Closed(ran),
                 ..self
             },
         }
@@ -300,7 +300,7 @@ impl LogChecker {
         match self.stage {
             Stage::Open => self.closing(self.report()),
             Stage::Settled(ran) => self.closing(ran),
-            Stage::Closed => self.no_run(Answer::BadArgument),
+            Stage::Closed(_) => self.no_run(Answer::BadArgument),
         }
     }
 

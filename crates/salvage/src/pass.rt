@@ -60,9 +60,7 @@ fn keep_records<W: Write>(
                     .map_err(Stop::Unwritable)?;
                 let from = base + found.position as u64;
                 let to = base + at as u64;
-                lines = lines
-                    .with_record(from, to, found.id)
-                    .map_err(Stop::ManyLines)?;
+                lines.keep(from, to, found.id).map_err(Stop::ManyLines)?;
             }
         }
     }
@@ -80,10 +78,11 @@ fn last_window<W: Write>(
     ensures { IfOk result (λ lines. lines.count ≤ 64) }
 {
     let taken = keep_records(out, directory, bytes, base, false, before)?;
-    taken
-        .lines
-        .up_to(base + bytes.len() as u64)
-        .map_err(Stop::ManyLines)
+    let mut lines = taken.lines;
+    lines
+        .leave_out(base + bytes.len() as u64)
+        .map_err(Stop::ManyLines)?;
+    Ok(lines)
 }
 
 // Goes through a log from its front and writes its records to the output. The window stands at a base, and holds the rest of the one before.

@@ -1,6 +1,4 @@
 // The list, a line each.
-ghost use Rattle.std.specs.Prelude.{◌≤◌};
-
 use program_files::{Teller, Told};
 use salvaging::{Line, Lines};
 use std::io;
@@ -20,9 +18,7 @@ pub fn print_lines<P: Print>(
     out: &impl Print,
     teller: &Teller<P>,
     lines: &Lines,
-) -> Result<(), Told>
-    requires { lines.now.count ≤ 64 }
-{
+) -> Result<(), Told> {
     for line in lines.all() {
         print_line(out, *line).map_err(|why| teller.fail(b"standard output", &why))?;
     }

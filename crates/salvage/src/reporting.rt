@@ -1,6 +1,4 @@
 // What becomes of the new file, and what is told.
-ghost use Rattle.std.specs.Prelude.{◌≤◌, IfOk};
-
 use super::pass::Stop;
 use super::printing::print_lines;
 use program_files::{Teller, Told, drop_new, put_in_place};
@@ -32,9 +30,7 @@ pub fn report<R: Files + Print, P: Print>(
     log: &[u8],
     name: &[u8],
     path: &[u8],
-) -> Result<(), Told>
-    requires { IfOk salvaged (λ lines. lines.count ≤ 64) }
-{
+) -> Result<(), Told> {
     match salvaged {
         Ok(lines) => {
             put_in_place(rt, teller, new, name, path)?;

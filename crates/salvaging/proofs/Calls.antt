@@ -33,6 +33,10 @@ module _ (d : Directory) (log out list : List ℕ) where
   unfolding left_of salvage_by
   over-64 m = sym (if_true (ltb 64 (length (lines_of d log))) _ _ (lt-ltb 64 (length (lines_of d log)) m))
 
+-- where `salvage_kept` answers 9
+pub ruleset no_room = (over-64)
+
+module _ (d : Directory) (log out list : List ℕ) where
   module _ (l : Lines) (h : Holds log l (lines_of d log)) where
     not_over : ltb 64 (length (lines_of d log)) ≡ false
     not_over = le-ltb 64 (length (lines_of d log)) (omega (arith, h.room, h.count))

@@ -14,7 +14,7 @@ use Rattle.salvaging.specs.declared.lines.Line.{Line}
 use Rattle.salvaging.specs.declared.lines.Line.TheVariants.{Kept, Lost}
 use Rattle.salvaging.specs.declared.lines.Lines.{Lines}
 use Rattle.salvaging.specs.Salvage.{left_out, kept_bytes}
-use Rattle.salvaging.specs.Inner.{with_line, up_to, if_room, covering, with_record, Holds}
+use Rattle.salvaging.specs.Inner.{with_line, leaving_out, if_room, covering_on, keeping, Holds}
 
 -- ---- where they end, and how many bytes they keep
 
@@ -28,7 +28,7 @@ with_same l x m e = by (leb 64 l.count) refl
         (ap (λ (y : Lines). y.end) s, ap (λ (y : Lines). y.bytes) s)
 
 -- what is left out changes neither
-pub up-same : (l : Lines) (to : ℕ) (m : Lines) → Ok m ≡ up_to l to → (m.end ≡ l.end) × (m.bytes ≡ l.bytes)
+pub up-same : (l : Lines) (to : ℕ) (m : Lines) → Ok m ≡ leaving_out l to → (m.end ≡ l.end) × (m.bytes ≡ l.bytes)
 up-same l to m e = by (ltb l.end to) refl
   where
     by : (b : Bool) → ltb l.end to ≡ b → (m.end ≡ l.end) × (m.bytes ≡ l.bytes)
@@ -38,16 +38,16 @@ up-same l to m e = by (ltb l.end to) refl
         (ap (λ (y : Lines). y.end) s, ap (λ (y : Lines). y.bytes) s)
 
 -- the bytes of a record are added to those before it
-pub record_adds : (l : Lines) (from end id : ℕ) (m : Lines) → Ok m ≡ with_record l from end id → (m.end ≡ end) × (m.bytes ≡ l.bytes + (end - from))
-record_adds l from end id m e = by (up_to l from) refl e
+pub record_adds : (l : Lines) (from end id : ℕ) (m : Lines) → Ok m ≡ keeping l from end id → (m.end ≡ end) × (m.bytes ≡ l.bytes + (end - from))
+record_adds l from end id m e = by (leaving_out l from) refl e
   where
-    covered : (k : Lines) (r : Result Lines ℕ) → r ≡ with_line k (Kept from (end - from) id) → Ok m ≡ if_room (covering end (end - from)) r → (m.end ≡ end) × (m.bytes ≡ k.bytes + (end - from))
+    covered : (k : Lines) (r : Result Lines ℕ) → r ≡ with_line k (Kept from (end - from) id) → Ok m ≡ if_room (covering_on end (end - from)) r → (m.end ≡ end) × (m.bytes ≡ k.bytes + (end - from))
     covered k (Ok n) p h =
         let s : m ≡ record { lines = n.lines; count = n.count; end = end; bytes = n.bytes + (end - from) } = cc in
         (ap (λ (y : Lines). y.end) s, ap (λ (y : Lines). y.bytes) s ∙ ap (λ (b : ℕ). b + (end - from)) (with_same k (Kept from (end - from) id) n p).1)
     covered k (Err place) p h = let z : ◌≡◌ {A = ℕ} 0 1 = cc in absurd (omega arith)
 
-    by : (r : Result Lines ℕ) → up_to l from ≡ r → Ok m ≡ if_room (λ k. if_room (covering end (end - from)) (with_line k (Kept from (end - from) id))) r → (m.end ≡ end) × (m.bytes ≡ l.bytes + (end - from))
+    by : (r : Result Lines ℕ) → leaving_out l from ≡ r → Ok m ≡ if_room (λ k. if_room (covering_on end (end - from)) (with_line k (Kept from (end - from) id))) r → (m.end ≡ end) × (m.bytes ≡ l.bytes + (end - from))
     by (Ok k) q h =
         let c = covered k (with_line k (Kept from (end - from) id)) refl h in
         (c.0, c.1 ∙ ap (λ (b : ℕ). b + (end - from)) (up-same l from k (sym q)).1)
@@ -88,23 +88,23 @@ line-held l x left all g = by (leb 64 l.count) refl
     by false q = rw q (more (omega (arith, leb-false 64 l.count q)))
 
 -- a stretch left out too
-pub stretch-held : (l : Lines) (ls all : List Line) (to : ℕ) → Going l (left_out l.end to ls) all → Held (up_to l to) ls all
+pub stretch-held : (l : Lines) (ls all : List Line) (to : ℕ) → Going l (left_out l.end to ls) all → Held (leaving_out l to) ls all
 stretch-held l ls all to h = by (ltb l.end to) refl h
   where
-    by : (b : Bool) → ltb l.end to ≡ b → Going l (left_out l.end to ls) all → Held (up_to l to) ls all
+    by : (b : Bool) → ltb l.end to ≡ b → Going l (left_out l.end to ls) all → Held (leaving_out l to) ls all
     by true q k = rw q (line-held l (Lost l.end (to - l.end)) ls all (rw q at k))
     by false q k = rw q (rw q at k)
 
 -- and a record behind it
-pub record_held : (l : Lines) (from end id : ℕ) (ls all : List Line) → Going l (left_out l.end from (Kept from (end - from) id ∷ ls)) all → Held (with_record l from end id) ls all
-record_held l from end id ls all h = by (up_to l from) (stretch-held l (Kept from (end - from) id ∷ ls) all from h)
+pub record_held : (l : Lines) (from end id : ℕ) (ls all : List Line) → Going l (left_out l.end from (Kept from (end - from) id ∷ ls)) all → Held (keeping l from end id) ls all
+record_held l from end id ls all h = by (leaving_out l from) (stretch-held l (Kept from (end - from) id ∷ ls) all from h)
   where
-    covered : (r : Result Lines ℕ) → Held r ls all → Held (if_room (covering end (end - from)) r) ls all
+    covered : (r : Result Lines ℕ) → Held r ls all → Held (if_room (covering_on end (end - from)) r) ls all
     covered (Ok m) g = record { long = g.long; room = g.room; lines = g.lines }
     covered (Err place) g = g
 
     by : (r : Result Lines ℕ) → Held r (Kept from (end - from) id ∷ ls) all
-        → Held (if_room (λ m. if_room (covering end (end - from)) (with_line m (Kept from (end - from) id))) r) ls all
+        → Held (if_room (λ m. if_room (covering_on end (end - from)) (with_line m (Kept from (end - from) id))) r) ls all
     by (Ok m) g = covered (with_line m (Kept from (end - from) id)) (line-held m (Kept from (end - from) id) ls all g)
     by (Err place) g = g
 

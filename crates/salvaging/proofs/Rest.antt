@@ -13,7 +13,7 @@ use Rattle.directory.specs.declared.directory.Directory.{Directory}
 use Rattle.salvaging.specs.declared.lines.Line.{Line}
 use Rattle.salvaging.specs.declared.lines.Line.TheVariants.{Kept, Lost}
 use Rattle.salvaging.specs.Salvage.{found_on, left_out, lines_between, lines_of, kept_bytes}
-use Rattle.salvaging.specs.Inner.{search_in, Inside, no_lines, up_to, with_record, Ruled, Lists}
+use Rattle.salvaging.specs.Inner.{search_in, Inside, no_lines, leaving_out, keeping, Ruled, Lists}
 use Rattle.salvaging.specs.declared.lines.Lines.{Lines}
 use Rattle.salvaging.specs.declared.search.Found.{Found}
 use Rattle.salvaging.specs.declared.search.Search.{Search}
@@ -81,7 +81,7 @@ module _ (d : Directory) (log : List ℕ) where
         let k = record_inside f q in
         (omega (arith, r.ruled, r.ends), omega (arith, r.ends, k), omega (arith, k))
 
-    pub rest_record : (f : Found) → s ≡ Record f → (m : Result Lines ℕ) → m ≡ with_record l f.position f.end f.id → Onward m f.end
+    pub rest_record : (f : Found) → s ≡ Record f → (m : Result Lines ℕ) → m ≡ keeping l f.position f.end f.id → Onward m f.end
     unfolding lines_between
     rest_record f q m p =
         let k = record_inside f q in
@@ -93,7 +93,7 @@ module _ (d : Directory) (log : List ℕ) where
         ∙ record_length log f.position (f.end - f.position) f.id (lines_at f.end) (omega (arith, k)) in
         by m p (rw p (record_held l f.position f.end f.id (lines_at f.end) (lines_of d log) (rw (g ∙ z) at r.held))) k n
       where
-        by : (m : Result Lines ℕ) → m ≡ with_record l f.position f.end f.id → Held m (lines_at f.end) (lines_of d log) → (at ≤ f.position) × (f.position < f.end) × (f.end ≤ length log)
+        by : (m : Result Lines ℕ) → m ≡ keeping l f.position f.end f.id → Held m (lines_at f.end) (lines_of d log) → (at ≤ f.position) × (f.position < f.end) × (f.end ≤ length log)
             → length (kept_bytes log (lines_at at)) ≡ f.end - f.position + length (kept_bytes log (lines_at f.end)) → Onward m f.end
         by (Ok m) p h k n =
             let b = record_adds l f.position f.end f.id m p in
@@ -101,7 +101,7 @@ module _ (d : Directory) (log : List ℕ) where
         by (Err place) p h k n = h
 
     -- nothing is found behind it
-    pub rest-last : ((f : Found) → s ≡ Record f → ⊥) → (m : Result Lines ℕ) → m ≡ up_to l (length log) → Lists log m (lines_of d log)
+    pub rest-last : ((f : Found) → s ≡ Record f → ⊥) → (m : Result Lines ℕ) → m ≡ leaving_out l (length log) → Lists log m (lines_of d log)
     unfolding lines_between kept_bytes
     rest-last k m p =
         let q : s ≡ Nothing = nothing s refl in
@@ -115,6 +115,6 @@ module _ (d : Directory) (log : List ℕ) where
         nothing (Open p) q = absurd (none_open d log at p (sym q ∙ e))
         nothing Nothing q = q
 
-        by : (m : Result Lines ℕ) → m ≡ up_to l (length log) → Held m [] (lines_of d log) → length (kept_bytes log (lines_at at)) ≡ 0 → Lists log m (lines_of d log)
+        by : (m : Result Lines ℕ) → m ≡ leaving_out l (length log) → Held m [] (lines_of d log) → length (kept_bytes log (lines_at at)) ≡ 0 → Lists log m (lines_of d log)
         by (Ok m) p h n = held_all log m (lines_of d log) h (omega (arith, (up-same l (length log) m p).1, r.bytes, n))
         by (Err place) p h n = h

@@ -86,9 +86,9 @@ abbrev pub with_room : Lines → Result Lines ℕ → Lines
 with_room l (Ok m) = m
 with_room l (Err place) = l
 
--- a stretch left out up to a position, if it isn't empty
-abbrev pub up_to : Lines → ℕ → Result Lines ℕ
-up_to l to = if ltb l.end to then with_line l (Lost l.end (to - l.end)) else Ok l
+-- a stretch left out up to a position, if it isn't empty and there is room
+abbrev pub leaving_out : Lines → ℕ → Result Lines ℕ
+leaving_out l to = if ltb l.end to then with_line l (Lost l.end (to - l.end)) else Ok l
 
 -- and on from there, if there was room
 abbrev pub if_room : (Lines → Result Lines ℕ) → Result Lines ℕ → Result Lines ℕ
@@ -96,12 +96,32 @@ if_room on (Ok l) = on l
 if_room on (Err place) = Err place
 
 -- so many bytes more are kept, up to a position
-abbrev pub covering : ℕ → ℕ → Lines → Result Lines ℕ
-covering end n l = Ok (record { lines = l.lines; count = l.count; end = end; bytes = l.bytes + n })
+abbrev pub covering : Lines → ℕ → ℕ → Lines
+covering l end n = record { lines = l.lines; count = l.count; end = end; bytes = l.bytes + n }
+
+-- the same behind what found room
+abbrev pub covering_on : ℕ → ℕ → Lines → Result Lines ℕ
+covering_on end n l = Ok (covering l end n)
+
+-- a record, with what was left out before it, if there is room
+abbrev pub keeping : Lines → ℕ → ℕ → ℕ → Result Lines ℕ
+keeping l from end id = if_room (λ m. if_room (covering_on end (end - from)) (with_line m (Kept from (end - from) id))) (leaving_out l from)
+
+-- ---- the same with an answer always
+
+-- one line more; 65 of them where there is no room for it
+abbrev pub counting : Lines → Line → Lines
+counting l x =
+    if ltb l.count 64 then record { lines = set l.lines l.count x; count = l.count + 1; end = l.end; bytes = l.bytes } else
+    record { lines = l.lines; count = 65; end = l.end; bytes = l.bytes }
+
+-- a stretch left out up to a position, if it isn't empty
+abbrev pub up_to : Lines → ℕ → Lines
+up_to l to = if ltb l.end to then counting l (Lost l.end (to - l.end)) else l
 
 -- a record, with what was left out before it
-abbrev pub with_record : Lines → ℕ → ℕ → ℕ → Result Lines ℕ
-with_record l from end id = if_room (λ m. if_room (covering end (end - from)) (with_line m (Kept from (end - from) id))) (up_to l from)
+abbrev pub with_record : Lines → ℕ → ℕ → ℕ → Lines
+with_record l from end id = covering (counting (up_to l from) (Kept from (end - from) id)) end (end - from)
 
 -- what may be added to: no more bytes are kept than were passed
 abbrev pub Ruled : Lines → Type 0

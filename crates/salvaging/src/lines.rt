@@ -1,6 +1,6 @@
 // The lines of a list by value.
-ghost use Rattle.std.specs.Prelude.{◌≡◌, ◌≤◌, take, IfOk, OnOk, OnErr};
-ghost use Rattle.salvaging.specs.Inner.{no_lines, with_line, pushed, with_room, up_to, with_record, place_of, Ruled};
+ghost use Rattle.std.specs.Prelude.{◌≡◌, ◌≤◌, take, OnOk, OnErr};
+ghost use Rattle.salvaging.specs.Inner.{no_lines, with_line, pushed, with_room, leaving_out, keeping, counting, up_to, with_record, place_of, Ruled};
 ghost use Rattle.salvaging.specs.Salvage.{words_of};
 
 // A record that is kept, or a stretch that is left out.
@@ -34,7 +34,7 @@ impl Line {
     }
 }
 
-// The first `count` are there; where the last one ends, and how many bytes the records kept have.
+// The first `count` are there, and 65 says that one found no room; where the last one ends, and how many bytes the records kept have.
 #[derive(Clone, Copy)]
 pub struct Lines {
     pub lines: [Line; 64],
@@ -59,14 +59,14 @@ impl Lines {
         }
     }
 
+    // Those that found room.
     pub fn all(&self) -> &[Line]
-        requires { self.now.count ≤ 64 }
         ensures { result.now ≡ take self.now.count self.now.lines }
     {
-        &self.lines[..self.count]
+        &self.lines[..self.count.min(64)]
     }
 
-    // A line that finds no room is told by its position, and changes nothing. So below.
+    // A line that finds no room is told by its position, and changes nothing.
     fn push(&mut self, line: Line) -> Result<(), u64>
         ensures is { pushed result self.new ≡ with_line self.old line }
         ensures full { OnErr result (self.new ≡ self.old) }
@@ -79,9 +79,11 @@ impl Lines {
         Ok(())
     }
 
-    fn leave_out(&mut self, to: u64) -> Result<(), u64>
-        ensures is { pushed result self.new ≡ up_to self.old to }
+    // What lies before a position and wasn't kept is lost. Where that finds no room, nothing changes.
+    pub fn leave_out(&mut self, to: u64) -> Result<(), u64>
+        ensures is { pushed result self.new ≡ leaving_out self.old to }
         ensures full { OnErr result (self.new ≡ self.old) }
+        ensures rest { OnOk result ((self.new.end ≡ self.old.end) × (self.new.bytes ≡ self.old.bytes) × (self.old.count ≤ 64 → self.new.count ≤ 64)) }
     {
         if to <= self.end {
             return Ok(());
@@ -92,11 +94,11 @@ impl Lines {
         })
     }
 
-    // A record is kept, and what lies before it lost.
+    // A record is kept, and what lies before it lost. Where the record finds no room, what lies before it may have found the last.
     pub fn keep(&mut self, position: u64, end: u64, id: u64) -> Result<(), u64>
         requires { (Ruled self.old) × (self.old.end ≤ position) × (position ≤ end) }
-        ensures is { pushed result self.new ≡ with_record self.old position end id }
-        ensures full { OnErr result (self.new ≡ with_room self.old (up_to self.old position)) }
+        ensures is { pushed result self.new ≡ keeping self.old position end id }
+        ensures full { OnErr result (self.new ≡ with_room self.old (leaving_out self.old position)) }
         ensures rest { OnOk result ((self.new.end ≡ end) × (self.new.count ≤ 64) × Ruled self.new) }
     {
         let length = end - position;
@@ -112,24 +114,48 @@ impl Lines {
         Ok(())
     }
 
-    // What lies before a position and wasn't kept is lost.
-    pub fn up_to(self, position: u64) -> Result<Lines, u64>
-        ensures is { result ≡ up_to self position }
-        ensures rest { IfOk result (λ l. (l.end ≡ self.end) × (l.bytes ≡ self.bytes) × (self.count ≤ 64 → l.count ≤ 64)) }
+    // By value there is always an answer: a line that finds no room is counted, and no more.
+    fn with(self, line: Line) -> Lines
+        ensures is { result ≡ counting self line }
+        ensures same { (result.end ≡ self.end) × (result.bytes ≡ self.bytes) }
     {
         let mut after = self;
-        after.leave_out(position)?;
-        Ok(after)
+        if self.count < 64 {
+            after.lines[self.count] = line;
+            after.count += 1;
+        } else {
+            after.count = 65;
+        }
+        after
     }
 
-    // The same by value.
-    pub fn with_record(self, position: u64, end: u64, id: u64) -> Result<Lines, u64>
-        requires { (Ruled self) × (self.end ≤ position) × (position ≤ end) }
-        ensures is { result ≡ with_record self position end id }
-        ensures rest { IfOk result (λ l. (l.end ≡ end) × (l.count ≤ 64) × Ruled l) }
+    // What lies before a position and wasn't kept is lost.
+    pub fn up_to(self, position: u64) -> Lines
+        ensures { (result ≡ up_to self position) × (result.end ≡ self.end) × (result.bytes ≡ self.bytes) }
     {
-        let mut after = self;
-        after.keep(position, end, id)?;
-        Ok(after)
+        if position <= self.end {
+            return self;
+        }
+        self.with(Line::Lost {
+            position: self.end,
+            length: position - self.end,
+        })
+    }
+
+    // A record is kept, and what lies before it lost.
+    pub fn with_record(self, position: u64, end: u64, id: u64) -> Lines
+        requires { (Ruled self) × (self.end ≤ position) × (position ≤ end) }
+        ensures { (result ≡ with_record self position end id) × (result.end ≡ end) × Ruled result }
+    {
+        let length = end - position;
+        let kept = Line::Kept {
+            position,
+            length,
+            id,
+        };
+        let mut after = self.up_to(position).with(kept);
+        after.end = end;
+        after.bytes += length;
+        after
     }
 }

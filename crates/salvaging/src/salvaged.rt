@@ -16,6 +16,7 @@ pub struct Salvaged {
 }
 
 // Under a directory that was tested already, and memory for 64 lines.
+#[tactic(auto, using(crate::proofs::Calls::no_room))]
 pub fn salvage_kept(
     d: Directory,
     log: &[u8],
@@ -26,8 +27,9 @@ pub fn salvage_kept(
     ensures refused { IfErr result (λ a. a ≢ Answer.Done) }
     ensures left { left_of result out.new list.new ≡ salvage_by log.now (lines_of d log.now) out.old list.old }
 {
-    let Ok(lines) = lines_of(&d, log) else {
-        return Err(Answer::NoRoom);
+    let lines = match lines_of(&d, log) {
+        Ok(lines) => lines,
+        Err(_) => return Err(Answer::NoRoom),
     };
     let written = lines.bytes as usize;
     if out.len() < written {

@@ -1,11 +1,6 @@
 -- `salvage_kept` meets its contract. Assumes nothing.
-use Rattle.salvaging.proofs.Calls.{over-64, short-output, all-within, all-put}
+use Rattle.salvaging.proofs.Calls.{short-output, all-within, all-put}
 use Rattle.salvaging.proofs.salvaged.salvage_kept.Goals as goal
-
-pub returns-in_default-clause-left : goal.returns-in_default-clause-left
-returns-in_default-clause-left c =
-    let a = c.args in
-    over-64 a.d a.log.now a.out.now a.list.now c.in_default.ensures
 
 pub returns-then-out-written-clause-left : goal.returns-then-out-written-clause-left
 returns-then-out-written-clause-left c =
