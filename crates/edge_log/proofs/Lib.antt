@@ -1,2 +1,3 @@
 -- The laws, for other crates to cite.
 pub mod Memories
+pub mod Refused

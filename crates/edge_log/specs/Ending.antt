@@ -32,12 +32,7 @@ source_number New = 2
 unfoldable pub begin_in : ℕ → ℕ → Result Begun Answer
 begin_in next words = if eqb words 38 then begin_record next else Err BadState
 
--- the next id then: as it was where the call refuses
-abbrev pub begun_next : ℕ → Result Begun Answer → ℕ
-begun_next next (Ok b) = b.next_record_id
-begun_next next (Err a) = next
-
--- and the list's words
+-- the list's words then: as they were where the call refuses
 abbrev pub begun_list : List ℕ → Result Begun Answer → List ℕ
 begun_list w (Ok b) = head_after list_size 0 w (list_words_of b.list)
 begun_list w (Err a) = w

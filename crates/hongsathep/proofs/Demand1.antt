@@ -51,7 +51,7 @@ use Rattle.files.specs.declared.cleaning.Cleaned.{Cleaned}
 use Rattle.files.specs.declared.cleaning.Killed.{Killed}
 use Rattle.files.specs.declared.read.ReadNext.{ReadNext}
 use Rattle.files.specs.Queues.{appending_size, queues_kept}
-use Rattle.files.specs.Calls.{flushes, not_flushed, flush_one_kept, flush_one, no_replay, replay_next_kept, replay_next, clear_replay_logs_kept, clear_replay_logs, not_cleaned, clean_logs_kept, clean_logs, kill_logs_kept, kill_logs, file_set_full, files_used_up, taken_by, take_file_kept, take_file}
+use Rattle.files.specs.Calls.{flushes, not_flushed, flush_one_kept, flush_one, no_replay, replay_next_kept, replay_next, clear_replay_logs_kept, clear_replay_logs, not_cleaned, clean_logs_kept, clean_logs, kill_logs_kept, kill_logs, file_set_full, files_used_up, taken_by, take_file_kept, take_file, taken_queues}
 use Rattle.files.specs.Moves.{appending_queued, reading_cleaned, front_replayed}
 use Rattle.numbers.specs.Numbers.{has, over}
 use Rattle.numbers.specs.Queue.{front_of_of, no_numbers}
@@ -63,9 +63,9 @@ use Rattle.found.specs.Logs as logs
 use Rattle.found.specs.declared.sorted.LogFile.{LogFile}
 use Rattle.found.specs.declared.logs.LogFiles.{LogFiles}
 use Rattle.query.specs.Query.{looked_if, shared_look, listed_look, bytes_of, copied_over}
-use Rattle.log_calls.specs.Begin.{begin_record}
+use Rattle.log_calls.specs.Begin.{begin_record, begun_next}
 use Rattle.log_calls.specs.declared.begin.Begun.{Begun}
-use Rattle.log_calls.specs.ClearReplay.{logs_cleared_kept, logs_cleared}
+use Rattle.log_calls.specs.ClearReplay.{logs_cleared_kept, logs_cleared, cleared_overlays, cleared_queues}
 use Rattle.log_calls.specs.declared.clear_replay.LogsCleared.{LogsCleared}
 
 -- behind 13: what holds of a call at a state that keeps its rules, holds of the call
@@ -136,14 +136,19 @@ unfolding listed_look
 value-listed-refused l o key =
     by-rules (change_ruled l && overlay_kept Value 256 o) (or_else (find_entry key (entries_of Value (of_kind Value l.parts))) (find_entry key (entries_of Value o)))
 
--- A refused call that answers a `Result` hands nothing on: what it was handed by value is the caller's, as it was.
+-- A refused call that answers a `Result` hands nothing on: its caller is left with what it handed in by value.
 refused-is : {A : Type 0} (r : Result A Answer) → 0 < number_of (answer_in r) → (a : Answer) × (r ≡ Err a)
 refused-is (Ok x) h = never h
 refused-is (Err a) h = (a, refl)
 
 -- ---- `begin_record`: the next id
-pub begin-refused : (next : ℕ) → 0 < number_of (answer_in (begin_record next)) → (a : Answer) × (begin_record next ≡ Err a)
-begin-refused next = refused-is (begin_record next)
+by-id : (next : ℕ) (r : Result Begun Answer) → 0 < number_of (answer_in r) → begun_next next r ≡ next
+by-id next (Ok b) h = never h
+by-id next (Err a) h = refl
+
+pub begin-refused : (next : ℕ) → 0 < number_of (answer_in (begin_record next))
+    → ((a : Answer) × (begin_record next ≡ Err a)) × (begun_next next (begin_record next) ≡ next)
+begin-refused next h = (refused-is (begin_record next) h, by-id next (begin_record next) h)
 
 -- ---- `end_record`: overlays, queues, output
 module _ (d : Directory) (h : Handed) where
@@ -167,9 +172,15 @@ module _ (d : Directory) (log : List ℕ) (at : ℕ) (s : Overlays) (next : ℕ)
   clear-refused = by-walk (to_clear d log at s next)
 
 -- ---- `clear_replay_logs`: overlays and queues
+by-states : (o : LogOverlays) (q : Queues) (r : Result LogsCleared Answer) → 0 < number_of (answer_in r) → (cleared_overlays o r ≡ o) × (cleared_queues q r ≡ q)
+by-states o q (Ok c) h = never h
+by-states o q (Err a) h = (refl, refl)
+
 pub clear-replay-refused : (o : LogOverlays) (words bytes : List ℕ) (q : Queues) → 0 < number_of (answer_in (logs_cleared o words bytes q))
-    → (a : Answer) × (logs_cleared o words bytes q ≡ Err a)
-clear-replay-refused o words bytes q = refused-is (logs_cleared o words bytes q)
+    → ((a : Answer) × (logs_cleared o words bytes q ≡ Err a))
+    × (cleared_overlays o (logs_cleared o words bytes q) ≡ o) × (cleared_queues q (logs_cleared o words bytes q) ≡ q)
+clear-replay-refused o words bytes q h =
+    let s = by-states o q (logs_cleared o words bytes q) h in (refused-is (logs_cleared o words bytes q) h, s.0, s.1)
 
 -- ---- `open`: the list for the removals, of which a refusal writes none
 module _ (names nameLengths lengths heads remove : List ℕ) where
@@ -242,8 +253,13 @@ module _ (q : Queues) where
       behind-13 (λ (x : Killed). x.answer) (λ (x : Killed). x.queues ≡ q) (queues_kept q) (kill_logs_kept q) bad refl never
 
   -- ---- `take_file`
-  pub take_refused : (more : ℕ) → 0 < number_of (answer_in (take_file q more)) → (a : Answer) × (take_file q more ≡ Err a)
-  take_refused more = refused-is (take_file q more)
+  by-file-taken : (r : Result Taken Answer) → 0 < number_of (answer_in r) → taken_queues q r ≡ q
+  by-file-taken (Ok t) h = never h
+  by-file-taken (Err a) h = refl
+
+  pub take_refused : (more : ℕ) → 0 < number_of (answer_in (take_file q more))
+      → ((a : Answer) × (take_file q more ≡ Err a)) × (taken_queues q (take_file q more) ≡ q)
+  take_refused more h = (refused-is (take_file q more) h, by-file-taken (take_file q more) h)
 
   -- ---- `read_next`: "1 sends the file to cleanup, other answers move nothing"
   by_number : (n : ℕ) (x : Queues) → (n ≡ 1 → ⊥) → (if eqb n 1 then x else q) ≡ q

@@ -17,3 +17,8 @@ begin_record next =
     if eqb next 0 then Err BadState else  -- 13
     if eqb next last_record_id then Err UsedUp else  -- 12
     Ok (record { next_record_id = next + 1; list = new_list next })
+
+-- the next id then: as it was where the call refuses
+abbrev pub begun_next : ℕ → Result Begun Answer → ℕ
+begun_next next (Ok b) = b.next_record_id
+begun_next next (Err a) = next

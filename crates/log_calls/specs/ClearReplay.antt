@@ -21,3 +21,13 @@ logs_cleared_kept q = record { overlays = no_overlays; queues = (clear_replay_lo
 unfoldable pub logs_cleared : LogOverlays → List ℕ → List ℕ → Queues → Result LogsCleared Answer
 logs_cleared o words bytes q =
     if parts_kept holder.Shared (overlays_of o words bytes).parts && queues_kept q then Ok (logs_cleared_kept q) else Err BadState
+
+-- the overlays then: as they were where the call refuses
+abbrev pub cleared_overlays : LogOverlays → Result LogsCleared Answer → LogOverlays
+cleared_overlays o (Ok c) = c.overlays
+cleared_overlays o (Err a) = o
+
+-- and the queues
+abbrev pub cleared_queues : Queues → Result LogsCleared Answer → Queues
+cleared_queues q (Ok c) = c.queues
+cleared_queues q (Err a) = q

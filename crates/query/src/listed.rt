@@ -60,11 +60,11 @@ impl<'a> Lookup for Listed<'a> {
     }
 
     // The list's entry if there is one, else the shared one. No entry has no bytes.
-    fn find(&self, kind: TableKind, table: u16, index: u64) -> &'a [u8] {
+    fn look_kept(&self, kind: TableKind, table: u16, index: u64) -> &'a [u8] {
         let mine = find_listed(kind, self.list.counts, self.words, self.bytes, table, index);
         if !mine.is_empty() {
             return mine;
         }
-        self.shared.find(kind, table, index)
+        self.shared.look_kept(kind, table, index)
     }
 }

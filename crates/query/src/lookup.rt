@@ -29,7 +29,7 @@ pub trait Lookup {
         ensures fails { (key : ℕ) → result ≡ false → looked self.now kind key ≡ no_look };
 
     // The stored bytes themselves, none where nothing is found.
-    fn find(&self, kind: TableKind, table: u16, index: u64) -> Self::Part
+    fn look_kept(&self, kind: TableKind, table: u16, index: u64) -> Self::Part
         requires { ruled self.now kind }
         ensures { FoundFor (looked self.now kind (rank table index)) (Self.Part.items result) };
 
@@ -39,7 +39,7 @@ pub trait Lookup {
         if !self.kept(kind) {
             return Err(Answer::BadState);
         }
-        Ok(self.find(kind, table, index))
+        Ok(self.look_kept(kind, table, index))
     }
 
     fn with_index(&self, table: IndexTableId, index: u64) -> Result<Self::Part, Answer>
@@ -52,7 +52,7 @@ pub trait Lookup {
         requires { ruled self.now Index }
         ensures { Self.Part.items result ≡ bytes_of (looked self.now Index (rank table.0 index)).entry }
     {
-        self.find(TableKind::Index, table.0, index)
+        self.look_kept(TableKind::Index, table.0, index)
     }
 
     fn value_ref(&self, table: ValueTableId, index: u64) -> Result<Self::Part, Answer>
@@ -65,7 +65,7 @@ pub trait Lookup {
         requires { ruled self.now Value }
         ensures { Self.Part.items result ≡ bytes_of (looked self.now Value (rank table.0 index)).entry }
     {
-        self.find(TableKind::Value, table.0, index)
+        self.look_kept(TableKind::Value, table.0, index)
     }
 
     fn ref_count(&self, table: RefCountTableId, index: u64) -> Result<Self::Part, Answer>
@@ -78,7 +78,7 @@ pub trait Lookup {
         requires { ruled self.now RefCount }
         ensures { Self.Part.items result ≡ bytes_of (looked self.now RefCount (rank table.0 index)).entry }
     {
-        self.find(TableKind::RefCount, table.0, index)
+        self.look_kept(TableKind::RefCount, table.0, index)
     }
 
     // A value copied out of the memory that it lies in; whether there was one.
@@ -97,7 +97,7 @@ pub trait Lookup {
         ensures told { result ≡ is_there (looked self.now Value (rank table.0 index)).entry }
         ensures copied { dest.new ≡ copied_over (bytes_of (looked self.now Value (rank table.0 index)).entry) dest.old }
     {
-        let stored = self.find(TableKind::Value, table.0, index);
+        let stored = self.look_kept(TableKind::Value, table.0, index);
         copy_over(dest, stored.as_slice());
         !stored.as_slice().is_empty()
     }

@@ -31,7 +31,7 @@ impl<'a> Lookup for Shared<'a> {
         overlay::kept(kind, 256, self.words, self.bytes, n)
     }
 
-    fn find(&self, kind: TableKind, table: u16, index: u64) -> &'a [u8] {
+    fn look_kept(&self, kind: TableKind, table: u16, index: u64) -> &'a [u8] {
         let n = self.overlays.counts.of(kind);
         find_in(kind, 256, self.words, self.bytes, n, table, index)
     }

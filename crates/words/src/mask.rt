@@ -45,23 +45,20 @@ impl Iterator for BitRuns {
 
     ghost remaining = { λ s. at_most (64 - s.from) };
 
-    // The lowest bit of a run goes by a division: a run of all 64 would be too long for a shift.
     fn next(&mut self) -> Option<BitRun> {
         if self.rest == 0 {
             return None;
         }
-        let clear = self.rest.trailing_zeros();
-        let above = (self.rest >> clear) / 2;
-        let more = above.trailing_ones();
-        let run = BitRun {
-            from: self.from + clear as usize,
-            count: more as usize + 1,
-        };
+        let run = next_run(self.rest);
+        let from = self.from + run.clear;
         *self = BitRuns {
-            from: run.from + run.count,
-            rest: above >> more,
+            from: from + run.set,
+            rest: run.rest,
         };
-        Some(run)
+        Some(BitRun {
+            from,
+            count: run.set,
+        })
     }
 }
 

@@ -1,11 +1,10 @@
 -- `end_record_kept` meets its contract: refused, or written and put. Assumes nothing.
-use Rattle.std.proofs.Common.{◌≡◌, ℕ, arith}
 use Rattle.std.proofs.lemmas.Result.{err_from_is_err_and}
 use Rattle.change.proofs.Rules.{kept-ruled, kept-parts}
 use Rattle.putting.specs.Inner.{parts_at}
 use Rattle.ending.specs.EndRecord.{handed_of}
 use Rattle.ending.proofs.Decided.{list-kept, shared_kept}
-use Rattle.ending.proofs.Left.{given, left-refused, is_free, is_written, left-done}
+use Rattle.ending.proofs.Left.{given, left-refused, is_free, as_given, left-done}
 use Rattle.ending.proofs.record_end.end_record_kept.Goals as goal
 
 pub returns-in_err-source : goal.returns-in_err-source
@@ -18,14 +17,6 @@ returns-in_err-source c =
 pub flush_to_file_kept-requires : goal.flush_to_file_kept-requires
 unfolding handed_of
 flush_to_file_kept-requires c = kept-ruled c.args.directory _ (list-kept c.args.directory _ c.requires)
-
--- it has the room that was tested
-pub returns-in_err-length : goal.returns-in_err-length
-returns-in_err-length c =
-    let a = c.args in
-    let h = given a.list a.list_words a.list_bytes a.overlays a.words.now a.bytes.now a.queues a.next in
-    let e = is_written a.directory h a.out.now c.in_ok-source.field-0 c.in_ok-source.ensures _ _ c.in_err-length.ensures in
-    let z : ◌≡◌ {A = ℕ} 0 1 = cc in absurd (omega arith)
 
 pub put_list-overlays-requires : goal.put_list-overlays-requires
 unfolding handed_of parts_at
@@ -41,4 +32,5 @@ pub returns : goal.returns
 returns c =
     let a = c.args in
     let h = given a.list a.list_words a.list_bytes a.overlays a.words.now a.bytes.now a.queues a.next in
-    left-done a.directory h a.out.now c.in_ok-source.field-0 c.in_ok-source.ensures c.in_ok-length.length _ c.in_ok-length.ensures _ _ _ c.put_list-overlays.ensures
+    let size = as_given a.directory h a.out.now c.in_ok-source.field-0 c.in_ok-source.ensures _ _ c.flush_to_file_kept.ensures c.unwrap_or-length.result c.unwrap_or-length.ensures in
+    left-done a.directory h a.out.now c.in_ok-source.field-0 c.in_ok-source.ensures c.unwrap_or-length.result _ size _ _ _ c.put_list-overlays.ensures

@@ -1,4 +1,4 @@
--- `find` in the shared overlay meets its contract. Assumes nothing.
+-- `look_kept` in the shared overlay meets its contract. Assumes nothing.
 use mathlib.Core.Path.{ap, ◌∙◌}
 use Prim.Native.Nat.{ℕ}
 use Rattle.keys.specs.Keys.{rank}
@@ -6,7 +6,7 @@ use Rattle.overlay.specs.Rules.{overlay_of}
 use Rattle.query.specs.Query.{shared_part}
 use Rattle.query.specs.Inner.{found_in}
 use Rattle.query.proofs.Looks.{shared_for}
-use Rattle.query.proofs.shared.SharedLookup.find.Goals as goal
+use Rattle.query.proofs.shared.SharedLookup.look_kept.Goals as goal
 
 pub find_in-requires : goal.find_in-requires
 find_in-requires c = rw c.of-n.ensures c.requires

@@ -1,4 +1,4 @@
--- `find` in list and shared overlay meets its contract: the list's entry, or the shared one. Assumes nothing.
+-- `look_kept` in list and shared overlay meets its contract: the list's entry, or the shared one. Assumes nothing.
 use mathlib.Core.Path.{sym, ◌∙◌}
 use native.Mathlib.Omega.{arith}
 use borrow.Author.Tests.{eqb-true, eqb-false}
@@ -7,7 +7,7 @@ use Rattle.change.specs.Change.{change_of}
 use Rattle.change.proofs.Rules.{ruled-parts}
 use Rattle.query.specs.Query.{shared_part}
 use Rattle.query.proofs.Looks.{mine_found, shared_next}
-use Rattle.query.proofs.listed.ListedLookup.find.Goals as goal
+use Rattle.query.proofs.listed.ListedLookup.look_kept.Goals as goal
 
 pub find_listed-mine-requires : goal.find_listed-mine-requires
 find_listed-mine-requires c = let s = c.args.self.now in ruled-parts (change_of s.list s.words.now s.bytes.now) c.requires.0
@@ -24,4 +24,4 @@ returns c =
     let a = c.args in
     let s = a.self.now in
     shared_next a.kind (change_of s.list s.words.now s.bytes.now) (shared_part a.kind s.shared.overlays s.shared.words.now s.shared.bytes.now) (rank a.table a.index) c.requires.0 c.requires.1
-    _ _ c.find_listed-mine.ensures (let n = eqb-true _ 0 (sym c.is_empty.ensures ∙ c.if-not-is_empty.false) in omega arith) c.find.ensures
+    _ _ c.find_listed-mine.ensures (let n = eqb-true _ 0 (sym c.is_empty.ensures ∙ c.if-not-is_empty.false) in omega arith) c.look_kept.ensures
