@@ -312,7 +312,7 @@ pub extern "C" fn hongsathep_replay_record_id(queues: &[u64], id: &mut u64) -> b
     ensures found { result ≡ is_some (replay_record_id (queues_from queues.now)) }
     ensures id { id.new ≡ unwrap_or (replay_record_id (queues_from queues.now)) 0 }
 {
-    let first = queues_of(queues).replay_record_id();
+    let first = host_queues::replay_record_id(queues);
     *id = first.unwrap_or(0);
     first.is_some()
 }
@@ -321,12 +321,12 @@ pub extern "C" fn hongsathep_replay_record_id(queues: &[u64], id: &mut u64) -> b
 pub extern "C" fn hongsathep_num_dirty_logs(queues: &[u64]) -> usize
     ensures { result ≡ (queues_from queues.now).cleanup_queue.count }
 {
-    queues_of(queues).num_dirty_logs()
+    host_queues::num_dirty_logs(queues)
 }
 
 #[unsafe(no_mangle)]
 pub extern "C" fn hongsathep_has_log_files_to_read(queues: &[u64]) -> bool
     ensures { result ≡ ltb 0 (queues_from queues.now).read_queue.count }
 {
-    queues_of(queues).has_log_files_to_read()
+    host_queues::has_log_files_to_read(queues)
 }

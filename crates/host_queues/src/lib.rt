@@ -1,13 +1,15 @@
 // The file queues from words and back: any words load, those that are no queues as queues that break a rule.
 #![tactic(auto)]
 
-ghost use Rattle.std.specs.Prelude.{◌≡◌, true, length, get_or, IfSome};
+ghost use Rattle.std.specs.Prelude.{◌≡◌, true, ltb, length, get_or, IfSome};
+ghost use Rattle.files.specs.Calls.{replay_record_id};
 ghost use Rattle.host_words.specs.Head.{HeadLeft};
 ghost use Rattle.host_queues.specs.Queues.{queues_size, queues_formed, queue_from, broken_queues, queues_in, queues_from, queue_words, front_words, behind_words, queues_words};
 ghost use Rattle.host_queues.specs.Inner.{next_log_id_read};
 
 use answer::Answer;
 use files::{Appending, NumberQueue, Queues, Reading};
+use words::copy_from_slice;
 
 // How many numbers stand in a queue, and 64 numbers.
 fn queue_of(words: &[u64]) -> NumberQueue
@@ -79,13 +81,45 @@ pub fn queues_of(words: &[u64]) -> Queues
     }
 }
 
+// What the words are asked for alone: the queues aren't loaded for it.
+
+#[tactic(auto, unfolding(crate::specs::Queues::queues_from))]
+pub fn num_dirty_logs(words: &[u64]) -> usize
+    ensures { result ≡ (queues_from words.now).cleanup_queue.count }
+{
+    match next_log_id_in(words) {
+        Some(_) => words[70] as usize,
+        None => 0,
+    }
+}
+
+#[tactic(auto, unfolding(crate::specs::Queues::queues_from))]
+pub fn has_log_files_to_read(words: &[u64]) -> bool
+    ensures { result ≡ ltb 0 (queues_from words.now).read_queue.count }
+{
+    match next_log_id_in(words) {
+        Some(_) => 0 < words[3],
+        None => true,
+    }
+}
+
+#[tactic(auto, unfolding(crate::specs::Queues::queues_from, files::specs::Calls::replay_record_id))]
+pub fn replay_record_id(words: &[u64]) -> Option<u64>
+    ensures { result ≡ replay_record_id (queues_from words.now) }
+{
+    match next_log_id_in(words) {
+        Some(_) if 0 < words[200] => Some(words[265]),
+        _ => None,
+    }
+}
+
 fn put_queue(words: &mut [u64], q: &NumberQueue)
     requires { length words.old ≡ 65 }
     ensures words { words.new ≡ queue_words q.now }
     ensures whole { length q.now.numbers ≡ 64 }
 {
     words[0] = q.count as u64;
-    words[1..].copy_from_slice(&q.numbers);
+    copy_from_slice(&mut words[1..], &q.numbers);
 }
 
 // The appending file, the read queue and the file being read.
@@ -120,7 +154,7 @@ fn put_queues(words: &mut [u64], q: &Queues)
 {
     put_front(&mut words[..70], q);
     put_behind(&mut words[70..265], q);
-    words[265..329].copy_from_slice(&q.replay_ids);
+    copy_from_slice(&mut words[265..329], &q.replay_ids);
     words[329..].copy_from_slice(&[u64::from(q.next_log_id), u64::from(q.dirty)]);
 }
 
