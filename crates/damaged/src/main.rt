@@ -13,9 +13,10 @@ const LENGTH: usize = 201;
 const IMAGE: usize = 43520;
 
 fn tables() -> Directory {
-    directory_text::directory_of(b"index 3 0 64\nvalue 7 1 128 20\nrefcount 2 0 8\n").unwrap_or(
-        Directory::new(),
-    )
+    match directory_text::directory_of(b"index 3 0 64\nvalue 7 1 128 20\nrefcount 2 0 8\n") {
+        Ok(parsed) => parsed.directory,
+        Err(broken) => broken.directory,
+    }
 }
 
 // The log of the sample that `recover` is run on.

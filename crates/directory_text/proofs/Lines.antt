@@ -9,7 +9,7 @@ use Rattle.directory.specs.declared.table.TableKind.{TableKind}
 use Rattle.directory.specs.declared.directory.Directory.{Directory}
 use Rattle.directory_text.specs.Scan.{is_blank, is_before, front, behind, word_of, behind_word, is_none, text_lines}
 use Rattle.directory_text.specs.Line.{number_in, length_in, table_in, kind_of, of_kind, code_in, line_in}
-use Rattle.directory_text.specs.Text.{with_line, in_line, from_lines}
+use Rattle.directory_text.specs.Text.{with_line, after-line, in_line, from_lines}
 use Rattle.directory_text.specs.declared.fault.Fault.{Fault}
 use Rattle.directory_text.specs.declared.fault.Fault.TheVariants as fault
 use Rattle.directory_text.proofs.Laws.{next-line, no_line}
@@ -29,7 +29,7 @@ line-read line code word rest e f g = rw (f, g, e) refl
 
 -- one line more
 module _ (n : ℕ) (d : Directory) (text line : List ℕ) (h : 0 < length text) (e : line ≡ front (is_before 10) text) where
-  pub line-fault : {f : Fault} → with_line d line ≡ Err f → from_lines n d (text_lines text) ≡ Err (in_line (n + 1) f)
+  pub line-fault : {f : Fault} → with_line d line ≡ Err f → from_lines n d (text_lines text) ≡ Err (in_line (n + 1) d f)
   unfolding from_lines
   line-fault w = rw (next-line text h, ← e, w) refl
 
@@ -38,6 +38,6 @@ module _ (n : ℕ) (d : Directory) (text line : List ℕ) (h : 0 < length text) 
   unfolding from_lines
   line-goes w r = rw (next-line text h, ← e, w, r) refl
 
-pub lines_end : (n : ℕ) (d : Directory) (text : List ℕ) → length text ≡ 0 → from_lines n d (text_lines text) ≡ Ok d
+pub lines_end : (n : ℕ) (d : Directory) (text : List ℕ) → length text ≡ 0 → from_lines n d (text_lines text) ≡ Ok (after-line n d)
 unfolding from_lines
 lines_end n d text h = rw (no_line text h) refl

@@ -10,4 +10,4 @@ mod text;
 pub use fault::Fault;
 pub use line::line_of;
 pub use number::{NotNumber, number_of};
-pub use text::{LineFault, directory_of};
+pub use text::{Broken, LineFault, Parsed, directory_of};

@@ -7,11 +7,25 @@ use super::line::line_of;
 use super::scan::{behind_one, split_before};
 use directory::{Directory, TableDescription};
 
+// The tables of a text, and the number of its last line: how many it has.
+#[derive(Clone, Copy)]
+pub struct Parsed {
+    pub directory: Directory,
+    pub line: u64,
+}
+
 // What is wrong in which line, from 1 on.
 #[derive(Clone, Copy, PartialEq, Eq)]
 pub struct LineFault {
     pub line: u64,
     pub fault: Fault,
+}
+
+// The first fault, and the tables of the lines in front of it.
+#[derive(Clone, Copy)]
+pub struct Broken {
+    pub directory: Directory,
+    pub at: LineFault,
 }
 
 #[tactic(auto, unfolding(crate::specs::Text::with_table))]
@@ -43,7 +57,7 @@ fn with_line(directory: Directory, line: &[u8]) -> Result<Directory, Fault>
     }
 }
 
-pub fn directory_of(text: &[u8]) -> Result<Directory, LineFault>
+pub fn directory_of(text: &[u8]) -> Result<Parsed, Broken>
     ensures { result ≡ parsed text.now }
 {
     let mut directory = Directory::new();
@@ -54,9 +68,12 @@ pub fn directory_of(text: &[u8]) -> Result<Directory, LineFault>
         line += 1;
         match with_line(directory, first) {
             Ok(longer) => directory = longer,
-            Err(fault) => return Err(LineFault { line, fault }),
+            Err(fault) => {
+                let at = LineFault { line, fault };
+                return Err(Broken { directory, at });
+            }
         }
         rest = behind_one(behind);
     }
-    Ok(directory)
+    Ok(Parsed { directory, line })
 }

@@ -4,14 +4,27 @@ use mathlib.Core.Bool.{true, false, and-false}
 use mathlib.Core.List.{List}
 use Prim.Native.Nat.{ℕ, ◌+◌, ◌≤◌, ◌<◌}
 use native.Mathlib.Omega.{arith}
-use borrow.Author.Tests.{lt-ltb, le-ltb, eq-eqb, ne_eqb}
-use lib.Dec.{ltb}
+use borrow.Author.Tests.{lt-ltb, le-ltb, ltb-true, eq-eqb, ne_eqb, eqb-true}
+use lib.Dec.{ltb, eqb}
 use lib.ListN.{length, take, drop, get_or}
 use lib.Seq.{get_or-drop, get_or-take, drop-drop, take-take}
 use Rattle.words.proofs.Cut.{drop_take}
-use Rattle.numbers.proofs.Laws.{both}
+use Rattle.numbers.proofs.Laws.{both, left-of, right_of}
 use Rattle.numbers.specs.declared.queue.NumberQueue.{NumberQueue}
 use Rattle.host_queues.specs.Queues.{queue_from, queues_formed}
+
+module _ (w : List ℕ) (h : queues_formed w ≡ true) where
+  pub queues-length : length w ≡ 331
+  unfolding queues_formed
+  queues-length = eqb-true _ _ (left-of (eqb (length w) 331) _ h)
+
+  pub queues-next : get_or w 329 0 < 4294967296
+  unfolding queues_formed
+  queues-next =
+      let a = right_of (eqb (length w) 331) _ h in
+      let b = right_of (ltb (get_or w 0 0) 2) _ a in
+      let c = right_of (ltb (get_or w 68 0) 2) _ b in
+      ltb-true _ _ (left-of (ltb (get_or w 329 0) 4294967296) _ c)
 
 module _ (w : List ℕ) where
   pub formed_as : length w ≡ 331 → get_or w 0 0 ≤ 1 → get_or w 68 0 ≤ 1 → get_or w 330 0 ≤ 1 → get_or w 329 0 < 4294967296 → queues_formed w ≡ true

@@ -1,12 +1,13 @@
--- Laws of a directory from words: a row behind another, the rows that are left, a directory that breaks a rule stays one. Assumes nothing.
+-- Laws of a directory from words: the ranges of a row, a row behind another, the rows that are left, a directory that breaks a rule stays one. Assumes nothing.
 use mathlib.Core.Path.{◌≡◌, refl, sym, ap, ◌∙◌}
 use mathlib.Core.Bool.{Bool, true, false, ◌&&◌}
 use mathlib.Core.List.{List, ◌++◌}
 use Prim.Native.Nat.{ℕ, zero, suc, ◌+◌, ◌*◌, ◌/◌, ◌%◌, ◌<◌}
 use native.Mathlib.Omega.{arith}
-use borrow.Author.Tests.{eq-eqb, ne_eqb}
+use borrow.Author.Tests.{ltb-true, eq-eqb, ne_eqb}
 use lib.Dec.{ltb}
 use lib.ListN.{length, get_or, length-append}
+use Rattle.numbers.proofs.Laws.{left-of, right_of}
 use Rattle.directory.specs.Directory.{no_tables}
 use Rattle.directory.specs.declared.directory.Directory.{Directory}
 use Rattle.std.specs.Prelude.{Option, Some, None}
@@ -15,6 +16,27 @@ use Rattle.host_words.specs.Inner.{row_added, directory_or_broken}
 use Rattle.host_words.specs.Tables.{row_formed, row_from, broken_directory, table_added, with_row, rows_from, directory_from}
 use Rattle.std.proofs.lemmas.List.{get_or_append_left}
 use Rattle.host_words.proofs.RoundTrip.{past-at}
+
+-- what a well-formed row has
+pub record Ranges (w : List ℕ) (at : ℕ) : Type 0 where
+  pub number : get_or w (at + 1) 0 < 65536
+  pub column : get_or w (at + 2) 0 < 256
+  pub count : get_or w (at + 3) 0 < 65536
+  pub long : get_or w (at + 4) 0 < 65536
+
+pub ranges : (w : List ℕ) (at : ℕ) → row_formed w at ≡ true → Ranges w at
+unfolding row_formed
+ranges w at h =
+    let a = right_of (ltb (get_or w at 0) 3) _ h in
+    let b = right_of (ltb (get_or w (at + 1) 0) 65536) _ a in
+    let c = right_of (ltb (get_or w (at + 2) 0) 256) _ b in
+    let d = right_of (ltb (get_or w (at + 3) 0) 65536) _ c in
+    record {
+      number = ltb-true _ _ (left-of (ltb (get_or w (at + 1) 0) 65536) _ a);
+      column = ltb-true _ _ (left-of (ltb (get_or w (at + 2) 0) 256) _ b);
+      count = ltb-true _ _ (left-of (ltb (get_or w (at + 3) 0) 65536) _ c);
+      long = ltb-true _ _ (left-of (ltb (get_or w (at + 4) 0) 65536) _ d);
+    }
 
 module _ (x w : List ℕ) (six : length x ≡ 6) where
   -- a row behind another

@@ -16,7 +16,9 @@ pub const TEXT_ROOM: usize = 65537;
 fn read_text<P: Print>(teller: &Teller<P>, path: &[u8], text: &[u8]) -> Result<Directory, Told>
     ensures { IfOk result (λ directory. directory_kept directory ≡ true) }
 {
-    let directory = directory_of(text).map_err(|at| tell_fault(teller, path, at))?;
+    let directory = directory_of(text)
+        .map_err(|broken| tell_fault(teller, path, broken.at))?
+        .directory;
     if !directory.kept() {
         return Err(teller.tell(path, ": the directory breaks a rule"));
     }

@@ -1,25 +1,27 @@
 -- Each format of a record in closed form: by what the code reads and tests. Assumes nothing.
 use mathlib.Core.Path.{◌≡◌, refl, sym, ap, ◌∙◌}
-use mathlib.Core.Bool.{Bool, true, false}
-use mathlib.Core.List.{List}
+use mathlib.Core.Bool.{Bool, true, false, not, ◌||◌}
+use mathlib.Core.List.{List, [], ◌∷◌}
 use Prim.Native.Nat.{ℕ, ◌+◌, ◌-◌, ◌*◌, ◌≤◌, ◌<◌, zero-le}
 use native.Mathlib.Nat.{add_assoc, add-zero}
 use native.Mathlib.Omega.{arith}
 use lib.Count.{ones}
-use lib.Dec.{ltb}
+use lib.Dec.{eqb, ltb}
 use lib.ListN.{length, take, drop, get_or}
 use lib.Seq.{get_or-take, get_or-drop}
+use borrow.Author.Tests.{ne_eqb}
 use Rattle.words.specs.Words.{little_at}
 use Rattle.words.proofs.Cut.{little_take, little_drop}
+use Rattle.checksum.specs.Checksum.{checksum_of}
 use Rattle.directory.specs.Directory.{find_table}
 use Rattle.directory.specs.declared.table.TableKind.{TableKind}
 use Rattle.directory.specs.declared.table.TableKind.TheVariants.{Index, Value, RefCount}
 use Rattle.directory.specs.declared.directory.Directory.{Directory}
 use Rattle.directory.specs.declared.table.TableDescription.{TableDescription}
-use Rattle.record.specs.Format.{Format, give, Got, stopped, got, read_at, ◌>>◌, test}
-use Rattle.record.specs.Record.{Item, insert_of, key, chunk, masked_item, value_length, value, valued_item, table, dropped_item, sum_holds, ended_item, inside_by, inside, begun_id, opening_by, opening}
+use Rattle.record.specs.Format.{Format, refuse, give, Got, stopped, got, read_at, ◌>>◌, test}
+use Rattle.record.specs.Record.{Item, insert_of, key, chunk, masked_item, value_length, value, valued_item, table, dropped_item, sum_holds, ended_item, inside_by, inside, early, begun_id, early_end, opening_by, opening}
 use Rattle.answer.specs.declared.answer.Answer.{Answer}
-use Rattle.answer.specs.declared.answer.Answer.TheVariants.{EndOfLog, Cut, NoTable, NoIndex, WrongSum}
+use Rattle.answer.specs.declared.answer.Answer.TheVariants.{EndOfLog, Cut, UnknownTag, OutOfPlace, NoTable, NoIndex, WrongSum}
 use Rattle.record.specs.declared.action.LogAction.{LogAction}
 use Rattle.record.specs.declared.action.LogAction.TheVariants.{EndRecord}
 use Rattle.record.specs.declared.item.Key.{Key}
@@ -41,6 +43,11 @@ module _ {A : Type 0} (answer : Answer) (at : ℕ) (log : List ℕ) where
   test-give true a = refl
   test-give false a = refl
 
+  pub test-refuse : (b : Bool) (other : Answer) → read_at {A = A} (test b answer >> refuse other) at log ≡ tested b (stopped other) answer
+  unfolding read_at
+  test-refuse true other = refl
+  test-refuse false other = refl
+
 -- the payload behind a key
 abbrev pub payload_of : TableKind → Key → Format Item
 payload_of Index k = chunk Index 8 k
@@ -60,6 +67,10 @@ module _ (at : ℕ) (log : List ℕ) where
   key_in None t i = stopped NoTable
   key_in (Some (row, d)) t i = tested (ltb i d.count) (got (record { table = t; index = i; description = d }) (at + 10)) NoIndex
 
+  pub key-short : (d : Directory) (kind : TableKind) → length log - at < 10 → read_at (key d kind) at log ≡ stopped Cut
+  unfolding key
+  key-short d kind h = need-short 10 Cut _ at log h
+
   pub key_met : (d : Directory) (kind : TableKind) (t i : ℕ) (f : Option (ℕ × TableDescription)) → 10 ≤ length log - at → t ≡ little_at 2 log at → i ≡ little_at 8 log (at + 2)
       → f ≡ find_table d kind t → read_at (key d kind) at log ≡ key_in f t i
   unfolding key
@@ -71,12 +82,25 @@ module _ (at : ℕ) (log : List ℕ) where
 
   -- ---- mask and entries; value
 
+  pub chunk-short : (kind : TableKind) (width : ℕ) (k : Key) → length log - at < 8 → read_at (chunk kind width k) at log ≡ stopped Cut
+  unfolding chunk
+  chunk-short kind width k h = need-short 8 Cut _ at log h
+
+  pub chunk-cut : (kind : TableKind) (width : ℕ) (k : Key) (mask n : ℕ) → 8 ≤ length log - at → mask ≡ little_at 8 log at → n ≡ ones mask * width
+      → length log - (at + 8) < n → read_at (chunk kind width k) at log ≡ stopped Cut
+  unfolding chunk
+  chunk-cut kind width k mask n h e₁ e₂ s = need_met 8 Cut _ at log h ∙ rw (← e₁, ← e₂) (need-short n Cut _ (at + 8) log s)
+
   pub chunk_met : (kind : TableKind) (width : ℕ) (k : Key) (mask n : ℕ) → 8 ≤ length log - at → mask ≡ little_at 8 log at → n ≡ ones mask * width
       → n ≤ length log - (at + 8) → read_at (chunk kind width k) at log ≡ got (record { action = insert_of kind k.table k.index; payload = 8 + n }) (at + (8 + n))
   unfolding chunk
   chunk_met kind width k mask n h e₁ e₂ s =
       need_met 8 Cut _ at log h ∙ rw (← e₁, ← e₂) (need_met n Cut _ (at + 8) log s ∙ read-give _ (at + 8 + n) log
       ∙ ap (got (record { action = insert_of kind k.table k.index; payload = 8 + n })) (add_assoc at 8 n))
+
+  pub value-short : (k : Key) → length log - at < value_length k.description → read_at (value k) at log ≡ stopped Cut
+  unfolding value
+  value-short k h = need-short (value_length k.description) Cut _ at log h
 
   pub value_met : (k : Key) → value_length k.description ≤ length log - at
       → read_at (value k) at log ≡ got (record { action = insert_of Value k.table k.index; payload = value_length k.description }) (at + value_length k.description)
@@ -104,6 +128,10 @@ module _ (at : ℕ) (log : List ℕ) where
   abbrev pub table_in : Option (ℕ × TableDescription) → ℕ → Got ℕ
   table_in None t = stopped NoTable
   table_in (Some (row, d)) t = got t (at + 2)
+
+  pub table-short : (d : Directory) (kind : TableKind) → length log - at < 2 → read_at (table d kind) at log ≡ stopped Cut
+  unfolding table
+  table-short d kind h = need-short 2 Cut _ at log h
 
   pub table_met : (d : Directory) (kind : TableKind) (t : ℕ) (f : Option (ℕ × TableDescription)) → 2 ≤ length log - at → t ≡ little_at 2 log at → f ≡ find_table d kind t
       → read_at (table d kind) at log ≡ table_in f t
@@ -144,6 +172,23 @@ module _ (at : ℕ) (log : List ℕ) where
   unfolding begun_id
   begun_met id h e = need_met 8 EndOfLog _ at log h ∙ rw (← e) (read-give id (at + 8) log)
 
+  pub early-short : (k : ℕ) → length log - at < k → read_at (early k) at log ≡ stopped EndOfLog
+  unfolding early
+  early-short k h = need-short k EndOfLog _ at log h
+
+  pub early_met : (k : ℕ) → k ≤ length log - at → read_at (early k) at log ≡ stopped OutOfPlace
+  unfolding early
+  early_met k h = need_met k EndOfLog _ at log h ∙ read-refuse OutOfPlace (at + k) log
+
+  pub early-end-short : (validate : Bool) → length log - at < 4 → read_at (early_end validate) at log ≡ stopped EndOfLog
+  unfolding early_end
+  early-end-short validate h = need-short 4 EndOfLog _ at log h
+
+  pub early-end_met : (validate : Bool) (sum : ℕ) → 4 ≤ length log - at → sum ≡ little_at 4 log at
+      → read_at (early_end validate) at log ≡ tested (not validate || eqb sum (checksum_of (4 ∷ []))) (stopped OutOfPlace) WrongSum
+  unfolding early_end
+  early-end_met validate sum h e = need_met 4 EndOfLog _ at log h ∙ rw (← e) (test-refuse WrongSum (at + 4) log (not validate || eqb sum (checksum_of (4 ∷ []))) OutOfPlace)
+
   -- ---- the tag byte
 
   tag-here : get_or (take 1 (drop at log)) 0 0 ≡ get_or log at 0
@@ -175,6 +220,36 @@ past k h a b c d = omega arith
 -- a tag that is none of 0 to 7
 pub no-tag : {tag : ℕ} → (tag ≡ 1 → ⊥) → (tag ≡ 2 → ⊥) → (tag ≡ 3 → ⊥) → (tag ≡ 4 → ⊥) → (tag ≡ 5 → ⊥) → (tag ≡ 6 → ⊥) → (tag ≡ 7 → ⊥) → (tag ≡ 0 → ⊥) → 8 ≤ tag
 no-tag {tag} n1 n2 n3 n4 n5 n6 n7 n0 = past 4 (past 0 zero-le n0 n1 n2 n3) n4 n5 n6 n7
+
+module _ (tag : ℕ) (h : 8 ≤ tag) where
+  not_tag : (k : ℕ) → k < 8 → eqb tag k ≡ false
+  not_tag k l = ne_eqb tag k (λ e. omega arith)
+
+  pub inside-unknown : (d : Directory) (validate : Bool) (register : ℕ) → inside_by d validate register tag ≡ refuse UnknownTag
+  unfolding inside_by
+  inside-unknown d validate register =
+      rw (
+        not_tag 1 (omega arith),
+        not_tag 2 (omega arith),
+        not_tag 3 (omega arith),
+        not_tag 4 (omega arith),
+        not_tag 5 (omega arith),
+        not_tag 6 (omega arith),
+        not_tag 7 (omega arith),
+      )
+
+  pub opening-unknown : (validate : Bool) → opening_by validate tag ≡ refuse UnknownTag
+  unfolding opening_by
+  opening-unknown validate =
+      rw (
+        not_tag 1 (omega arith),
+        not_tag 2 (omega arith),
+        not_tag 3 (omega arith),
+        not_tag 4 (omega arith),
+        not_tag 5 (omega arith),
+        not_tag 6 (omega arith),
+        not_tag 7 (omega arith),
+      )
 
 -- ---- a step taken, from what was read
 

@@ -44,6 +44,13 @@ module _ (d : Directory) (log : List ℕ) where
       (λ x e. let a = found-accepted d log at x e in enough n m x.end (omega (arith, a.forward, a.inside)) (omega (arith, a.forward, a.inside)))
 
   module _ (at : ℕ) where
+    -- nothing here: on with the next byte
+    pub records-skip : found_at d log at ≡ none → found_on d log at ≡ found_on d log (at + 1)
+    unfolding found_from
+    records-skip e =
+        ap (by_found (found_from (length log) d log) at) e
+        ∙ next-byte (length log) (suc (length log)) at (omega arith) (omega arith) (λ p q. enough (length log) (suc (length log)) (at + 1) p q)
+
     -- a record: it, and on behind it
     pub records_take : (f : Found) → found_at d log at ≡ some f → found_on d log at ≡ f ∷ found_on d log f.end
     unfolding found_from
