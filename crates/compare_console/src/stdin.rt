@@ -1,5 +1,5 @@
 // Standard input, chunk by chunk, and the commands in it.
-ghost use Rattle.std.specs.Prelude.{◌≤◌, ◌*◌};
+ghost use Rattle.std.specs.Prelude.{◌≤◌, ◌*◌, length, IfOk, IfSome};
 
 use compare_lines::{Fault, value_of};
 use std::io;
@@ -9,7 +9,7 @@ use std::io::Read;
 pub const TURNS: u64 = 4611686018427387904;
 
 // What was read of standard input, and from where on it is still to be looked at.
-#[derive(Drop)]
+#[derive(Clone, Copy)]
 struct Chunk {
     room: [u8; 65536],
     at: usize,
@@ -44,7 +44,7 @@ impl Chunk {
 }
 
 // The command that a line holds, as far as its digits were read.
-#[derive(Drop)]
+#[derive(Clone, Copy)]
 struct Command {
     room: [u8; 80005],
     digits: usize,
@@ -75,7 +75,9 @@ impl Command {
     }
 
     // At the line's end.
-    fn whole(&self) -> Result<&[u8], Fault> {
+    fn whole(&self) -> Result<&[u8], Fault>
+        ensures { IfOk result (λ command. (1 ≤ length command.now) × (length command.now ≤ 80005)) }
+    {
         if self.digits == 0 {
             return Err(Fault::ShortCommand);
         }
@@ -87,7 +89,7 @@ impl Command {
 }
 
 // The number of the line that was read last, and the command in it.
-#[derive(Drop)]
+#[derive(Clone, Copy)]
 pub struct Input {
     pub line: u64,
     chunk: Chunk,
@@ -103,8 +105,10 @@ impl Input {
         }
     }
 
-    // Reads up to the end of a line; the last one may lack it. No run has 2^64 lines.
-    pub fn next_command<R: Read>(&mut self, reader: &mut R) -> Result<Option<&[u8]>, Fault> {
+    // Reads up to the end of a line; the last one may lack it. A command has an opcode. No run has 2^64 lines.
+    pub fn next_command<R: Read>(&mut self, reader: &mut R) -> Result<Option<&[u8]>, Fault>
+        ensures { IfOk result (λ found. IfSome found (λ command. (1 ≤ length command.now) × (length command.now ≤ 80005))) }
+    {
         self.line = self.line.wrapping_add(1);
         self.command.digits = 0;
         for _ in 0..TURNS {

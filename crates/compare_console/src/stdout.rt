@@ -5,7 +5,7 @@ use compare_lines::encode;
 use std::io;
 
 // The next line has room behind what waits.
-#[derive(Drop)]
+#[derive(Clone, Copy)]
 pub struct Output {
     room: [u8; 294912],
     filled: usize,
@@ -27,10 +27,9 @@ impl Output {
         out.write_all(&self.room[..filled])
     }
 
-    // An answer's line.
-    pub fn put_line(&mut self, out: &impl Print, answer: &[u8]) -> io::Result<()>
-        requires { length answer.now ≤ 81920 }
-    {
+    // An answer's line. No answer has more than 81,920 bytes.
+    pub fn put_line(&mut self, out: &impl Print, answer: &[u8]) -> io::Result<()> {
+        let answer = &answer[..answer.len().min(81920)];
         let filled = self.filled + encode(answer, &mut self.room[self.filled..]);
         if filled <= 131071 {
             self.filled = filled;

@@ -3,7 +3,7 @@ ghost use Rattle.std.specs.Prelude.{◌+◌, ◌*◌, ◌≤◌, ◌<◌, length
 ghost use Rattle.memory.specs.Parts.{words_all, bytes_all};
 
 use super::part::{part_of, slot_of};
-use compare_lines::{Fault, Fields, kind_of};
+use compare_lines::{Fault, Fields, known_kind};
 use directory::TableKind;
 use keys::{Key, Keys, ascending, row_put};
 use memory::{Counts, Holder};
@@ -32,7 +32,7 @@ impl Forged {
         let byte = fields.u8()?;
         let length = fields.u16()?;
         fields.end()?;
-        let kind = kind_of(number)?;
+        let kind = known_kind(number)?;
         let mark = match kind {
             TableKind::Value => u64::from(length),
             TableKind::Index | TableKind::RefCount => mask,

@@ -1,4 +1,6 @@
 // What a script says of the tables, and in which form they are handed on.
+ghost use Rattle.std.specs.Prelude.{◌≡◌, ◌≤◌, length, take, min};
+
 use directory::{Directory, TableDescription, TableKind};
 
 // A count may pass the rows: 17 tables are as many as it takes to be too many.
@@ -20,7 +22,10 @@ impl Tables {
     }
 
     // The rows that are lent.
-    pub fn shown(&self) -> &[TableDescription] {
+    pub fn shown(&self) -> &[TableDescription]
+        ensures few { length result.now ≤ 17 }
+        ensures front { result.now ≡ take (min self.now.count 17) self.now.rows }
+    {
         &self.rows[..self.count.min(17)]
     }
 

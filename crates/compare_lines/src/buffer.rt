@@ -1,7 +1,8 @@
 // The front of a room of fixed length.
-ghost use Rattle.std.specs.Prelude.{◌≡◌, ◌≤◌, length, replicate};
+ghost use Rattle.std.specs.Prelude.{◌≡◌, ◌≤◌, length, take, replicate};
+ghost use Rattle.output.specs.Put;
 
-#[derive(Drop)]
+#[derive(Clone, Copy)]
 pub struct Buffer<const N: usize> {
     room: [u8; N],
     held: usize,
@@ -9,7 +10,10 @@ pub struct Buffer<const N: usize> {
 }
 
 impl<const N: usize> Buffer<N> {
-    pub fn new() -> Buffer<N> {
+    pub fn new() -> Buffer<N>
+        ensures held { result.held ≡ 0 }
+        ensures room { result.room ≡ replicate N 0 }
+    {
         Buffer {
             room: [0; N],
             held: 0,
@@ -17,7 +21,8 @@ impl<const N: usize> Buffer<N> {
     }
 
     pub fn bytes(&self) -> &[u8]
-        ensures { length result.now ≤ N }
+        ensures few { length result.now ≤ N }
+        ensures front { result.now ≡ take self.now.held self.now.room }
     {
         &self.room[..self.held]
     }
@@ -32,6 +37,8 @@ impl<const N: usize> Buffer<N> {
     // Holds so many bytes, all of them that one.
     pub fn hold(&mut self, n: usize, byte: u8)
         requires { n ≤ N }
+        ensures held { self.new.held ≡ n }
+        ensures room { self.new.room ≡ Put.put self.old.room 0 (replicate n byte) }
     {
         self.room[..n].fill(byte);
         self.held = n;
@@ -40,6 +47,8 @@ impl<const N: usize> Buffer<N> {
     // Holds a copy of those bytes.
     pub fn hold_copy(&mut self, bytes: &[u8])
         requires { length bytes.now ≤ N }
+        ensures held { self.new.held ≡ length bytes.now }
+        ensures room { self.new.room ≡ Put.put self.old.room 0 bytes.now }
     {
         self.room[..bytes.len()].copy_from_slice(bytes);
         self.held = bytes.len();

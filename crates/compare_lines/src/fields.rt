@@ -1,5 +1,6 @@
 // The fields of a command, taken one after the other.
 ghost use Rattle.std.specs.Prelude.{◌≡◌, ◌≤◌, ◌<◌, length, take, drop, IfOk, MatchResult};
+ghost use Rattle.compare_lines.specs.Fields.{Took, TookNumber, TookFlag, Cut};
 
 use super::fault::Fault;
 
@@ -9,7 +10,9 @@ pub struct Fields<'a> {
 }
 
 impl<'a> Fields<'a> {
-    pub fn of(command: &'a [u8]) -> Fields<'a> {
+    pub fn of(command: &'a [u8]) -> Fields<'a>
+        ensures { result.rest.now ≡ command.now }
+    {
         Fields { rest: command }
     }
 
@@ -24,7 +27,9 @@ impl<'a> Fields<'a> {
         Ok(bytes)
     }
 
-    fn array<const N: usize>(&mut self) -> Result<[u8; N], Fault> {
+    fn array<const N: usize>(&mut self) -> Result<[u8; N], Fault>
+        ensures { MatchResult result (λ bytes. Took N self.old.rest.now bytes self.new.rest.now) (λ fault. Cut N self.old.rest.now fault) }
+    {
         let Some((bytes, rest)) = self.rest.split_first_chunk::<N>() else {
             return Err(Fault::ShortCommand);
         };
@@ -32,24 +37,35 @@ impl<'a> Fields<'a> {
         Ok(*bytes)
     }
 
-    pub fn u8(&mut self) -> Result<u8, Fault> {
+    pub fn u8(&mut self) -> Result<u8, Fault>
+        ensures { MatchResult result (λ number. TookNumber 1 self.old.rest.now number self.new.rest.now) (λ fault. Cut 1 self.old.rest.now fault) }
+    {
         let [byte] = self.array::<1>()?;
         Ok(byte)
     }
 
-    pub fn u16(&mut self) -> Result<u16, Fault> {
+    pub fn u16(&mut self) -> Result<u16, Fault>
+        ensures { MatchResult result (λ number. TookNumber 2 self.old.rest.now number self.new.rest.now) (λ fault. Cut 2 self.old.rest.now fault) }
+    {
         Ok(u16::from_le_bytes(self.array()?))
     }
 
-    pub fn u32(&mut self) -> Result<u32, Fault> {
+    pub fn u32(&mut self) -> Result<u32, Fault>
+        ensures { MatchResult result (λ number. TookNumber 4 self.old.rest.now number self.new.rest.now) (λ fault. Cut 4 self.old.rest.now fault) }
+    {
         Ok(u32::from_le_bytes(self.array()?))
     }
 
-    pub fn u64(&mut self) -> Result<u64, Fault> {
+    pub fn u64(&mut self) -> Result<u64, Fault>
+        ensures { MatchResult result (λ number. TookNumber 8 self.old.rest.now number self.new.rest.now) (λ fault. Cut 8 self.old.rest.now fault) }
+    {
         Ok(u64::from_le_bytes(self.array()?))
     }
 
-    pub fn flag(&mut self) -> Result<bool, Fault> {
+    // All but 0 is a set flag.
+    pub fn flag(&mut self) -> Result<bool, Fault>
+        ensures { MatchResult result (λ set. TookFlag self.old.rest.now set self.new.rest.now) (λ fault. Cut 1 self.old.rest.now fault) }
+    {
         Ok(self.u8()? != 0)
     }
 

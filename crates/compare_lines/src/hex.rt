@@ -14,7 +14,11 @@ pub fn value_of(character: u8) -> Option<u8>
 fn digit_of(value: u8) -> u8
     requires { value < 16 }
 {
-    b"0123456789abcdef"[usize::from(value)]
+    if value < 10 {
+        b'0' + value
+    } else {
+        b'a' - 10 + value
+    }
 }
 
 // Puts the digits of an answer, and a line's end, to the front of the output. Answers how many characters they are.

@@ -13,6 +13,6 @@ pub use buffer::Buffer;
 pub use fault::Fault;
 pub use fields::Fields;
 pub use hex::{encode, value_of};
-pub use kind::kind_of;
+pub use kind::{kind_of, known_kind};
 pub use line::Line;
 pub use place::refused_at;

@@ -11,7 +11,9 @@ pub struct Line {
 }
 
 impl Line {
-    pub fn new() -> Line {
+    pub fn new() -> Line
+        ensures { result.held ≡ 0 }
+    {
         Line {
             room: [0; 81920],
             held: 0,
@@ -73,18 +75,21 @@ impl Line {
     }
 
     // What an opcode is answered that isn't known.
-    pub fn unknown(&mut self) {
+    pub fn unknown(&mut self)
+        ensures { self.new.held ≡ 1 }
+    {
         self.held = 0;
         self.put(255, 1);
     }
 
-    // Puts a list: how many numbers, then each in 4 bytes.
+    // Puts a list: how many numbers, then each in 4 bytes. No list has more than 80.
     pub fn put_nums(&mut self, numbers: &[u64])
-        requires { (self.old.held + 322 ≤ 81920) × (length numbers.now ≤ 80) }
+        requires { self.old.held + 322 ≤ 81920 }
         ensures { self.new.held ≤ self.old.held + 322 }
     {
-        self.put(numbers.len() as u64, 2);
-        for number in numbers {
+        let n = numbers.len().min(80);
+        self.put(n as u64, 2);
+        for number in &numbers[..n] {
             self.put(*number, 4);
         }
     }

@@ -3,7 +3,7 @@ use super::list::List;
 use answer::Answer;
 use change::Drops;
 use compare_keys::{Forged, append};
-use compare_lines::{Fault, Fields, Line, kind_of};
+use compare_lines::{Fault, Fields, Line, known_kind};
 use directory::TableKind;
 use memory::Holder;
 
@@ -29,7 +29,7 @@ pub fn forge_drop(list: &mut List, mut fields: Fields, line: &mut Line) -> Resul
     let kind = fields.u8()?;
     let number = fields.u16()?;
     fields.end()?;
-    match kind_of(kind)? {
+    match known_kind(kind)? {
         TableKind::RefCount => push(&mut list.list.dropped_ref_count_tables, number),
         TableKind::Index | TableKind::Value => push(&mut list.list.dropped_tables, number),
     }

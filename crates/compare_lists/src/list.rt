@@ -1,7 +1,7 @@
 // What these commands keep: a list, with its memories of words and of bytes.
 use change::LogChange;
 
-#[derive(Drop)]
+#[derive(Clone, Copy)]
 pub struct List {
     pub list: LogChange,
     pub words: [u64; 400],

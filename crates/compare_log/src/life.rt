@@ -3,7 +3,7 @@ use compare_lists::List;
 use compare_overlays::Overlays;
 use files::Queues;
 
-#[derive(Drop)]
+#[derive(Clone, Copy)]
 pub struct Life {
     pub list: List,
     pub queues: Queues,

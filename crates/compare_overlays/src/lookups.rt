@@ -1,7 +1,7 @@
 // LOOKUP and VALUE_INTO: the bytes stored for a key, and a value copied to a destination.
 use super::overlays::Overlays;
 use answer::Answer;
-use compare_lines::{Buffer, Fault, Fields, Line, kind_of};
+use compare_lines::{Buffer, Fault, Fields, Line, known_kind};
 use compare_lists::List;
 use directory::{IndexTableId, RefCountTableId, TableKind, ValueTableId};
 use memory::Holder;
@@ -51,7 +51,7 @@ pub fn lookup(
     let table = fields.u16()?;
     let index = fields.u64()?;
     fields.end()?;
-    let kind = kind_of(kind)?;
+    let kind = known_kind(kind)?;
     let listed = lent(list, overlays, kind);
     if with_list {
         put_stored(line, look(&listed, kind, table, index));

@@ -4,7 +4,7 @@ use compare_keys::{Forged, append, put_keys};
 use compare_lines::{Fault, Fields, Line};
 use memory::{Holder, LogOverlays};
 
-#[derive(Drop)]
+#[derive(Clone, Copy)]
 pub struct Overlays {
     pub overlays: LogOverlays,
     pub words: [u64; 3840],

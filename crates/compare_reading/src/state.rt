@@ -3,7 +3,7 @@ use compare_lent::Tables;
 use compare_lines::Buffer;
 use record::LogReader;
 
-#[derive(Drop)]
+#[derive(Clone, Copy)]
 pub struct Reading {
     pub tables: Tables,
     pub reader: LogReader,

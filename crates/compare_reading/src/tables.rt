@@ -1,12 +1,12 @@
 // DIR: the directory. LENT, an opcode beside those of the run protocol (docs/ORACLE.md): the form in which it is handed on.
 use super::state::Reading;
 use answer::Answer;
-use compare_lines::{Fault, Fields, Line, kind_of};
+use compare_lines::{Fault, Fields, Line, known_kind};
 use directory::TableDescription;
 
 // The description of a table, 8 bytes.
 fn description(fields: &mut Fields) -> Result<TableDescription, Fault> {
-    let kind = kind_of(fields.u8()?)?;
+    let kind = known_kind(fields.u8()?)?;
     let number = fields.u16()?;
     let column = fields.u8()?;
     let count = fields.u16()?;

@@ -5,7 +5,7 @@ use compare_log::Life;
 use compare_reading::Reading;
 use directory::Directory;
 
-#[derive(Drop)]
+#[derive(Clone, Copy)]
 pub struct Session {
     reading: Reading,
     life: Life,
