@@ -13,7 +13,7 @@ const LENGTH: usize = 201;
 const IMAGE: usize = 43520;
 
 fn tables() -> Directory {
-    match directory_text::directory_of(b"index 3 0 64\nvalue 7 1 128 20\nrefcount 2 0 8\n") {
+    match directory_text::parse(b"index 3 0 64\nvalue 7 1 128 20\nrefcount 2 0 8\n") {
         Ok(parsed) => parsed.directory,
         Err(broken) => broken.directory,
     }

@@ -9,6 +9,7 @@ use Rattle.directory_text.specs.Scan.{text_lines}
 use Rattle.directory_text.specs.Line.{line_in}
 use Rattle.directory_text.specs.declared.fault.Fault.{Fault}
 use Rattle.directory_text.specs.declared.fault.Fault.TheVariants as fault
+use Rattle.directory_text.specs.declared.text.LineFault.{LineFault}
 use Rattle.directory_text.specs.declared.text.Parsed.{Parsed}
 use Rattle.directory_text.specs.declared.text.Broken.{Broken}
 
@@ -37,25 +38,50 @@ of_line d (Err f) = Err f
 unfoldable pub with_line : Directory → List ℕ → Result Directory Fault
 with_line d bs = of_line d (line_in bs)
 
+-- a fault in line n
+abbrev pub in_line : ℕ → Fault → LineFault
+in_line n f = record { line = n; fault = f }
+
+-- what comes of the directory behind line n
+abbrev pub behind_line : ℕ → Result Directory Fault → (Directory → Result Directory LineFault) → Result Directory LineFault
+behind_line n (Ok d) go = go d
+behind_line n (Err f) go = Err (in_line n f)
+
+-- the lines behind line n, up to the first fault
+unfoldable pub from_lines : ℕ → Directory → List (List ℕ) → Result Directory LineFault
+from_lines n d [] = Ok d
+from_lines n d (l ∷ ls) = behind_line (n + 1) (with_line d l) (λ e. from_lines (n + 1) e ls)
+
+-- the whole text: its directory, or its first fault and the number of that line, from 1 on
+unfoldable pub parsed : List ℕ → Result Directory LineFault
+parsed text = from_lines 0 no_tables (text_lines text)
+
+-- ---- the same with how far the text was read, and what it had come to there
+
 -- a text of n lines
 abbrev pub after-line : ℕ → Directory → Parsed
 after-line n d = record { directory = d; line = n }
 
 -- a fault in line n, behind the tables of the lines before
-abbrev pub in_line : ℕ → Directory → Fault → Broken
-in_line n d f = record { directory = d; at = record { line = n; fault = f } }
+abbrev pub broken_in : ℕ → Directory → Fault → Broken
+broken_in n d f = record { directory = d; at = record { line = n; fault = f } }
 
 -- what comes of the directory behind line n; d is that of the lines before
-abbrev pub behind_line : ℕ → Directory → Result Directory Fault → (Directory → Result Parsed Broken) → Result Parsed Broken
-behind_line n d (Ok e) go = go e
-behind_line n d (Err f) go = Err (in_line n d f)
+abbrev pub parse_behind : ℕ → Directory → Result Directory Fault → (Directory → Result Parsed Broken) → Result Parsed Broken
+parse_behind n d (Ok e) go = go e
+parse_behind n d (Err f) go = Err (broken_in n d f)
 
 -- the lines behind line n, up to the first fault
-unfoldable pub from_lines : ℕ → Directory → List (List ℕ) → Result Parsed Broken
-from_lines n d [] = Ok (after-line n d)
-from_lines n d (l ∷ ls) = behind_line (n + 1) d (with_line d l) (λ e. from_lines (n + 1) e ls)
+unfoldable pub parse_lines : ℕ → Directory → List (List ℕ) → Result Parsed Broken
+parse_lines n d [] = Ok (after-line n d)
+parse_lines n d (l ∷ ls) = parse_behind (n + 1) d (with_line d l) (λ e. parse_lines (n + 1) e ls)
 
 -- the whole text: its directory with the number of its lines, or its first fault, the number of that line, from 1 on, and the directory of
 -- the lines before
-unfoldable pub parsed : List ℕ → Result Parsed Broken
-parsed text = from_lines 0 no_tables (text_lines text)
+unfoldable pub parse : List ℕ → Result Parsed Broken
+parse text = parse_lines 0 no_tables (text_lines text)
+
+-- what the first way of reading says of it: the directory alone, or the fault in its line
+abbrev pub plain : Result Parsed Broken → Result Directory LineFault
+plain (Ok p) = Ok p.directory
+plain (Err b) = Err b.at

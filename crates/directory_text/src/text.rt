@@ -1,6 +1,6 @@
 // The whole text, line by line, up to the first fault.
 ghost use Rattle.std.specs.Prelude.{◌≡◌};
-ghost use Rattle.directory_text.specs.Text.{with_table, with_line, parsed};
+ghost use Rattle.directory_text.specs.Text.{with_table, with_line, parsed, parse};
 
 use super::fault::Fault;
 use super::line::line_of;
@@ -57,8 +57,9 @@ fn with_line(directory: Directory, line: &[u8]) -> Result<Directory, Fault>
     }
 }
 
-pub fn directory_of(text: &[u8]) -> Result<Parsed, Broken>
-    ensures { result ≡ parsed text.now }
+// The directory and how many lines the text has; or its first fault, behind the tables of the lines before.
+pub fn parse(text: &[u8]) -> Result<Parsed, Broken>
+    ensures { result ≡ parse text.now }
 {
     let mut directory = Directory::new();
     let mut line = 0;
@@ -76,4 +77,15 @@ pub fn directory_of(text: &[u8]) -> Result<Parsed, Broken>
         rest = behind_one(behind);
     }
     Ok(Parsed { directory, line })
+}
+
+// The directory alone, or the first fault.
+#[tactic(auto, using(crate::proofs::Lines::same_text))]
+pub fn directory_of(text: &[u8]) -> Result<Directory, LineFault>
+    ensures { result ≡ parsed text.now }
+{
+    match parse(text) {
+        Ok(parsed) => Ok(parsed.directory),
+        Err(broken) => Err(broken.at),
+    }
 }

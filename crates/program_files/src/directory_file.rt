@@ -6,7 +6,7 @@ use super::fault::tell_fault;
 use super::message::{Teller, Told};
 use super::opening::open_told;
 use directory::Directory;
-use directory_text::directory_of;
+use directory_text::parse;
 use log_input::fill;
 use std::rt::Files;
 
@@ -16,7 +16,7 @@ pub const TEXT_ROOM: usize = 65537;
 fn read_text<P: Print>(teller: &Teller<P>, path: &[u8], text: &[u8]) -> Result<Directory, Told>
     ensures { IfOk result (λ directory. directory_kept directory ≡ true) }
 {
-    let directory = directory_of(text)
+    let directory = parse(text)
         .map_err(|broken| tell_fault(teller, path, broken.at))?
         .directory;
     if !directory.kept() {
