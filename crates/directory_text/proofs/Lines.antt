@@ -10,7 +10,7 @@ use Rattle.directory.specs.Directory.{no_tables}
 use Rattle.directory.specs.declared.directory.Directory.{Directory}
 use Rattle.directory_text.specs.Scan.{is_blank, is_before, front, behind, word_of, behind_word, is_none, text_lines}
 use Rattle.directory_text.specs.Line.{number_in, length_in, table_in, kind_of, of_kind, code_in, line_in}
-use Rattle.directory_text.specs.Text.{with_line, in_line, behind_line, from_lines, parsed, after-line, broken_in, parse_behind, parse_lines, parse, plain}
+use Rattle.directory_text.specs.Text.{with_line, in_line, behind_line, from_lines, parsed, after-line, broken_in, parse_behind, parse_lines, parse, directory_alone}
 use Rattle.directory_text.specs.declared.fault.Fault.{Fault}
 use Rattle.directory_text.specs.declared.fault.Fault.TheVariants as fault
 use Rattle.directory_text.specs.declared.text.LineFault.{LineFault}
@@ -62,15 +62,15 @@ parse_end n d text h = rw (no_line text h) refl
 -- ---- both ways of reading come to the same directory, or to the same fault
 
 behind-same : (n : ℕ) (d : Directory) (r : Result Directory Fault) (goes : Directory → Result Directory LineFault) (parses : Directory → Result Parsed Broken)
-    → ((e : Directory) → goes e ≡ plain (parses e)) → behind_line n r goes ≡ plain (parse_behind n d r parses)
+    → ((e : Directory) → goes e ≡ directory_alone (parses e)) → behind_line n r goes ≡ directory_alone (parse_behind n d r parses)
 behind-same n d (Ok e) goes parses same = same e
 behind-same n d (Err f) goes parses same = refl
 
-pub same_lines : (n : ℕ) (d : Directory) (ls : List (List ℕ)) → from_lines n d ls ≡ plain (parse_lines n d ls)
+pub same_lines : (n : ℕ) (d : Directory) (ls : List (List ℕ)) → from_lines n d ls ≡ directory_alone (parse_lines n d ls)
 unfolding from_lines parse_lines
 same_lines n d [] = refl
 same_lines n d (l ∷ ls) = behind-same (n + 1) d (with_line d l) _ _ (λ e. same_lines (n + 1) e ls)
 
-pub same_text : (text : List ℕ) → parsed text ≡ plain (parse text)
+pub same_text : (text : List ℕ) → parsed text ≡ directory_alone (parse text)
 unfolding parsed parse
 same_text text = same_lines 0 no_tables (text_lines text)

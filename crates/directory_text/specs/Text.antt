@@ -81,7 +81,7 @@ parse_lines n d (l ∷ ls) = parse_behind (n + 1) d (with_line d l) (λ e. parse
 unfoldable pub parse : List ℕ → Result Parsed Broken
 parse text = parse_lines 0 no_tables (text_lines text)
 
--- what the first way of reading says of it: the directory alone, or the fault in its line
-abbrev pub plain : Result Parsed Broken → Result Directory LineFault
-plain (Ok p) = Ok p.directory
-plain (Err b) = Err b.at
+-- of that, what `parsed` says: the directory alone, or the fault in its line
+abbrev pub directory_alone : Result Parsed Broken → Result Directory LineFault
+directory_alone (Ok p) = Ok p.directory
+directory_alone (Err b) = Err b.at
